@@ -1,0 +1,71 @@
+-- A loop that fills a list from the front, an element or a part a turn. Assumes nothing.
+use mathlib.Core.Path.{_≡_, sym, ap, _∙_}
+use mathlib.Core.List.{List, _++_}
+use Prim.Native.Nat.{ℕ, _+_, _-_, _<_, _≤_}
+use native.Mathlib.Nat.{not-suc-le-zero}
+use native.Mathlib.Decide.{decLt}
+use native.Mathlib.Omega.{arith}
+use borrow.Author.Count.{below-more}
+use lib.ListN.{length, getD, set, take, drop, length-set, length-append, length-drop, List·getD-append}
+use lib.Seq.{getD-set-same, getD-set-other, length-take-le, getD-take, getD-append-add}
+use Rattle.laws.specs.Tabulate.{tabulate}
+use Rattle.laws.proofs.Tabulate.{is-tabulate}
+
+-- l has n elements, of which the first i are f's; d is what `getD` gives past the end
+pub record Upto {A : Type 0} (d : A) (f : ℕ → A) (n i : ℕ) (l : List A) : Type 0 where
+  pub within : i ≤ n
+  pub size : length l ≡ n
+  pub below : (k : ℕ) → k < i → getD l k d ≡ f k
+
+module _ {A : Type 0} {d : A} {f : ℕ → A} {n : ℕ} where
+  pub upto-none : {l : List A} → length l ≡ n → Upto d f n 0 l
+  upto-none size = record { within = omega arith; size = size; below = λ k h. absurd (not-suc-le-zero h) }
+
+  -- one element more
+  pub upto-more : {i : ℕ} {l : List A} {v : A} → i < n → v ≡ f i → Upto d f n i l → Upto d f n (i + 1) (set l i v)
+  upto-more {i} {l} {v} h e u =
+      record {
+        within = omega arith;
+        size = length-set l i v ∙ u .size;
+        below =
+            below-more (λ k. getD (set l i v) k d ≡ f k) i
+            (λ k lt. getD-set-other l i k v d (λ q. omega (arith, q)) ∙ u .below k lt)
+            (getD-set-same l i v d (omega (arith, u .size)) ∙ e);
+      }
+
+  -- one part more: p, of m elements, stands at a, as a call on `&mut l[a..a + m]` leaves it
+  pub upto-part : {a i : ℕ} {l : List A} (m : ℕ) (p : List A) → i ≡ a + m → i ≤ n → length p ≡ m → ((k : ℕ) → k < m → getD p k d ≡ f (a + k)) → Upto d f n a l
+      → Upto d f n i (take a l ++ (p ++ drop m (drop a l)))
+  upto-part {a} {i} {l} m p e h s g u = record { within = h; size = len; below = at }
+    where
+      front : length (take a l) ≡ a
+      front = length-take-le a l (omega (arith, u .size))
+
+      len : length (take a l ++ (p ++ drop m (drop a l))) ≡ n
+      len =
+          omega (
+            arith,
+            length-append (take a l) (p ++ drop m (drop a l)),
+            length-append p (drop m (drop a l)),
+            length-drop m (drop a l),
+            length-drop a l,
+            front,
+            u .size,
+          )
+
+      at : (k : ℕ) → k < i → getD (take a l ++ (p ++ drop m (drop a l))) k d ≡ f k
+      at k lt =
+          elim (decLt k a) [
+            | yes b ↦ List·getD-append (take a l) (p ++ drop m (drop a l)) d k (omega (arith, front)) ∙ getD-take a l k d b ∙ u .below k b
+            | no b ↦
+                let q : k ≡ length (take a l) + (k - a) = omega (arith, front) in
+                let r : a + (k - a) ≡ k = omega arith in
+                ap (λ (j : ℕ). getD (take a l ++ (p ++ drop m (drop a l))) j d) q
+                ∙ getD-append-add (take a l) (p ++ drop m (drop a l)) (k - a) d
+                ∙ List·getD-append p (drop m (drop a l)) d (k - a) (omega arith)
+                ∙ g (k - a) (omega arith)
+                ∙ ap f r
+          ]
+
+  pub upto-all : {i : ℕ} {l : List A} → n ≤ i → Upto d f n i l → l ≡ tabulate n f
+  upto-all {i} {l} h u = is-tabulate d n f l (u .size) (λ k lt. u .below k (omega arith))

@@ -1,0 +1,8 @@
+-- The laws, a file for each subject.
+pub mod Finite
+pub mod Tabulate
+pub mod Fill
+pub mod Scatter
+pub mod First
+pub mod Bytes
+pub mod Xor

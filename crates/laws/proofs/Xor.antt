@@ -1,0 +1,70 @@
+-- Exclusive or, beyond what lib.Bits has: it is associative, and a form of it that computes on words. Assumes nothing.
+use mathlib.Core.Path.{_≡_, refl, sym, ap, ap₂, _∙_}
+use Prim.Native.Nat.{ℕ, zero, suc, _+_, _*_, _/_, _%_, _^_, _<_}
+use native.Mathlib.Nat.{mod-lt, zero-lt-suc, zero-mul, one-mul, pow-suc}
+use native.Mathlib.Omega.{arith}
+use lib.Arith.{bin-ind}
+use lib.Dec.{eqb, eqb→eq, ltb, ltb→lt}
+use lib.Bits.{bitXor, differ, xor-step, xor-shr, xor-zero-l, xor-zero-r, xor-comm, xor-self}
+use Rattle.laws.proofs.Finite.{all, all₂, all₃, all₂-at, all₃-at}
+
+-- ---- single bits
+
+differ-lt : (x y : ℕ) → x < 2 → y < 2 → differ x y < 2
+unfolding all all₂
+differ-lt x y hx hy = ltb→lt _ _ (all₂-at 2 2 (λ x y. ltb (differ x y) 2) tt x y hx hy)
+
+differ-assoc : (x y z : ℕ) → x < 2 → y < 2 → z < 2 → differ (differ x y) z ≡ differ x (differ y z)
+unfolding all all₂ all₃
+differ-assoc x y z hx hy hz = eqb→eq _ _ (all₃-at 2 2 2 (λ x y z. eqb (differ (differ x y) z) (differ x (differ y z))) tt x y z hx hy hz)
+
+odd : (a : ℕ) → a % 2 < 2
+odd a = mod-lt a (zero-lt-suc 1)
+
+-- a bit times a number
+pub bit-times : (x y b : ℕ) → x < 2 → y < 2 → differ x y * b ≡ bitXor (x * b) (y * b)
+bit-times zero y b hx hy = sym (ap (λ (z : ℕ). bitXor z (y * b)) (zero-mul b))
+bit-times (suc zero) zero b hx hy = sym (ap (bitXor (1 * b)) (zero-mul b) ∙ xor-zero-r (1 * b))
+bit-times (suc zero) (suc zero) b hx hy = zero-mul b ∙ sym (xor-self (1 * b))
+bit-times (suc zero) (suc (suc y)) b hx hy = absurd (omega arith)
+bit-times (suc (suc x)) y b hx hy = absurd (omega arith)
+
+-- ---- numbers
+
+pub xor-half : (a b : ℕ) → bitXor a b / 2 ≡ bitXor (a / 2) (b / 2)
+xor-half a b = xor-shr a b 1
+
+pub xor-odd : (a b : ℕ) → bitXor a b % 2 ≡ differ (a % 2) (b % 2)
+xor-odd a b = omega (arith, xor-step a b, differ-lt (a % 2) (b % 2) (odd a) (odd b))
+
+pub xor-assoc : (a b c : ℕ) → bitXor (bitXor a b) c ≡ bitXor a (bitXor b c)
+xor-assoc =
+    bin-ind (λ (a : ℕ). (b c : ℕ) → bitXor (bitXor a b) c ≡ bitXor a (bitXor b c)) (λ b c. refl)
+    (λ a half b c.
+    xor-step (bitXor a b) c
+    ∙ ap₂ (λ (x y : ℕ). x * 2 + y)
+    (ap (λ (x : ℕ). bitXor x (c / 2)) (xor-half a b) ∙ half (b / 2) (c / 2) ∙ ap (bitXor (a / 2)) (sym (xor-half b c)))
+    (ap (λ (x : ℕ). differ x (c % 2)) (xor-odd a b)
+    ∙ differ-assoc (a % 2) (b % 2) (c % 2) (odd a) (odd b) (odd c)
+    ∙ ap (differ (a % 2)) (sym (xor-odd b c)))
+    ∙ sym (xor-step a (bitXor b c)))
+
+-- twice the same number has no effect
+pub xor-cancel : (a b : ℕ) → bitXor (bitXor a b) b ≡ a
+xor-cancel a b = xor-assoc a b b ∙ ap (bitXor a) (xor-self b) ∙ xor-zero-r a
+
+-- ---- a form that computes: `bitXor` takes as many steps as its first argument is large, this one k
+
+unfoldable pub xorN : ℕ → ℕ → ℕ → ℕ
+xorN zero a b = zero
+xorN (suc k) a b = xorN k (a / 2) (b / 2) * 2 + differ (a % 2) (b % 2)
+
+pub xor-is : (k a b : ℕ) → a < 2 ^ k → b < 2 ^ k → bitXor a b ≡ xorN k a b
+unfolding xorN
+xor-is zero a b ha hb =
+    let a0 : a ≡ 0 = omega arith in
+    let b0 : b ≡ 0 = omega arith in
+    ap (λ (x : ℕ). bitXor x b) a0 ∙ xor-zero-l b ∙ b0
+xor-is (suc k) a b ha hb =
+    xor-step a b
+    ∙ ap (λ (x : ℕ). x * 2 + differ (a % 2) (b % 2)) (xor-is k (a / 2) (b / 2) (omega (arith, pow-suc 2 k)) (omega (arith, pow-suc 2 k)))

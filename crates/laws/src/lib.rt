@@ -1,0 +1,1 @@
+// Definitions and laws on lists and numbers that the other crates cite. No code.
