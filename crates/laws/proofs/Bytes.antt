@@ -1,11 +1,10 @@
 -- Laws of lists of bytes. Assumes nothing.
-use mathlib.Core.Path.{_≡_, sym, subst}
 use mathlib.Core.List.{List, [], _∷_, _++_}
 use Prim.Native.Nat.{ℕ, zero, suc, _+_, _<_}
 use native.Mathlib.Decide.{decLt}
 use native.Mathlib.Omega.{arith}
-use lib.ListN.{length, getD, take, drop, length-take, List·getD-eq-default}
-use lib.Seq.{getD-take, getD-drop, take-nil}
+use lib.ListN.{take, drop, List·getD-eq-default}
+use lib.Seq.{getD-drop}
 use Rattle.laws.specs.Bytes.{Bytes}
 use Rattle.laws.specs.Tabulate.{tabulate}
 use Rattle.laws.proofs.Tabulate.{length-tabulate, getD-tabulate}
