@@ -1,0 +1,3 @@
+-- The interleavings as a permutation, and the figures' entries.
+pub mod Interleaving
+pub mod Figures
