@@ -1,0 +1,1 @@
+pub type Block = [[u8; 62]; 24];

@@ -1,0 +1,4 @@
+-- The multiplexing both ways.
+pub mod Multiplex
+pub mod Places
+pub mod Loops

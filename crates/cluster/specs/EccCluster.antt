@@ -1,0 +1,23 @@
+-- The ECC cluster (13.14) of 65,536 user bytes, a PSN and 592 bytes of side data.
+use mathlib.Core.List.{List}
+use Prim.Native.Nat.{ℕ, _*_}
+use lib.ListN.{take, drop}
+use Rattle.sector.specs.DataFrame.{sectorFrame}
+use Rattle.ldc.specs.LdcCluster.{ldcByte}
+use Rattle.bis.specs.BisBlock.{bisBlock}
+use Rattle.cluster.specs.Multiplex.{multiplexed}
+
+-- sector F of 32: 2,048 user bytes
+abbrev pub sectorOf : List ℕ → ℕ → List ℕ
+sectorOf user F = take 2048 (drop (2048 * F) user)
+
+-- scrambled data frame F
+abbrev pub frames : ℕ → List ℕ → ℕ → List ℕ
+frames psn user F = sectorFrame psn (sectorOf user F)
+
+unfoldable pub eccCluster : List ℕ → ℕ → List ℕ → List ℕ
+eccCluster user psn side = multiplexed (ldcByte (frames psn user)) (bisBlock psn side)
+
+-- row n, the bytes of recording frame n
+abbrev pub rowOf : List ℕ → ℕ → List ℕ
+rowOf work n = take 155 (drop (155 * n) work)

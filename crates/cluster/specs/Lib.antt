@@ -1,0 +1,4 @@
+-- The ECC cluster: the LDC cluster and the BIS cluster, multiplexed.
+pub mod Multiplex
+pub mod EccCluster
+pub mod Written
