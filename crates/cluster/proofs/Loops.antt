@@ -1,11 +1,12 @@
 -- A turn of each loop that reads or writes the bytes of a code word. Assumes nothing.
 use mathlib.Core.Path.{_≡_, refl, sym, ap, subst, _∙_}
-use mathlib.Core.List.{List, _++_}
+use mathlib.Core.List.{List, [], _++_}
 use Prim.Native.Nat.{ℕ, _+_, _*_, _-_, _/_, _%_, _<_, _≤_}
 use native.Mathlib.Nat.{not-suc-le-zero}
 use native.Mathlib.Decide.{decLt, ℕ-discrete}
 use native.Mathlib.Omega.{arith}
-use lib.ListN.{length, getD, set, List·getD-append}
+use borrow.Author.Tests.{eq-eqb, ne-eqb, le-leb, lt-leb}
+use lib.ListN.{length, getD, set, take, drop, List·getD-append}
 use lib.Seq.{getD-append-add}
 use Rattle.laws.specs.Scatter.{Scattered}
 use Rattle.laws.specs.Tabulate.{tabulate}
@@ -14,7 +15,8 @@ use Rattle.laws.proofs.Scatter.{scattered-more}
 use Rattle.laws.proofs.Tabulate.{length-tabulate, getD-tabulate, tabulate-ext}
 use Rattle.column.specs.Column.{parity}
 use Rattle.bis.specs.BisCluster.{bisByte}
-use Rattle.cluster.specs.Multiplex.{wordIndex, bisIndex, informationIn, completedIn}
+use Rattle.cluster.specs.Multiplex.{wordIndex, dataIndex, bisIndex, informationIn, completedIn}
+use Rattle.cluster.specs.EccCluster.{shownRow}
 use Rattle.cluster.specs.Written.{ParityPut, AllCompleted}
 use Rattle.cluster.proofs.Multiplex.{bis-index-lt}
 use Rattle.cluster.proofs.Places.{word-index-lt, word-index-inj, bis-index-inj}
@@ -23,6 +25,29 @@ use Rattle.cluster.proofs.Places.{word-index-lt, word-index-inj, bis-in
 pub gather-turn : (work : List ℕ) (word m n i : ℕ) (bytes : List ℕ) → n < m → i ≡ wordIndex word n
     → Upto 0 (λ N. getD work (wordIndex word N) 0) m n bytes → Upto 0 (λ N. getD work (wordIndex word N) 0) m (n + 1) (set bytes n (getD work i 0))
 gather-turn work word m n i bytes h e u = upto-more h (ap (λ (k : ℕ). getD work k 0) e) u
+
+-- no two bytes of the data block stand at one place
+data-index-inj : (p q : ℕ) → p < 65664 → q < 65664 → dataIndex p ≡ dataIndex q → p ≡ q
+data-index-inj p q hp hq e =
+    let same = word-index-inj (p / 216) (p % 216) (q / 216) (q % 216) (omega arith) (omega arith) (omega arith) (omega arith) e in
+    omega (arith, same .0, same .1)
+
+pub data-index-lt : (p : ℕ) → p < 65664 → dataIndex p < 76880
+data-index-lt p h = word-index-lt (p / 216) (p % 216) (omega arith) (omega arith)
+
+-- byte k of data frame F, written to its index i
+pub frame-turn : (work₀ work frame : List ℕ) (F k i : ℕ) → length work₀ ≡ 76880 → F < 32 → k < 2052 → i ≡ dataIndex (2052 * F + k)
+    → Scattered 0 (λ k. dataIndex (2052 * F + k)) (λ k. getD frame k 0) work₀ k work
+    → Scattered 0 (λ k. dataIndex (2052 * F + k)) (λ k. getD frame k 0) work₀ (k + 1) (set work i (getD frame k 0))
+frame-turn work₀ work frame F k i size hF hk e s =
+    subst (λ (n : ℕ). Scattered 0 (λ k. dataIndex (2052 * F + k)) (λ k. getD frame k 0) work₀ (k + 1) (set work n (getD frame k 0))) (sym e)
+    (scattered-more (omega (arith, data-index-lt (2052 * F + k) (omega arith)))
+    (λ q hq r. let same : 2052 * F + q ≡ 2052 * F + k = data-index-inj (2052 * F + q) (2052 * F + k) (omega arith) (omega arith) r in omega arith) refl s)
+
+-- and read at it
+pub frame-read : (work : List ℕ) (F k i : ℕ) (bytes : List ℕ) → k < 2052 → i ≡ dataIndex (2052 * F + k)
+    → Upto 0 (λ k. getD work (dataIndex (2052 * F + k)) 0) 2052 k bytes → Upto 0 (λ k. getD work (dataIndex (2052 * F + k)) 0) 2052 (k + 1) (set bytes k (getD work i 0))
+frame-read work F k i bytes h e u = upto-more h (ap (λ (n : ℕ). getD work n 0) e) u
 
 -- parity byte j, written to its index i
 pub parity-turn : (work₀ work parity : List ℕ) (word j i : ℕ) → length work₀ ≡ 76880 → word < 304 → j < 32 → i ≡ wordIndex word (216 + j)
@@ -122,3 +147,16 @@ bis-turn work₀ work block m x size hm e s =
     let same = bis-index-inj (q / 3) (q % 3) (m / 3) (m % 3) (omega arith) (omega arith) (omega arith) (omega arith) r in
     let again : q ≡ m = omega (arith, same .0, same .1) in
     omega arith) e s
+
+-- ---- the row that is shown
+
+pub row-of-no-cluster : (work : List ℕ) (n : ℕ) → (length work ≡ 76880 → ⊥) → [] ≡ shownRow work n
+row-of-no-cluster work n h = rw (ne-eqb (length work) 76880 h)
+
+pub row-past-the-end : (work : List ℕ) (n : ℕ) → length work ≡ 76880 → 495 < n → [] ≡ shownRow work n
+row-past-the-end work n h past = rw (eq-eqb (length work) 76880 h, lt-leb n 495 past)
+
+pub row-shown : (work : List ℕ) (n : ℕ) → length work ≡ 76880 → n ≤ 495 → take (155 * n + 155 - 155 * n) (drop (155 * n) work) ≡ shownRow work n
+row-shown work n h within =
+    let size : 155 * n + 155 - 155 * n ≡ 155 = omega arith in
+    rw (eq-eqb (length work) 76880 h, le-leb n 495 within, size)

@@ -1,7 +1,9 @@
 -- The ECC cluster (13.14) of 65,536 user bytes, a PSN and 592 bytes of side data.
-use mathlib.Core.List.{List}
+use mathlib.Core.Bool.{cond}
+use mathlib.Core.List.{List, []}
 use Prim.Native.Nat.{ℕ, _*_}
-use lib.ListN.{take, drop}
+use lib.Dec.{eqb, leb}
+use lib.ListN.{length, take, drop}
 use Rattle.sector.specs.DataFrame.{sectorFrame}
 use Rattle.ldc.specs.LdcCluster.{ldcByte}
 use Rattle.bis.specs.BisBlock.{bisBlock}
@@ -21,3 +23,7 @@ eccCluster user psn side = multiplexed (ldcByte (frames psn user)) (bisBlock psn
 -- row n, the bytes of recording frame n
 abbrev pub rowOf : List ℕ → ℕ → List ℕ
 rowOf work n = take 155 (drop (155 * n) work)
+
+-- the row that is shown of a lent slice; document 01: empty for n above 495, or a slice that is not 76,880 long
+abbrev pub shownRow : List ℕ → ℕ → List ℕ
+shownRow work n = cond (eqb (length work) 76880) (cond (leb n 495) (rowOf work n) []) []

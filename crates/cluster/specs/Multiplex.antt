@@ -30,6 +30,10 @@ bisIndex row column = 155 * row + 39 * column + 38
 abbrev pub wordIndex : ℕ → ℕ → ℕ
 wordIndex L N = ldcIndex (placeOf L N .row) (placeOf L N .column)
 
+-- where byte p of the data block, down its columns of 216, stands
+abbrev pub dataIndex : ℕ → ℕ
+dataIndex p = wordIndex (p / 216) (p % 216)
+
 -- the information bytes of LDC code word L, and what they make with their parity
 unfoldable pub informationIn : List ℕ → ℕ → List ℕ
 informationIn work L = tabulate 216 (λ i. getD work (wordIndex L i) 0)

@@ -4,9 +4,11 @@ ghost use Prim.Native.Nat.{_<_, _≤_};
 ghost use lib.ListN.{length, getD};
 ghost use Rattle.laws.specs.Tabulate.{tabulate};
 ghost use Rattle.column.specs.Column.{parity};
+ghost use Rattle.ldc.specs.Places.{frameIn};
 ghost use Rattle.bis.specs.BisCluster.{bisByte};
-ghost use Rattle.cluster.specs.Multiplex.{wordIndex, informationIn};
-ghost use Rattle.cluster.specs.Written.{ParityPut, AllCompleted, BisPut};
+ghost use Rattle.cluster.specs.Multiplex.{wordIndex, dataIndex, informationIn, ldcIn};
+ghost use Rattle.cluster.specs.EccCluster.{shownRow};
+ghost use Rattle.cluster.specs.Written.{FramePut, ParityPut, AllCompleted, BisPut};
 
 // Where byte `byte` of LDC code word `word` stands.
 fn word_index(word: usize, byte: usize) -> usize
@@ -15,6 +17,26 @@ fn word_index(word: usize, byte: usize) -> usize
 {
     let place = ldc::locate(word, byte);
     155 * place.row + place.column + place.column / 38
+}
+
+// Where byte p of the data block stands.
+fn data_index(p: usize) -> usize
+    requires { ⌜ p < 65664 ⌝ }
+    ensures { λ r. ⌜ r ≡ dataIndex p ⌝ }
+{
+    word_index(p / 216, p % 216)
+}
+
+// The bytes of data frame f, to their places.
+fn put_frame(work: &mut [u8], f: usize, frame: &[u8; 2052])
+    requires { ⌜ (length (now work) ≡ 76880) × (f < 32) ⌝ }
+    ensures { λ _. ⌜ FramePut (now (work .entry)) f (now (frame .entry)) (now (work .exit)) ⌝ }
+{
+    let mut k = 0;
+    while k < 2052 {
+        work[data_index(2052 * f + k)] = frame[k];
+        k += 1;
+    }
 }
 
 // The first bytes of a code word, as many as are asked for.
@@ -88,5 +110,32 @@ fn put_bis(work: &mut [u8], block: &bis::Block)
         let column = m % 3;
         work[155 * row + 39 * column + 38] = bis_byte(block, row, column);
         m += 1;
+    }
+}
+
+// Row n as those very bytes of the cluster; empty for n above 495 or a slice that is no cluster.
+pub fn row(work: &[u8], n: usize) -> &[u8]
+    ensures { λ r. ⌜ now r ≡ shownRow (now (work .entry)) n ⌝ }
+{
+    if work.len() != 76880 {
+        return &work[..0];
+    }
+    if 495 < n {
+        return &work[..0];
+    }
+    let start = 155 * n;
+    let end = start + 155;
+    &work[start..end]
+}
+
+// The bytes of data frame f, from their places. For the crates of this repository.
+pub fn frame(work: &[u8], f: usize, bytes: &mut [u8])
+    requires { ⌜ (length (now work) ≡ 76880) × ((f < 32) × (length (now bytes) ≡ 2052)) ⌝ }
+    ensures { λ _. ⌜ now (bytes .exit) ≡ frameIn (ldcIn (now (work .entry))) f ⌝ }
+{
+    let mut k = 0;
+    while k < 2052 {
+        bytes[k] = work[data_index(2052 * f + k)];
+        k += 1;
     }
 }
