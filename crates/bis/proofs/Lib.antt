@@ -1,2 +1,0 @@
--- The two mappings as permutations.
-pub mod Mapping

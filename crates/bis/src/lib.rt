@@ -1,1 +1,0 @@
-pub type Block = [[u8; 62]; 24];

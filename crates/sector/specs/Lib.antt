@@ -1,4 +1,0 @@
--- Sectors: error-detection code, scrambling, data frames.
-pub mod Edc
-pub mod Scrambling
-pub mod DataFrame

@@ -1,1 +1,0 @@
-// Sectors: error-detection code, scrambling, data frames (13.2 to 13.4).
