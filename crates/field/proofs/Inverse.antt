@@ -37,11 +37,11 @@ power-wrap k h = sym (power-period α (omega arith) (omega arith) 1 (k - 255)) �
 
 pub inverse-byte : (a : ℕ) → inverse a < 256
 unfolding inverse
-inverse-byte a = power-byte a 254
+inverse-byte a = power-byte a _
 
 pub inverse-zero : inverse 0 ≡ 0
 unfolding inverse
-inverse-zero = power-zero 254 (λ e. omega (arith, e))
+inverse-zero = power-zero _ (λ e. omega (arith, e))
 
 pub product-byverse : (a : ℕ) → 0 < a → a < 256 → product a (inverse a) ≡ 1
 unfolding inverse power

@@ -12,6 +12,7 @@ ghost use Rattle.field.specs.Field.{sum, product, power, inverse};
 // An element: the byte of its coefficients, that of α^7 in the highest bit.
 pub struct Gf(pub u8);
 
+// A byte as an index or a part of one.
 fn wide(a: u8) -> usize
     ensures { λ r. ⌜ (r ≡ a) × (r < 256) ⌝ }
 {
