@@ -7,7 +7,7 @@ use Rattle.field.proofs.Sum.{sum-assoc, sum-comm, sum-zero, sum-self, s
 use Rattle.field.proofs.Product.{product-byte, product-assoc, product-comm, product-one, product-sum}
 use Rattle.field.proofs.Power.{power-add}
 use Rattle.field.proofs.Logarithm.{log-small, power-log, α-distinct, α-cycle}
-use Rattle.field.proofs.Inverse.{inverse-byte, product-byverse, no-divisor}
+use Rattle.field.proofs.Inverse.{inverse-byte, product-inverse, no-divisor}
 
 -- the laws of a field on the numbers below 256, with zero 0 and one 1; each element is its own negative
 pub record IsField (add mul : ℕ → ℕ → ℕ) (invert : ℕ → ℕ) : Type 0 where
@@ -39,7 +39,7 @@ field =
       mul-one = product-one;
       distributive = product-sum;
       invert-closed = λ a h. inverse-byte a;
-      mul-invert = product-byverse;
+      mul-invert = product-inverse;
       no-zero-divisors = no-divisor;
     }
 

@@ -43,15 +43,15 @@ pub inverse-zero : inverse 0 ≡ 0
 unfolding inverse
 inverse-zero = power-zero _ (λ e. omega (arith, e))
 
-pub product-byverse : (a : ℕ) → 0 < a → a < 256 → product a (inverse a) ≡ 1
+pub product-inverse : (a : ℕ) → 0 < a → a < 256 → product a (inverse a) ≡ 1
 unfolding inverse power
-product-byverse a h below = power-255 a h below
+product-inverse a h below = power-255 a h below
 
 -- what a takes to c, its inverse takes back
 pub product-undo : (a b c : ℕ) → 0 < a → a < 256 → b < 256 → product a b ≡ c → b ≡ product (inverse a) c
 product-undo a b c h ha hb e =
     sym (one-product b hb)
-    ∙ ap (λ (x : ℕ). product x b) (sym (product-byverse a h ha) ∙ product-comm a (inverse a))
+    ∙ ap (λ (x : ℕ). product x b) (sym (product-inverse a h ha) ∙ product-comm a (inverse a))
     ∙ product-assoc (inverse a) a b
     ∙ ap (product (inverse a)) e
 
