@@ -1,0 +1,2 @@
+-- The two mappings as permutations.
+pub mod Mapping
