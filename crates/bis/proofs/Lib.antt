@@ -1,2 +1,4 @@
 -- The two mappings as permutations.
 pub mod Mapping
+pub mod AddressFields
+pub mod Writing
