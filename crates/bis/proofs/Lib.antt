@@ -2,3 +2,4 @@
 pub mod Mapping
 pub mod AddressFields
 pub mod Writing
+pub mod Reading

@@ -16,6 +16,7 @@ use Rattle.address.specs.declared.Judged.{Judged}
 use Rattle.address.specs.declared.Judged.the-variants.{Accepted}
 use Rattle.address.specs.Judged.{judged, ifAccepted}
 use Rattle.address.specs.Conversions.{aunOf, psnToAun}
+use Rattle.bis.proofs.AddressFields.{aun-answered}
 use Rattle.bis.specs.AddressField.{addressField}
 use Rattle.bis.specs.AccessBlock.{fieldOf, addressFields, accessByte, fieldAt, byteAt}
 use Rattle.bis.specs.BisBlock.{codeWord, bisBlock}
@@ -48,17 +49,13 @@ joined-all a b {l} {m} ha hb h upto =
 
 -- ---- an address field
 
--- unit is what is answered of the PSN and address unit y, and field the address field made of it
-pub fields-more : (psn : ℕ) (side : List ℕ) {y : ℕ} {field : List ℕ} {fields : List (List ℕ)} {unit : AunAnswer} → y < 16 → judged psn ≡ Accepted → unit ≡ psnToAun psn y
-    → field ≡ addressField (unit .aun .0) (getD side y 0) → Upto [] (fieldOf psn side) 16 y fields
+-- field is made of the AUN that is answered of the PSN and address unit y
+pub fields-more : (psn : ℕ) (side : List ℕ) {y : ℕ} {field : List ℕ} {fields : List (List ℕ)} {unit : AunAnswer} → y < 16 → judged psn ≡ Accepted
+    → unit ≡ psnToAun psn y → field ≡ addressField (unit .aun .0) (getD side y 0) → Upto [] (fieldOf psn side) 16 y fields
     → Upto [] (fieldOf psn side) 16 (y + 1) (set fields y field)
-unfolding psnToAun fieldOf
-fields-more psn side {y} {field} {fields} {unit} h accepted e f upto =
-    let aun : unit .aun .0 ≡ aunOf psn y =
-    ap (λ (u : AunAnswer). u .aun .0) e
-    ∙ ap (λ (b : Bool). cond b (ifAccepted (judged psn) (aunOf psn y)) 0) (le-leb y 15 (omega arith))
-    ∙ ap (λ (j : Judged). ifAccepted j (aunOf psn y)) accepted in
-    upto-more h (f ∙ ap (λ (a : ℕ). addressField a (getD side y 0)) aun) upto
+unfolding fieldOf
+fields-more psn side {y} h accepted e f upto =
+    upto-more h (f ∙ ap (λ (a : ℕ). addressField a (getD side y 0)) (aun-answered psn y h accepted e)) upto
 
 -- ---- the block, once each of its columns is written
 

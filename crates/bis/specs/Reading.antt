@@ -1,6 +1,6 @@
 -- What is read in a BIS block given by its columns: answers 12, 13 and 14 of document 01, and the side data.
 use mathlib.Core.Path.{_≡_}
-use mathlib.Core.Bool.{Bool, cond, not}
+use mathlib.Core.Bool.{Bool, true, false, cond, not}
 use mathlib.Core.List.{List, []}
 use Prim.Native.Nat.{ℕ, _+_, _-_, _/_, _%_, _<_}
 use lib.Dec.{eqb, ltb}
@@ -10,8 +10,9 @@ use Rattle.laws.specs.Tabulate.{tabulate}
 use Rattle.column.specs.Column.{hasRoots}
 use Rattle.address.specs.declared.Judged.{Judged}
 use Rattle.address.specs.declared.Judged.the-variants.{Accepted, NoMultiple, NoZone}
+use Rattle.address.specs.declared.PsnAnswer.{PsnAnswer}
 use Rattle.address.specs.Judged.{judged}
-use Rattle.address.specs.Conversions.{aunOf}
+use Rattle.address.specs.Conversions.{aunOf, aunToPsn}
 use Rattle.bis.specs.declared.PsnFound.{PsnFound}
 use Rattle.bis.specs.declared.PsnFound.the-variants.{Found, NotFound}
 use Rattle.bis.specs.AddressField.{partlyInverted, aunIn, flagIn}
@@ -19,8 +20,11 @@ use Rattle.bis.specs.AccessBlock.{rowOfAF, columnOfAF}
 
 -- ---- 12: the lowest column without its 32 roots, or 24
 
+unfoldable pub wrongColumn : List (List ℕ) → ℕ → Bool
+wrongColumn block C = not (hasRoots 32 (getD block C []))
+
 unfoldable pub firstWrongColumn : List (List ℕ) → ℕ
-firstWrongColumn block = first 24 (λ C. not (hasRoots 32 (getD block C [])))
+firstWrongColumn block = first 24 (wrongColumn block)
 
 -- ---- 13: the lowest address unit whose primary address field has not its 4 roots, or 16
 
@@ -32,8 +36,11 @@ fieldIn block y = tabulate 9 (λ x. getD (getD block (columnOfAF x y) []) (rowOf
 unfoldable pub primaryIn : List (List ℕ) → ℕ → List ℕ
 primaryIn block y = partlyInverted (fieldIn block y)
 
+unfoldable pub wrongField : List (List ℕ) → ℕ → Bool
+wrongField block y = not (hasRoots 4 (primaryIn block y))
+
 unfoldable pub firstWrongField : List (List ℕ) → ℕ
-firstWrongField block = first 16 (λ y. not (hasRoots 4 (primaryIn block y)))
+firstWrongField block = first 16 (wrongField block)
 
 -- ---- 14: the accepted PSN that has the sixteen AUNs
 
@@ -46,18 +53,25 @@ pub record IsPsnOf (block : List (List ℕ)) (psn : ℕ) : Type 0 where
   pub accepted : judged psn ≡ Accepted
   pub auns : (y : ℕ) → y < 16 → aunAt block y ≡ aunOf psn y
 
+abbrev pub isAccepted : Judged → Bool
+isAccepted Accepted = true
+isAccepted NoMultiple = false
+isAccepted NoZone = false
+
 -- the lowest address unit whose AUN is not that of the PSN, or 16
+unfoldable pub otherUnit : List (List ℕ) → ℕ → ℕ → Bool
+otherUnit block psn y = not (eqb (aunAt block y) (aunOf psn y))
+
 unfoldable pub firstOtherUnit : List (List ℕ) → ℕ → ℕ
-firstOtherUnit block psn = first 16 (λ y. not (eqb (aunAt block y) (aunOf psn y)))
+firstOtherUnit block psn = first 16 (otherUnit block psn)
 
-abbrev pub foundIf : Judged → ℕ → PsnFound
-foundIf Accepted psn = Found (record { 0 = psn })
-foundIf NoMultiple psn = NotFound
-foundIf NoZone psn = NotFound
+-- a PSN, if it is accepted and has the sixteen AUNs
+abbrev pub foundIf : List (List ℕ) → PsnAnswer → PsnFound
+foundIf block answer = cond (isAccepted (answer .judged)) (cond (ltb (firstOtherUnit block (answer .psn .0)) 16) NotFound (Found (answer .psn))) NotFound
 
--- The AUN of unit 0 is the PSN itself, if any PSN has the sixteen.
+-- no other PSN than that of the cluster with unit 0's AUN
 unfoldable pub psnIn : List (List ℕ) → PsnFound
-psnIn block = cond (eqb (firstOtherUnit block (aunAt block 0)) 16) (foundIf (judged (aunAt block 0)) (aunAt block 0)) NotFound
+psnIn block = foundIf block (aunToPsn (aunAt block 0))
 
 -- ---- the side data: 16 flag bytes, then 32 × 18 bytes of user control data, which fill rows 6 to 29 down the columns
 
