@@ -7,3 +7,4 @@ pub mod Register
 pub mod Powers
 pub mod Parity
 pub mod Roots
+pub mod Columns
