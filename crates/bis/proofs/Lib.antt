@@ -3,3 +3,4 @@ pub mod Mapping
 pub mod AddressFields
 pub mod Writing
 pub mod Reading
+pub mod Psn
