@@ -1,0 +1,115 @@
+-- The steps by which the code reads a BIS block. Assumes nothing.
+use mathlib.Core.Path.{_≡_, refl, sym, ap, _∙_}
+use mathlib.Core.Bool.{Bool, true, false, cond, not}
+use mathlib.Core.List.{List, [], _∷_}
+use Prim.Native.Nat.{ℕ, _+_, _*_, _-_, _/_, _%_, _<_, _≤_}
+use native.Mathlib.Omega.{arith}
+use borrow.Author.Tests.{lt-ltb, le-ltb, le-leb, eq-eqb, ne-eqb}
+use lib.Dec.{eqb, ltb}
+use lib.ListN.{length, getD}
+use Rattle.laws.specs.First.{first}
+use Rattle.laws.proofs.First.{Passed, passed-more, first-at, first-none}
+use Rattle.laws.proofs.Fill.{Upto, upto-all}
+use Rattle.column.specs.Column.{hasRoots}
+use Rattle.address.specs.declared.AunAnswer.{AunAnswer}
+use Rattle.address.specs.declared.Judged.{Judged}
+use Rattle.address.specs.declared.Judged.the-variants.{Accepted, NoMultiple, NoZone}
+use Rattle.address.specs.declared.PsnAnswer.{PsnAnswer}
+use Rattle.address.specs.Judged.{judged, ifAccepted}
+use Rattle.address.specs.Conversions.{aunOf, psnToAun, aunToPsn}
+use Rattle.bis.proofs.AddressFields.{aun-answered}
+use Rattle.bis.specs.AddressField.{flagIn}
+use Rattle.bis.specs.Reading.{wrongColumn, primaryIn, wrongField, aunAt, isAccepted, otherUnit, firstOtherUnit, foundIf, psnIn, sideByteIn, sideIn, sideOut}
+use Rattle.bis.specs.declared.PsnFound.the-variants.{Found, NotFound}
+
+-- ---- a search for the lowest index at which a test holds
+
+module _ {p : ℕ → Bool} {n i : ℕ} where
+  pub first-here : i < n → Passed p i → p i ≡ true → i ≡ first n p
+  first-here h passed e = sym (first-at n p i h passed e)
+
+  pub first-past : n ≤ i → Passed p i → n ≡ first n p
+  first-past h passed = sym (first-none n p (record { fails = λ k lt. passed .fails k (omega arith) }))
+
+-- r is what the code finds of the roots
+pub column-judged : (block : List (List ℕ)) (C : ℕ) {r b : Bool} → r ≡ hasRoots 32 (getD block C []) → not r ≡ b → wrongColumn block C ≡ b
+unfolding wrongColumn
+column-judged block C found e = ap not (sym found) ∙ e
+
+pub field-judged : (block : List (List ℕ)) (y : ℕ) {primary : List ℕ} {r b : Bool} → primary ≡ primaryIn block y → r ≡ hasRoots 4 primary → not r ≡ b
+    → wrongField block y ≡ b
+unfolding wrongField
+field-judged block y read found e = ap (λ (l : List ℕ). not (hasRoots 4 l)) (sym read) ∙ ap not (sym found) ∙ e
+
+-- a is the AUN that is read, and unit what is answered of the PSN
+module _ (block : List (List ℕ)) (psn y : ℕ) {a : ℕ} {unit : AunAnswer} (read : a ≡ aunAt block y) (h : y < 16) (accepted : judged psn ≡ Accepted) (answered : unit ≡ psnToAun psn y) where
+  pub unit-differs : (a ≡ unit .aun .0 → ⊥) → otherUnit block psn y ≡ true
+  unfolding otherUnit
+  unit-differs differ = ap not (ne-eqb (aunAt block y) (aunOf psn y) (λ e. differ (read ∙ e ∙ sym (aun-answered psn y h accepted answered))))
+
+  pub unit-agrees : a ≡ unit .aun .0 → otherUnit block psn y ≡ false
+  unfolding otherUnit
+  unit-agrees e = ap not (eq-eqb (aunAt block y) (aunOf psn y) (sym read ∙ e ∙ aun-answered psn y h accepted answered))
+
+-- ---- the PSN
+
+even : (b : Bool) (j : Judged) → cond b j NoMultiple ≡ Accepted → j ≡ Accepted
+even true j e = e
+even false j e = let z : _≡_ {A = ℕ} 0 1 = cc in absurd (omega arith)
+
+-- a PSN that is answered of an AUN, and accepted
+pub answered-accepted : (a : ℕ) {answer : PsnAnswer} → answer ≡ aunToPsn a → answer .judged ≡ Accepted → judged (answer .psn .0) ≡ Accepted
+unfolding aunToPsn
+answered-accepted a {answer} answered e =
+    let j : cond (eqb (a % 2) 0) (judged (a / 32 * 32)) NoMultiple ≡ Accepted = sym (ap (λ (x : PsnAnswer). x .judged) answered) ∙ e in
+    ap (λ (x : PsnAnswer). judged (x .psn .0)) answered
+    ∙ ap (λ (k : Judged). judged (ifAccepted k (a / 32 * 32))) j
+    ∙ even (eqb (a % 2) 0) (judged (a / 32 * 32)) j
+
+-- a is the AUN of unit 0, and answer what is answered of it
+module _ (block : List (List ℕ)) {a : ℕ} {answer : PsnAnswer} (read : a ≡ aunAt block 0) (answered : answer ≡ aunToPsn a) where
+  whole : foundIf block answer ≡ psnIn block
+  unfolding psnIn
+  whole = ap (foundIf block) (answered ∙ ap aunToPsn read)
+
+  refused : (j : Judged) → isAccepted j ≡ false → answer .judged ≡ j → NotFound ≡ psnIn block
+  refused j r e = sym (ap (λ (b : Bool). cond b (cond (ltb (firstOtherUnit block (answer .psn .0)) 16) NotFound (Found (answer .psn))) NotFound) (ap isAccepted e ∙ r)) ∙ whole
+
+  pub psn-no-multiple : answer .judged ≡ NoMultiple → NotFound ≡ psnIn block
+  psn-no-multiple = refused NoMultiple refl
+
+  pub psn-no-zone : answer .judged ≡ NoZone → NotFound ≡ psnIn block
+  psn-no-zone = refused NoZone refl
+
+  module _ {u : ℕ} (e : answer .judged ≡ Accepted) (other : u ≡ firstOtherUnit block (answer .psn .0)) where
+    accepted-by : (b : Bool) → ltb u 16 ≡ b → cond b NotFound (Found (answer .psn)) ≡ psnIn block
+    accepted-by b h =
+        sym (ap (λ (c : Bool). cond c (cond (ltb (firstOtherUnit block (answer .psn .0)) 16) NotFound (Found (answer .psn))) NotFound) (ap isAccepted e)
+        ∙ ap (λ (v : ℕ). cond (ltb v 16) NotFound (Found (answer .psn))) (sym other)
+        ∙ ap (λ (c : Bool). cond c NotFound (Found (answer .psn))) h)
+        ∙ whole
+
+    pub psn-differs : u < 16 → NotFound ≡ psnIn block
+    psn-differs h = accepted-by true (lt-ltb u 16 h)
+
+    pub psn-agrees : 16 ≤ u → Found (answer .psn) ≡ psnIn block
+    psn-agrees h = accepted-by false (le-ltb u 16 h)
+
+-- ---- a byte of the side data
+
+pub flag-byte : (block : List (List ℕ)) (k : ℕ) {primary : List ℕ} → k < 16 → primary ≡ primaryIn block k → getD primary 4 0 ≡ sideByteIn block k
+flag-byte block k h e = rw (lt-ltb k 16 h) (ap flagIn e)
+
+pub control-byte : (block : List (List ℕ)) (k : ℕ) → 16 ≤ k → getD (getD block ((k - 16) / 24) []) (6 + (k - 16) % 24) 0 ≡ sideByteIn block k
+control-byte block k h = rw (le-ltb k 16 h)
+
+-- ---- the lent slice
+
+pub side-left : (block : List (List ℕ)) (lent : List ℕ) → (length lent ≡ 592 → ⊥) → lent ≡ sideOut block lent
+unfolding sideOut
+side-left block lent h = rw (ne-eqb (length lent) 592 h)
+
+pub side-filled : (block : List (List ℕ)) (lent : List ℕ) {k : ℕ} {side : List ℕ} → length lent ≡ 592 → 592 ≤ k → Upto 0 (sideByteIn block) 592 k side
+    → side ≡ sideOut block lent
+unfolding sideOut sideIn
+side-filled block lent size h upto = rw (eq-eqb (length lent) 592 size) (upto-all h upto)
