@@ -2,3 +2,4 @@
 pub mod Multiplex
 pub mod Places
 pub mod Loops
+pub mod Encoding

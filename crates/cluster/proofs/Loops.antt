@@ -27,7 +27,7 @@ pub gather-turn : (work : List ℕ) (word m n i : ℕ) (bytes : List ℕ) → n 
 gather-turn work word m n i bytes h e u = upto-more h (ap (λ (k : ℕ). getD work k 0) e) u
 
 -- no two bytes of the data block stand at one place
-data-index-inj : (p q : ℕ) → p < 65664 → q < 65664 → dataIndex p ≡ dataIndex q → p ≡ q
+pub data-index-inj : (p q : ℕ) → p < 65664 → q < 65664 → dataIndex p ≡ dataIndex q → p ≡ q
 data-index-inj p q hp hq e =
     let same = word-index-inj (p / 216) (p % 216) (q / 216) (q % 216) (omega arith) (omega arith) (omega arith) (omega arith) e in
     omega (arith, same .0, same .1)

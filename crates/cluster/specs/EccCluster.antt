@@ -4,7 +4,8 @@ use mathlib.Core.List.{List, []}
 use Prim.Native.Nat.{ℕ, _*_}
 use lib.Dec.{eqb, leb}
 use lib.ListN.{length, take, drop}
-use Rattle.sector.specs.DataFrame.{sectorFrame}
+use Rattle.sector.specs.DataFrame.{dataFrame}
+use Rattle.sector.specs.Scrambling.{scramblingOf, scrambled}
 use Rattle.ldc.specs.LdcCluster.{ldcByte}
 use Rattle.bis.specs.BisBlock.{bisBlock}
 use Rattle.cluster.specs.Multiplex.{multiplexed}
@@ -13,9 +14,13 @@ use Rattle.cluster.specs.Multiplex.{multiplexed}
 abbrev pub sectorOf : List ℕ → ℕ → List ℕ
 sectorOf user F = take 2048 (drop (2048 * F) user)
 
--- scrambled data frame F
+-- data frame F (13.2, 13.3), scrambled with a stream
+abbrev pub scrambledFrames : List ℕ → List ℕ → ℕ → List ℕ
+scrambledFrames stream user F = scrambled stream (dataFrame (sectorOf user F))
+
+-- and with that of the PSN (13.4)
 abbrev pub frames : ℕ → List ℕ → ℕ → List ℕ
-frames psn user F = sectorFrame psn (sectorOf user F)
+frames psn user = scrambledFrames (scramblingOf psn) user
 
 unfoldable pub eccCluster : List ℕ → ℕ → List ℕ → List ℕ
 eccCluster user psn side = multiplexed (ldcByte (frames psn user)) (bisBlock psn side)

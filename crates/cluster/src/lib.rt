@@ -1,14 +1,17 @@
 // 13.14: the ECC cluster in a lent slice of 76,880 bytes.
+use address::Psn;
 ghost use mathlib.Core.Path.{_≡_};
 ghost use Prim.Native.Nat.{_<_, _≤_};
 ghost use lib.ListN.{length, getD};
 ghost use Rattle.laws.specs.Tabulate.{tabulate};
 ghost use Rattle.column.specs.Column.{parity};
+ghost use Rattle.address.specs.declared.Judged.the-variants.{Accepted};
+ghost use Rattle.address.specs.Judged.{judged};
 ghost use Rattle.ldc.specs.Places.{frameIn};
 ghost use Rattle.bis.specs.BisCluster.{bisByte};
 ghost use Rattle.cluster.specs.Multiplex.{wordIndex, dataIndex, informationIn, ldcIn};
-ghost use Rattle.cluster.specs.EccCluster.{shownRow};
-ghost use Rattle.cluster.specs.Written.{FramePut, ParityPut, AllCompleted, BisPut};
+ghost use Rattle.cluster.specs.EccCluster.{shownRow, eccCluster};
+ghost use Rattle.cluster.specs.Written.{DataPut, FramePut, ParityPut, AllCompleted, BisPut};
 
 // Where byte `byte` of LDC code word `word` stands.
 fn word_index(word: usize, byte: usize) -> usize
@@ -25,6 +28,12 @@ fn data_index(p: usize) -> usize
     ensures { λ r. ⌜ r ≡ dataIndex p ⌝ }
 {
     word_index(p / 216, p % 216)
+}
+
+fn zero_frame() -> [u8; 2052]
+    ensures { λ r. ⌜ length r ≡ 2052 ⌝ }
+{
+    [0u8; 2052]
 }
 
 // The bytes of data frame f, to their places.
@@ -111,6 +120,36 @@ fn put_bis(work: &mut [u8], block: &bis::Block)
         work[155 * row + 39 * column + 38] = bis_byte(block, row, column);
         m += 1;
     }
+}
+
+// The 32 scrambled data frames, to their places.
+fn put_data(user: &[u8], stream: &[u8], work: &mut [u8])
+    requires { ⌜ (length (now user) ≡ 65536) × (length (now work) ≡ 76880) ⌝ }
+    ensures { λ _. ⌜ DataPut (now (user .entry)) (now (stream .entry)) (now (work .entry)) (now (work .exit)) ⌝ }
+{
+    let mut frame = zero_frame();
+    let mut f = 0;
+    while f < 32 {
+        let start = 2048 * f;
+        let end = start + 2048;
+        sector::data_frame(&user[start..end], stream, &mut frame);
+        put_frame(work, f, &frame);
+        f += 1;
+    }
+}
+
+// The ECC cluster of 65,536 user bytes, an accepted PSN and 592 bytes of side data. For the crates of this repository.
+pub fn encode(user: &[u8], psn: Psn, side: &[u8], work: &mut [u8])
+    requires {
+        ⌜ ((length (now user) ≡ 65536) × (length (now side) ≡ 592)) × ((length (now work) ≡ 76880) × (judged (psn .0) ≡ Accepted)) ⌝
+    }
+    ensures { λ _. ⌜ now (work .exit) ≡ eccCluster (now (user .entry)) (psn .0) (now (side .entry)) ⌝ }
+{
+    let stream = sector::scrambling(psn);
+    put_data(user, &stream, work);
+    complete_all(work);
+    let block = bis::block(psn, side);
+    put_bis(work, &block);
 }
 
 // Row n as those very bytes of the cluster; empty for n above 495 or a slice that is no cluster.
