@@ -1,8 +1,7 @@
 -- The mappings of 13.10 and 13.13 move each byte to exactly one place: computed tests over all of them. Assumes nothing.
 use mathlib.Core.Path.{_≡_}
-use Prim.Native.Nat.{ℕ, _+_, _*_, _/_, _%_, _<_}
+use Prim.Native.Nat.{ℕ, _<_}
 use native.Mathlib.Omega.{arith}
-use lib.Dec.{T, eqb, ltb}
 use Rattle.laws.proofs.Finite.{all, all₂, equal-below₂, bounded-below₂}
 use Rattle.bis.specs.AccessBlock as Access
 use Rattle.bis.specs.BisCluster as Bis

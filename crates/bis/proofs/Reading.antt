@@ -1,14 +1,12 @@
 -- The steps by which the code reads a BIS block. Assumes nothing.
 use mathlib.Core.Path.{_≡_, refl, sym, ap, _∙_}
 use mathlib.Core.Bool.{Bool, true, false, cond, not}
-use mathlib.Core.List.{List, [], _∷_}
+use mathlib.Core.List.{List, []}
 use Prim.Native.Nat.{ℕ, _+_, _*_, _-_, _/_, _%_, _<_, _≤_}
 use native.Mathlib.Omega.{arith}
-use borrow.Author.Tests.{lt-ltb, le-ltb, le-leb, eq-eqb, ne-eqb}
+use borrow.Author.Tests.{lt-ltb, le-ltb, eq-eqb, ne-eqb}
 use lib.Dec.{eqb, ltb}
 use lib.ListN.{length, getD}
-use Rattle.laws.specs.First.{first}
-use Rattle.laws.proofs.First.{Passed, passed-more, first-at, first-none}
 use Rattle.laws.proofs.Fill.{Upto, upto-all}
 use Rattle.column.specs.Column.{hasRoots}
 use Rattle.address.specs.declared.AunAnswer.{AunAnswer}
@@ -22,14 +20,7 @@ use Rattle.bis.specs.AddressField.{flagIn}
 use Rattle.bis.specs.Reading.{wrongColumn, primaryIn, wrongField, aunAt, isAccepted, otherUnit, firstOtherUnit, foundIf, psnIn, sideByteIn, sideIn, sideOut}
 use Rattle.bis.specs.declared.PsnFound.the-variants.{Found, NotFound}
 
--- ---- a search for the lowest index at which a test holds
-
-module _ {p : ℕ → Bool} {n i : ℕ} where
-  pub first-here : i < n → Passed p i → p i ≡ true → i ≡ first n p
-  first-here h passed e = sym (first-at n p i h passed e)
-
-  pub first-past : n ≤ i → Passed p i → n ≡ first n p
-  first-past h passed = sym (first-none n p (record { fails = λ k lt. passed .fails k (omega arith) }))
+-- ---- the tests at an index
 
 -- r is what the code finds of the roots
 pub column-judged : (block : List (List ℕ)) (C : ℕ) {r b : Bool} → r ≡ hasRoots 32 (getD block C []) → not r ≡ b → wrongColumn block C ≡ b

@@ -1,21 +1,18 @@
 -- The steps by which the code writes a BIS block. Assumes nothing.
 use mathlib.Core.Path.{_≡_, refl, sym, ap, _∙_}
-use mathlib.Core.Bool.{Bool, true, false, cond}
-use mathlib.Core.List.{List, [], _∷_, _++_}
-use Prim.Native.Nat.{ℕ, _+_, _*_, _-_, _/_, _%_, _<_, _≤_}
+use mathlib.Core.List.{List, [], _++_}
+use Prim.Native.Nat.{ℕ, _+_, _*_, _-_, _<_, _≤_}
 use native.Mathlib.Omega.{arith}
-use borrow.Author.Tests.{lt-ltb, le-ltb, le-leb}
-use lib.Dec.{ltb}
+use borrow.Author.Tests.{lt-ltb, le-ltb}
 use lib.ListN.{length, getD, set, length-append, List·getD-append}
 use lib.Seq.{getD-append-add}
 use Rattle.laws.specs.Tabulate.{tabulate}
 use Rattle.laws.proofs.Fill.{Upto, upto-more, upto-all}
 use Rattle.laws.proofs.Tabulate.{is-tabulate}
 use Rattle.address.specs.declared.AunAnswer.{AunAnswer}
-use Rattle.address.specs.declared.Judged.{Judged}
 use Rattle.address.specs.declared.Judged.the-variants.{Accepted}
-use Rattle.address.specs.Judged.{judged, ifAccepted}
-use Rattle.address.specs.Conversions.{aunOf, psnToAun}
+use Rattle.address.specs.Judged.{judged}
+use Rattle.address.specs.Conversions.{psnToAun}
 use Rattle.bis.proofs.AddressFields.{aun-answered}
 use Rattle.bis.specs.AddressField.{addressField}
 use Rattle.bis.specs.AccessBlock.{fieldOf, addressFields, accessByte, fieldAt, byteAt}

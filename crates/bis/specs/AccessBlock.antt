@@ -38,8 +38,20 @@ fieldAt row column = 8 * (row % 2) + (row / 2 + 16 - column / 3) % 8
 abbrev pub byteAt : ℕ → ℕ → ℕ
 byteAt row column = 3 * (row / 2) + (column % 3 + row / 2) % 3
 
--- ---- the byte in a row and a column; the control data fills the other 24 rows down the columns
+-- ---- where byte k = 18 S + j of the user control data (byte j of unit S) stands: it fills the other 24 rows down the columns
+
+abbrev pub rowOfUC : ℕ → ℕ
+rowOfUC k = 6 + k % 24
+
+abbrev pub columnOfUC : ℕ → ℕ
+columnOfUC k = k / 24
+
+-- the same the other way
+abbrev pub controlAt : ℕ → ℕ → ℕ
+controlAt row column = 24 * column + (row - 6)
+
+-- ---- the byte in a row and a column
 
 abbrev pub accessByte : List (List ℕ) → List ℕ → ℕ → ℕ → ℕ
 accessByte fields side row column =
-    cond (ltb row 6) (getD (getD fields (fieldAt row column) []) (byteAt row column) 0) (getD side (16 + (24 * column + (row - 6))) 0)
+    cond (ltb row 6) (getD (getD fields (fieldAt row column) []) (byteAt row column) 0) (getD side (16 + controlAt row column) 0)

@@ -2,7 +2,7 @@
 use mathlib.Core.Path.{_≡_}
 use mathlib.Core.Bool.{Bool, true, false, cond, not}
 use mathlib.Core.List.{List, []}
-use Prim.Native.Nat.{ℕ, _+_, _-_, _/_, _%_, _<_}
+use Prim.Native.Nat.{ℕ, _-_, _<_}
 use lib.Dec.{eqb, ltb}
 use lib.ListN.{length, getD}
 use Rattle.laws.specs.First.{first}
@@ -16,7 +16,7 @@ use Rattle.address.specs.Conversions.{aunOf, aunToPsn}
 use Rattle.bis.specs.declared.PsnFound.{PsnFound}
 use Rattle.bis.specs.declared.PsnFound.the-variants.{Found, NotFound}
 use Rattle.bis.specs.AddressField.{partlyInverted, aunIn, flagIn}
-use Rattle.bis.specs.AccessBlock.{rowOfAF, columnOfAF}
+use Rattle.bis.specs.AccessBlock.{rowOfAF, columnOfAF, rowOfUC, columnOfUC}
 
 -- ---- 12: the lowest column without its 32 roots, or 24
 
@@ -73,10 +73,10 @@ foundIf block answer = cond (isAccepted (answer .judged)) (cond (ltb (firstOther
 unfoldable pub psnIn : List (List ℕ) → PsnFound
 psnIn block = foundIf block (aunToPsn (aunAt block 0))
 
--- ---- the side data: 16 flag bytes, then 32 × 18 bytes of user control data, which fill rows 6 to 29 down the columns
+-- ---- the side data: 16 flag bytes, then the user control data
 
 abbrev pub sideByteIn : List (List ℕ) → ℕ → ℕ
-sideByteIn block k = cond (ltb k 16) (flagIn (primaryIn block k)) (getD (getD block ((k - 16) / 24) []) (6 + (k - 16) % 24) 0)
+sideByteIn block k = cond (ltb k 16) (flagIn (primaryIn block k)) (getD (getD block (columnOfUC (k - 16)) []) (rowOfUC (k - 16)) 0)
 
 unfoldable pub sideIn : List (List ℕ) → List ℕ
 sideIn block = tabulate 592 (sideByteIn block)
@@ -84,3 +84,11 @@ sideIn block = tabulate 592 (sideByteIn block)
 -- what a lent slice holds afterwards: one of another length stays as it was
 unfoldable pub sideOut : List (List ℕ) → List ℕ → List ℕ
 sideOut block lent = cond (eqb (length lent) 592) (sideIn block) lent
+
+-- ---- a block in which nothing is wrong, with what is read in it
+
+pub record Reads (block : List (List ℕ)) (psn : ℕ) (side : List ℕ) : Type 0 where
+  pub right-columns : firstWrongColumn block ≡ 24
+  pub right-fields : firstWrongField block ≡ 16
+  pub has-psn : psnIn block ≡ Found (record { 0 = psn })
+  pub has-side : sideIn block ≡ side

@@ -2,7 +2,8 @@ use borrow.Author.Needs.{needs}
 use Prim.Native.Nat.{_-_}
 use Rattle.laws.proofs.First.{Passed, passed-none, passed-more}
 use Rattle.bis.specs.Reading.{otherUnit, firstOtherUnit}
-use Rattle.bis.proofs.Reading.{first-here, first-past, unit-differs, unit-agrees}
+use Rattle.bis.proofs.Search.{first-here, first-past}
+use Rattle.bis.proofs.Reading.{unit-differs, unit-agrees}
 use Rattle.bis.proofs.first_other_unit.Statement.{statement}
 use Rattle.bis.proofs.first_other_unit.Tie as tie
 use Rattle.bis.proofs.first_other_unit.Reads as reads

@@ -3,7 +3,8 @@ use Prim.Native.Nat.{_-_}
 use native.Mathlib.Omega.{arith}
 use Rattle.laws.proofs.First.{Passed, passed-none, passed-more}
 use Rattle.bis.specs.Reading.{wrongColumn, firstWrongColumn}
-use Rattle.bis.proofs.Reading.{first-here, first-past, column-judged}
+use Rattle.bis.proofs.Search.{first-here, first-past}
+use Rattle.bis.proofs.Reading.{column-judged}
 use Rattle.bis.proofs.first_wrong_column.Statement.{statement}
 use Rattle.bis.proofs.first_wrong_column.Tie as tie
 use Rattle.bis.proofs.first_wrong_column.Reads as reads

@@ -2,7 +2,8 @@ use borrow.Author.Needs.{needs}
 use Prim.Native.Nat.{_-_}
 use Rattle.laws.proofs.First.{Passed, passed-none, passed-more}
 use Rattle.bis.specs.Reading.{wrongField, firstWrongField}
-use Rattle.bis.proofs.Reading.{first-here, first-past, field-judged}
+use Rattle.bis.proofs.Search.{first-here, first-past}
+use Rattle.bis.proofs.Reading.{field-judged}
 use Rattle.bis.proofs.first_wrong_field.Statement.{statement}
 use Rattle.bis.proofs.first_wrong_field.Tie as tie
 use Rattle.bis.proofs.first_wrong_field.Reads as reads
