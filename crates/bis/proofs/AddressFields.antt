@@ -13,8 +13,7 @@ use Rattle.laws.proofs.Bytes.{bytes-none, bytes-cons, bytes-append, bytes-tabul
 use Rattle.laws.proofs.Finite.{all, equal-below, bounded-below}
 use Rattle.laws.proofs.Tabulate.{is-tabulate, getD-tabulate, length-tabulate}
 use Rattle.column.specs.Column.{hasRoots, parity}
-use Rattle.column.proofs.Parity.{parity-length, parity-bytes}
-use Rattle.column.proofs.Columns.{completed-roots, rooted-column}
+use Rattle.column.proofs.Parity.{parity-length, parity-bytes, parity-test, test-column}
 use borrow.Author.Tests.{le-leb}
 use Rattle.address.specs.declared.AunAnswer.{AunAnswer}
 use Rattle.address.specs.declared.Judged.{Judged}
@@ -70,7 +69,7 @@ pub primary-is : (aun flag : ℕ) (i p : List ℕ) → aun < 2 ^ 32 → flag < 2
 unfolding primaryField
 primary-is aun flag i p ha hf ei ep =
     let right : p ≡ parity 4 (information aun flag) = ep ∙ ap (parity 4) ei in
-    let size : length p ≡ 4 = ap length right ∙ parity-length 4 (omega arith) (information aun flag) (information-bytes aun flag ha hf) in
+    let size : length p ≡ 4 = ap length right ∙ parity-length 4 (information aun flag) in
     rw (ei, ← right, ← four p size)
 
 -- ---- partial inversion
@@ -142,17 +141,17 @@ module _ (aun flag : ℕ) (ha : aun < 2 ^ 32) (hf : flag < 256) where
   unfolding primaryField
   length-primary =
       let i = information aun flag in
-      omega (arith, length-append i (parity 4 i), parity-length 4 (omega arith) i (information-bytes aun flag ha hf))
+      omega (arith, length-append i (parity 4 i), parity-length 4 i)
 
   pub bytes-primary : Bytes (primaryField aun flag)
   unfolding primaryField
   bytes-primary =
       let i = information aun flag in
-      bytes-append i (parity 4 i) (information-bytes aun flag ha hf) (parity-bytes 4 (omega arith) i (information-bytes aun flag ha hf))
+      bytes-append i (parity 4 i) (information-bytes aun flag ha hf) (parity-bytes 4 i)
 
   pub primary-roots : hasRoots 4 (primaryField aun flag) ≡ true
   unfolding primaryField
-  primary-roots = completed-roots 4 (omega arith) (information aun flag) (information-bytes aun flag ha hf)
+  primary-roots = parity-test 4 (information aun flag) (information-bytes aun flag ha hf)
 
   pub length-field : length (addressField aun flag) ≡ 9
   unfolding addressField
@@ -188,7 +187,7 @@ module _ (f : List ℕ) (size : length f ≡ 9) (bytes : Bytes f) where
   pub primary-only : hasRoots 4 f ≡ true → f ≡ primaryField (aunIn f) (flagIn f)
   unfolding primaryField
   primary-only roots =
-      rooted-column 4 (omega arith) 5 f bytes size roots
+      test-column 4 (omega arith) 5 f bytes size roots
       ∙ ap (λ (i : List ℕ). i ++ parity 4 i) information-in
 
 pub field-only : (f : List ℕ) → length f ≡ 9 → Bytes f → hasRoots 4 (partlyInverted f) ≡ true

@@ -16,8 +16,7 @@ use Rattle.address.specs.declared.Judged.the-variants.{Accepted}
 use Rattle.address.specs.Judged.{judged}
 use Rattle.address.specs.Conversions.{aunOf}
 use Rattle.column.specs.Column.{parity, hasRoots}
-use Rattle.column.proofs.Parity.{parity-length, parity-bytes}
-use Rattle.column.proofs.Columns.{completed-roots, rooted-column}
+use Rattle.column.proofs.Parity.{parity-length, parity-bytes, parity-test, test-column}
 use Rattle.bis.specs.AddressField.{primaryField, partlyInverted, addressField, aunIn, flagIn}
 use Rattle.bis.specs.AccessBlock.{Side, fieldOf, addressFields, rowOfAF, columnOfAF, fieldAt, byteAt, accessByte}
 use Rattle.bis.specs.BisBlock.{accessColumn, codeWord, bisBlock, Block}
@@ -76,12 +75,12 @@ module _ (psn : ℕ) (side : List ℕ) (accepted : judged psn ≡ Accepted) (byt
               arith,
               length-append (accessColumn (addressFields psn side) side C) (parity 32 (accessColumn (addressFields psn side) side C)),
               length-access (addressFields psn side) side C,
-              parity-length 32 (omega arith) (accessColumn (addressFields psn side) side C) (bytes-access C h),
+              parity-length 32 (accessColumn (addressFields psn side) side C),
             );
         bytes = λ C h.
             rw (column-is C h)
             (bytes-append (accessColumn (addressFields psn side) side C) (parity 32 (accessColumn (addressFields psn side) side C)) (bytes-access C h)
-            (parity-bytes 32 (omega arith) (accessColumn (addressFields psn side) side C) (bytes-access C h)));
+            (parity-bytes 32 (accessColumn (addressFields psn side) side C)));
       }
 
   pub written-columns : firstWrongColumn (bisBlock psn side) ≡ 24
@@ -91,7 +90,7 @@ module _ (psn : ℕ) (side : List ℕ) (accepted : judged psn ≡ Accepted) (byt
       (record {
         fails = λ C h.
             ap (λ (c : List ℕ). not (hasRoots 32 c)) (column-is C h)
-            ∙ ap not (completed-roots 32 (omega arith) (accessColumn (addressFields psn side) side C) (bytes-access C h));
+            ∙ ap not (parity-test 32 (accessColumn (addressFields psn side) side C) (bytes-access C h));
       })
 
   -- an information byte of the block
@@ -237,5 +236,5 @@ module _ (block : List (List ℕ)) (is : Block block) (psn : ℕ) (right-columns
   block-is =
       is-tabulate [] 24 (codeWord (addressFields psn (sideIn block)) (sideIn block)) block (is .columns)
       (λ C h.
-      rooted-column 32 (omega arith) 30 (getD block C []) (is .bytes C h) (is .size C h) (column-roots C h)
+      test-column 32 (omega arith) 30 (getD block C []) (is .bytes C h) (is .size C h) (column-roots C h)
       ∙ ap (λ (m : List ℕ). m ++ parity 32 m) (message-is C h))
