@@ -3,3 +3,4 @@ pub mod Multiplex
 pub mod Places
 pub mod Loops
 pub mod Encoding
+pub mod Statements

@@ -1,5 +1,5 @@
 -- The LDC cluster and the BIS block come out of the ECC cluster again, and an ECC cluster is made of what comes out. Assumes nothing.
-use mathlib.Core.Path.{_≡_, sym, ap, ap₂, _∙_}
+use mathlib.Core.Path.{_≡_, sym, ap, ap₂, subst, _∙_}
 use mathlib.Core.Bool.{cond}
 use mathlib.Core.List.{List, []}
 use Prim.Native.Nat.{ℕ, _+_, _*_, _-_, _/_, _%_, _<_, _≤_}
@@ -8,8 +8,11 @@ use native.Mathlib.Omega.{arith}
 use borrow.Author.Tests.{eq-eqb, ne-eqb}
 use lib.Dec.{eqb}
 use lib.ListN.{length, getD}
+use Rattle.laws.specs.Bytes.{Bytes}
 use Rattle.laws.specs.Tabulate.{tabulate}
-use Rattle.laws.proofs.Tabulate.{length-tabulate, getD-tabulate, is-tabulate}
+use Rattle.laws.proofs.Bytes.{bytes-tabulate}
+use Rattle.laws.proofs.Tabulate.{length-tabulate, getD-tabulate, is-tabulate, tabulate-ext}
+use Rattle.bis.specs.BisBlock.{Block}
 use Rattle.bis.specs.BisCluster as Bis
 use Rattle.bis.proofs.Mapping.{bis-row-lt, bis-byte-there, bis-word-there, bis-column-lt, bis-byte-lt, bis-word-lt, bis-row-back, bis-column-back}
 use Rattle.cluster.specs.Multiplex.{rowByte, multiplexed, ldcIndex, bisIndex, ldcIn, bisIn}
@@ -78,14 +81,9 @@ pub ldc-back : (ldc : ℕ → ℕ → ℕ) (block : List (List ℕ)) (row column
 ldc-back ldc block row column hr hc =
     getD-multiplexed ldc block (ldcIndex row column) (ldc-index-lt row column hr hc) ∙ ldc-row-byte ldc block row column hr hc
 
--- a block of 24 columns of 62 bytes
-pub record IsBlock (block : List (List ℕ)) : Type 0 where
-  pub columns : length block ≡ 24
-  pub column : (C : ℕ) → C < 24 → length (getD block C []) ≡ 62
-
-pub bis-back : (ldc : ℕ → ℕ → ℕ) (block : List (List ℕ)) → IsBlock block → bisIn (multiplexed ldc block) ≡ block
+pub bis-back : (ldc : ℕ → ℕ → ℕ) (block : List (List ℕ)) → Block block → bisIn (multiplexed ldc block) ≡ block
 unfolding bisIn
-bis-back ldc block is = sym (is-tabulate [] 24 (λ C. tabulate 62 (byte C)) block (is .columns) (λ C hC. is-tabulate 0 62 (byte C) (getD block C []) (is .column C hC) (λ N hN. sym (there N C hN hC))))
+bis-back ldc block is = sym (is-tabulate [] 24 (λ C. tabulate 62 (byte C)) block (is .columns) (λ C hC. is-tabulate 0 62 (byte C) (getD block C []) (is .size C hC) (λ N hN. sym (there N C hN hC))))
   where
     byte : ℕ → ℕ → ℕ
     byte C N = getD (multiplexed ldc block) (bisIndex (Bis.rowOf N C) (Bis.columnOf N C)) 0
@@ -100,16 +98,20 @@ bis-back ldc block is = sym (is-tabulate [] 24 (λ C. tabulate 62 (byte C)) bloc
 
 -- ---- 76,880 bytes are what they are made of
 
-pub is-block-in : (work : List ℕ) → IsBlock (bisIn work)
+pub is-block-in : (work : List ℕ) → Bytes work → Block (bisIn work)
 unfolding bisIn
-is-block-in work =
+is-block-in work bytes =
     record {
       columns = length-tabulate 24 columns;
-      column = λ C h. ap (length {A = ℕ}) (getD-tabulate 24 columns C [] h) ∙ length-tabulate 62 (λ N. getD work (bisIndex (Bis.rowOf N C) (Bis.columnOf N C)) 0);
+      size = λ C h. ap (length {A = ℕ}) (getD-tabulate 24 columns C [] h) ∙ length-tabulate 62 (byte C);
+      bytes = λ C h. subst (λ (l : List ℕ). Bytes l) (sym (getD-tabulate 24 columns C [] h)) (bytes-tabulate 62 (byte C) (λ N _. bytes (bisIndex (Bis.rowOf N C) (Bis.columnOf N C))));
     }
   where
+    byte : ℕ → ℕ → ℕ
+    byte C N = getD work (bisIndex (Bis.rowOf N C) (Bis.columnOf N C)) 0
+
     columns : ℕ → List ℕ
-    columns C = tabulate 62 (λ N. getD work (bisIndex (Bis.rowOf N C) (Bis.columnOf N C)) 0)
+    columns C = tabulate 62 (byte C)
 
 -- byte N of column C of the block
 pub getD-block-in : (work : List ℕ) (N C : ℕ) → N < 62 → C < 24 → getD (getD (bisIn work) C []) N 0 ≡ getD work (bisIndex (Bis.rowOf N C) (Bis.columnOf N C)) 0
@@ -137,4 +139,17 @@ multiplexed-back work size = sym (is-tabulate 0 76880 (λ k. rowByte (ldcIn work
         elim (ℕ-discrete (k % 155 % 39) 38) [
           | yes e ↦ rw (eq-eqb (k % 155 % 39) 38 e) (in-bis k h e)
           | no e ↦ rw (ne-eqb (k % 155 % 39) 38 e) (ap (λ (i : ℕ). getD work i 0) (index-of-ldc k e))
+        ]
+
+-- two LDC clusters that agree at every row and column multiplex to one ECC cluster
+pub multiplexed-ext : (ldc ldc′ : ℕ → ℕ → ℕ) (block : List (List ℕ)) → ((row column : ℕ) → row < 496 → column < 152 → ldc row column ≡ ldc′ row column)
+    → multiplexed ldc block ≡ multiplexed ldc′ block
+unfolding multiplexed
+multiplexed-ext ldc ldc′ block agree = tabulate-ext 0 76880 (λ k. rowByte ldc block (k / 155) (k % 155)) (λ k. rowByte ldc′ block (k / 155) (k % 155)) same
+  where
+    same : (k : ℕ) → k < 76880 → rowByte ldc block (k / 155) (k % 155) ≡ rowByte ldc′ block (k / 155) (k % 155)
+    same k h =
+        elim (ℕ-discrete (k % 155 % 39) 38) [
+          | yes e ↦ rw (eq-eqb (k % 155 % 39) 38 e)
+          | no e ↦ rw (ne-eqb (k % 155 % 39) 38 e) (agree (k / 155) (k % 155 - k % 155 / 39) (omega arith) (omega arith))
         ]

@@ -1,14 +1,21 @@
 -- The ECC cluster (13.14) of 65,536 user bytes, a PSN and 592 bytes of side data.
 use mathlib.Core.Bool.{cond}
 use mathlib.Core.List.{List, []}
+use mathlib.Core.Path.{_≡_}
 use Prim.Native.Nat.{ℕ, _*_}
 use lib.Dec.{eqb, leb}
 use lib.ListN.{length, take, drop}
+use Rattle.laws.specs.Bytes.{Bytes}
 use Rattle.sector.specs.DataFrame.{dataFrame}
 use Rattle.sector.specs.Scrambling.{scramblingOf, scrambled}
 use Rattle.ldc.specs.LdcCluster.{ldcByte}
 use Rattle.bis.specs.BisBlock.{bisBlock}
 use Rattle.cluster.specs.Multiplex.{multiplexed}
+
+-- the user bytes of a cluster
+pub record User (user : List ℕ) : Type 0 where
+  pub size : length user ≡ 65536
+  pub bytes : Bytes user
 
 -- sector F of 32: 2,048 user bytes
 abbrev pub sectorOf : List ℕ → ℕ → List ℕ
