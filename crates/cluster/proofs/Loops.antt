@@ -1,5 +1,6 @@
 -- A turn of each loop that reads or writes the bytes of a code word. Assumes nothing.
-use mathlib.Core.Path.{_≡_, refl, sym, ap, subst, _∙_}
+use mathlib.Core.Path.{_≡_, refl, sym, ap, ap₂, subst, _∙_}
+use mathlib.Core.Bool.{Bool, true, false, not}
 use mathlib.Core.List.{List, [], _++_}
 use Prim.Native.Nat.{ℕ, _+_, _*_, _-_, _/_, _%_, _<_, _≤_}
 use native.Mathlib.Nat.{not-suc-le-zero}
@@ -10,13 +11,18 @@ use lib.ListN.{length, getD, set, take, drop, List·getD-append}
 use lib.Seq.{getD-append-add}
 use Rattle.laws.specs.Scatter.{Scattered}
 use Rattle.laws.specs.Tabulate.{tabulate}
-use Rattle.laws.proofs.Fill.{Upto, upto-more}
+use Rattle.laws.proofs.Fill.{Upto, upto-more, upto-part}
 use Rattle.laws.proofs.Scatter.{scattered-more}
 use Rattle.laws.proofs.Tabulate.{length-tabulate, getD-tabulate, tabulate-ext}
-use Rattle.column.specs.Column.{parity}
-use Rattle.bis.specs.BisCluster.{bisByte}
-use Rattle.cluster.specs.Multiplex.{wordIndex, dataIndex, bisIndex, informationIn, completedIn}
+use Rattle.column.specs.Column.{parity, hasRoots}
+use Rattle.sector.specs.DataFrame.{edcRight}
+use Rattle.sector.specs.Scrambling.{scrambled}
+use Rattle.sector.proofs.Stream.{length-scrambled}
+use Rattle.ldc.specs.Places.{wordIn, dataIn, frameIn}
+use Rattle.bis.specs.BisCluster.{rowOf, columnOf, bisByte}
+use Rattle.cluster.specs.Multiplex.{wordIndex, dataIndex, bisIndex, informationIn, completedIn, ldcIn}
 use Rattle.cluster.specs.EccCluster.{shownRow}
+use Rattle.cluster.specs.Reading.{wrongWord, dataFrameIn, wrongSector, userByteIn}
 use Rattle.cluster.specs.Written.{ParityPut, AllCompleted}
 use Rattle.cluster.proofs.Multiplex.{bis-index-lt}
 use Rattle.cluster.proofs.Places.{word-index-lt, word-index-inj, bis-index-inj}
@@ -160,3 +166,48 @@ pub row-shown : (work : List ℕ) (n : ℕ) → length work ≡ 76880 → n ≤ 
 row-shown work n h within =
     let size : 155 * n + 155 - 155 * n ≡ 155 = omega arith in
     rw (eq-eqb (length work) 76880 h, le-leb n 495 within, size)
+
+-- ---- reading
+
+-- byte n of column c of the BIS block, read at its index i
+pub column-read : (work : List ℕ) (c n i : ℕ) (bytes : List ℕ) → n < 62 → i ≡ bisIndex (rowOf n c) (columnOf n c)
+    → Upto 0 (λ N. getD work (bisIndex (rowOf N c) (columnOf N c)) 0) 62 n bytes
+    → Upto 0 (λ N. getD work (bisIndex (rowOf N c) (columnOf N c)) 0) 62 (n + 1) (set bytes n (getD work i 0))
+column-read work c n i bytes h e u = upto-more h (ap (λ (k : ℕ). getD work k 0) e) u
+
+-- the bytes that were gathered are the code word
+pub word-read : (work entry bytes : List ℕ) (word : ℕ) (r : Bool) → length entry ≡ 248 → bytes ≡ tabulate (length entry) (λ N. getD work (wordIndex word N) 0)
+    → r ≡ hasRoots 32 bytes → r ≡ hasRoots 32 (wordIn (ldcIn work) word)
+unfolding wordIn
+word-read work entry bytes word r size e f = f ∙ ap (hasRoots 32) (e ∙ ap (λ (n : ℕ). tabulate n (λ N. getD work (wordIndex word N) 0)) size)
+
+pub word-judged : (work : List ℕ) (word : ℕ) (r t : Bool) → r ≡ hasRoots 32 (wordIn (ldcIn work) word) → not r ≡ t → wrongWord work word ≡ t
+unfolding wrongWord
+word-judged work word r t e f = ap not (sym e) ∙ f
+
+pub data-frame-read : (stream work frame bytes : List ℕ) (F : ℕ) → frame ≡ frameIn (ldcIn work) F → bytes ≡ scrambled stream frame → bytes ≡ dataFrameIn stream work F
+unfolding dataFrameIn
+data-frame-read stream work frame bytes F e f = f ∙ ap (scrambled stream) e
+
+pub sector-judged : (stream work bytes : List ℕ) (F : ℕ) (r t : Bool) → bytes ≡ dataFrameIn stream work F → r ≡ edcRight bytes → not r ≡ t → wrongSector stream work F ≡ t
+unfolding wrongSector
+sector-judged stream work bytes F r t e f g = sym (ap not (f ∙ ap edcRight e)) ∙ g
+
+pub length-data-frame : (stream work : List ℕ) (F : ℕ) → length (dataFrameIn stream work F) ≡ 2052
+unfolding dataFrameIn frameIn
+length-data-frame stream work F = length-scrambled stream (frameIn (ldcIn work) F) ∙ length-tabulate 2052 (λ k. dataIn (ldcIn work) (2052 * F + k))
+
+-- the user bytes of data frame F, copied to their part
+pub user-turn : (stream work bytes part user : List ℕ) (F a m i : ℕ) → bytes ≡ dataFrameIn stream work F → part ≡ tabulate 2048 (λ k. getD bytes k 0)
+    → F < 32 → a ≡ 2048 * F → m ≡ 2048 → i ≡ 2048 * (F + 1)
+    → Upto 0 (userByteIn stream work) 65536 (2048 * F) user → Upto 0 (userByteIn stream work) 65536 i (take a user ++ (part ++ drop m (drop a user)))
+user-turn stream work bytes part user F a m i e f hF ha hm hi u =
+    rw (ha, hm)
+    (upto-part 2048 part (omega arith) (omega arith) (ap (length {A = ℕ}) f ∙ length-tabulate 2048 (λ k. getD bytes k 0))
+    (λ k hk.
+    let number : (2048 * F + k) / 2048 ≡ F = omega arith in
+    let place : (2048 * F + k) % 2048 ≡ k = omega arith in
+    ap (λ (l : List ℕ). getD l k 0) f
+    ∙ getD-tabulate 2048 (λ k. getD bytes k 0) k 0 hk
+    ∙ ap (λ (l : List ℕ). getD l k 0) e
+    ∙ sym (ap₂ (λ (g j : ℕ). getD (dataFrameIn stream work g) j 0) number place)) u)

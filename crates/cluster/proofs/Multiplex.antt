@@ -15,7 +15,7 @@ use Rattle.laws.proofs.Tabulate.{length-tabulate, getD-tabulate, is-tabulate, t
 use Rattle.bis.specs.BisBlock.{Block}
 use Rattle.bis.specs.BisCluster as Bis
 use Rattle.bis.proofs.Mapping.{bis-row-lt, bis-byte-there, bis-word-there, bis-column-lt, bis-byte-lt, bis-word-lt, bis-row-back, bis-column-back}
-use Rattle.cluster.specs.Multiplex.{rowByte, multiplexed, ldcIndex, bisIndex, ldcIn, bisIn}
+use Rattle.cluster.specs.Multiplex.{rowByte, multiplexed, ldcIndex, bisIndex, ldcIn, columnIn, bisIn}
 
 -- ---- indexes
 
@@ -82,7 +82,7 @@ ldc-back ldc block row column hr hc =
     getD-multiplexed ldc block (ldcIndex row column) (ldc-index-lt row column hr hc) ∙ ldc-row-byte ldc block row column hr hc
 
 pub bis-back : (ldc : ℕ → ℕ → ℕ) (block : List (List ℕ)) → Block block → bisIn (multiplexed ldc block) ≡ block
-unfolding bisIn
+unfolding bisIn columnIn
 bis-back ldc block is = sym (is-tabulate [] 24 (λ C. tabulate 62 (byte C)) block (is .columns) (λ C hC. is-tabulate 0 62 (byte C) (getD block C []) (is .size C hC) (λ N hN. sym (there N C hN hC))))
   where
     byte : ℕ → ℕ → ℕ
@@ -99,7 +99,7 @@ bis-back ldc block is = sym (is-tabulate [] 24 (λ C. tabulate 62 (byte C)) bloc
 -- ---- 76,880 bytes are what they are made of
 
 pub is-block-in : (work : List ℕ) → Bytes work → Block (bisIn work)
-unfolding bisIn
+unfolding bisIn columnIn
 is-block-in work bytes =
     record {
       columns = length-tabulate 24 columns;
@@ -115,7 +115,7 @@ is-block-in work bytes =
 
 -- byte N of column C of the block
 pub getD-block-in : (work : List ℕ) (N C : ℕ) → N < 62 → C < 24 → getD (getD (bisIn work) C []) N 0 ≡ getD work (bisIndex (Bis.rowOf N C) (Bis.columnOf N C)) 0
-unfolding bisIn
+unfolding bisIn columnIn
 getD-block-in work N C hN hC =
     ap (λ (l : List ℕ). getD l N 0) (getD-tabulate 24 (λ C. tabulate 62 (λ N. getD work (bisIndex (Bis.rowOf N C) (Bis.columnOf N C)) 0)) C [] hC)
     ∙ getD-tabulate 62 (λ N. getD work (bisIndex (Bis.rowOf N C) (Bis.columnOf N C)) 0) N 0 hN

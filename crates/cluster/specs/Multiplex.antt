@@ -45,6 +45,9 @@ completedIn work L = informationIn work L ++ parity 32 (informationIn work L)
 abbrev pub ldcIn : List ℕ → ℕ → ℕ → ℕ
 ldcIn work row column = getD work (ldcIndex row column) 0
 
--- the BIS block, column by column
+-- column C of the BIS block
+unfoldable pub columnIn : List ℕ → ℕ → List ℕ
+columnIn work C = tabulate 62 (λ N. getD work (bisIndex (Bis.rowOf N C) (Bis.columnOf N C)) 0)
+
 unfoldable pub bisIn : List ℕ → List (List ℕ)
-bisIn work = tabulate 24 (λ C. tabulate 62 (λ N. getD work (bisIndex (Bis.rowOf N C) (Bis.columnOf N C)) 0))
+bisIn work = tabulate 24 (columnIn work)

@@ -4,13 +4,14 @@ ghost use mathlib.Core.Path.{_≡_};
 ghost use Prim.Native.Nat.{_<_, _≤_};
 ghost use lib.ListN.{length, getD};
 ghost use Rattle.laws.specs.Tabulate.{tabulate};
-ghost use Rattle.column.specs.Column.{parity};
+ghost use Rattle.column.specs.Column.{parity, hasRoots};
 ghost use Rattle.address.specs.declared.Judged.the-variants.{Accepted};
 ghost use Rattle.address.specs.Judged.{judged};
-ghost use Rattle.ldc.specs.Places.{frameIn};
-ghost use Rattle.bis.specs.BisCluster.{bisByte};
-ghost use Rattle.cluster.specs.Multiplex.{wordIndex, dataIndex, informationIn, ldcIn};
+ghost use Rattle.ldc.specs.Places.{wordIn, frameIn};
+ghost use Rattle.bis.specs.BisCluster.{rowOf, columnOf, bisByte};
+ghost use Rattle.cluster.specs.Multiplex.{wordIndex, dataIndex, bisIndex, informationIn, ldcIn, columnIn, bisIn};
 ghost use Rattle.cluster.specs.EccCluster.{shownRow, eccCluster};
+ghost use Rattle.cluster.specs.Reading.{firstWrongWord, dataFrameIn, firstWrongSector, userIn};
 ghost use Rattle.cluster.specs.Written.{DataPut, FramePut, ParityPut, AllCompleted, BisPut};
 
 // Where byte `byte` of LDC code word `word` stands.
@@ -176,5 +177,141 @@ pub fn frame(work: &[u8], f: usize, bytes: &mut [u8])
     while k < 2052 {
         bytes[k] = work[data_index(2052 * f + k)];
         k += 1;
+    }
+}
+
+// Where byte n of BIS code word c stands.
+fn bis_index(n: usize, c: usize) -> usize
+    requires { ⌜ (n < 62) × (c < 24) ⌝ }
+    ensures { λ r. ⌜ r ≡ bisIndex (rowOf n c) (columnOf n c) ⌝ }
+{
+    let in_unit = n / 2;
+    let unit = (in_unit + 8 - c / 3) % 8 + 8 * (n % 2);
+    let row = 31 * unit + in_unit;
+    155 * row + 39 * ((c + in_unit) % 3) + 38
+}
+
+fn zero_column() -> [u8; 62]
+    ensures { λ r. ⌜ length r ≡ 62 ⌝ }
+{
+    [0u8; 62]
+}
+
+// BIS code word c.
+fn bis_column(work: &[u8], c: usize) -> [u8; 62]
+    requires { ⌜ (length (now work) ≡ 76880) × (c < 24) ⌝ }
+    ensures { λ r. ⌜ r ≡ columnIn (now (work .entry)) c ⌝ }
+{
+    let mut column = zero_column();
+    let mut n = 0;
+    while n < 62 {
+        column[n] = work[bis_index(n, c)];
+        n += 1;
+    }
+    column
+}
+
+fn zero_block() -> bis::Block
+    ensures { λ r. ⌜ length r ≡ 24 ⌝ }
+{
+    [[0u8; 62]; 24]
+}
+
+// The BIS block of a cluster. For the crates of this repository.
+pub fn bis_block(work: &[u8]) -> bis::Block
+    requires { ⌜ length (now work) ≡ 76880 ⌝ }
+    ensures { λ r. ⌜ r ≡ bisIn (now (work .entry)) ⌝ }
+{
+    let mut block = zero_block();
+    let mut c = 0;
+    while c < 24 {
+        block[c] = bis_column(work, c);
+        c += 1;
+    }
+    block
+}
+
+fn zero_word() -> [u8; 248]
+    ensures { λ r. ⌜ length r ≡ 248 ⌝ }
+{
+    [0u8; 248]
+}
+
+// Whether an LDC code word has its 32 roots.
+fn word_right(work: &[u8], word: usize) -> bool
+    requires { ⌜ (length (now work) ≡ 76880) × (word < 304) ⌝ }
+    ensures { λ r. ⌜ r ≡ hasRoots 32 (wordIn (ldcIn (now (work .entry))) word) ⌝ }
+{
+    let mut bytes = zero_word();
+    gather(work, word, &mut bytes);
+    column::has_roots(&bytes, 32)
+}
+
+// The lowest LDC column whose parity is wrong, or 304. For the crates of this repository.
+pub fn first_wrong_word(work: &[u8]) -> usize
+    requires { ⌜ length (now work) ≡ 76880 ⌝ }
+    ensures { λ r. ⌜ r ≡ firstWrongWord (now (work .entry)) ⌝ }
+{
+    let mut word = 0;
+    while word < 304 {
+        if !word_right(work, word) {
+            return word;
+        }
+        word += 1;
+    }
+    word
+}
+
+// Data frame f with the scrambling undone.
+fn data_frame(work: &[u8], stream: &[u8], f: usize) -> [u8; 2052]
+    requires { ⌜ (length (now work) ≡ 76880) × (f < 32) ⌝ }
+    ensures { λ r. ⌜ r ≡ dataFrameIn (now (stream .entry)) (now (work .entry)) f ⌝ }
+{
+    let mut bytes = zero_frame();
+    frame(work, f, &mut bytes);
+    sector::scramble(&mut bytes, stream);
+    bytes
+}
+
+// The lowest sector whose EDC is wrong, or 32. For the crates of this repository.
+pub fn first_wrong_sector(work: &[u8], stream: &[u8]) -> usize
+    requires { ⌜ length (now work) ≡ 76880 ⌝ }
+    ensures { λ r. ⌜ r ≡ firstWrongSector (now (stream .entry)) (now (work .entry)) ⌝ }
+{
+    let mut f = 0;
+    while f < 32 {
+        let bytes = data_frame(work, stream, f);
+        if !sector::edc_right(&bytes) {
+            return f;
+        }
+        f += 1;
+    }
+    f
+}
+
+// 2,048 user bytes of a data frame.
+fn copy_user(bytes: &[u8], user: &mut [u8])
+    requires { ⌜ (length (now bytes) ≡ 2052) × (length (now user) ≡ 2048) ⌝ }
+    ensures { λ _. ⌜ now (user .exit) ≡ tabulate 2048 (λ k. getD (now (bytes .entry)) k 0) ⌝ }
+{
+    let mut k = 0;
+    while k < 2048 {
+        user[k] = bytes[k];
+        k += 1;
+    }
+}
+
+// The user bytes of a cluster. For the crates of this repository.
+pub fn user_bytes(work: &[u8], stream: &[u8], user: &mut [u8])
+    requires { ⌜ (length (now work) ≡ 76880) × (length (now user) ≡ 65536) ⌝ }
+    ensures { λ _. ⌜ now (user .exit) ≡ userIn (now (stream .entry)) (now (work .entry)) ⌝ }
+{
+    let mut f = 0;
+    while f < 32 {
+        let bytes = data_frame(work, stream, f);
+        let start = 2048 * f;
+        let end = start + 2048;
+        copy_user(&bytes, &mut user[start..end]);
+        f += 1;
     }
 }
