@@ -1,9 +1,8 @@
 -- The steps of encoding: data frames, parity, BIS cluster make the ECC cluster. Assumes nothing.
-use mathlib.Core.Path.{_≡_, refl, sym, ap, ap₂, subst, _∙_}
+use mathlib.Core.Path.{_≡_, refl, sym, ap, ap₂, _∙_}
 use mathlib.Core.Bool.{Bool, true}
 use mathlib.Core.List.{List, _++_}
 use Prim.Native.Nat.{ℕ, _+_, _*_, _-_, _/_, _%_, _<_, _≤_}
-use native.Mathlib.Nat.{not-suc-le-zero}
 use native.Mathlib.Decide.{decLt, ℕ-discrete}
 use native.Mathlib.Omega.{arith}
 use borrow.Author.Tests.{eq-eqb, ne-eqb}
@@ -14,10 +13,10 @@ use Rattle.column.specs.Column.{parity}
 use Rattle.sector.specs.DataFrame.{Framed, framed, framedOf, dataFrame}
 use Rattle.sector.specs.Scrambling.{scrambled, scramblingOf}
 use Rattle.ldc.specs.LdcBlock.{dataByte, information, codeWord}
-use Rattle.ldc.specs.LdcCluster.{ldcByte, shifted}
+use Rattle.ldc.specs.LdcCluster.{ldcByte}
 use Rattle.bis.specs.BisBlock.{bisBlock}
 use Rattle.bis.specs.BisCluster.{bisByte}
-use Rattle.cluster.specs.Multiplex.{wordIndex, dataIndex, bisIndex, rowByte, multiplexed, informationIn, completedIn}
+use Rattle.cluster.specs.Multiplex.{wordIndex, dataIndex, bisIndex, rowByte, multiplexed, informationIn}
 use Rattle.cluster.specs.EccCluster.{sectorOf, scrambledFrames, frames, eccCluster}
 use Rattle.cluster.specs.Written.{DataPut, FramePut, AllCompleted, BisPut}
 use Rattle.cluster.proofs.Loops.{data-index-inj}

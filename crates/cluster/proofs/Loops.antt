@@ -1,6 +1,6 @@
 -- A turn of each loop that reads or writes the bytes of a code word. Assumes nothing.
 use mathlib.Core.Path.{_≡_, refl, sym, ap, ap₂, subst, _∙_}
-use mathlib.Core.Bool.{Bool, true, false, not}
+use mathlib.Core.Bool.{Bool, not}
 use mathlib.Core.List.{List, [], _++_}
 use Prim.Native.Nat.{ℕ, _+_, _*_, _-_, _/_, _%_, _<_, _≤_}
 use native.Mathlib.Nat.{not-suc-le-zero}
@@ -95,8 +95,8 @@ completed-more before now after i hi c put =
     record {
       size = s .size ∙ c .size;
       information = λ L N hL hN.
-      s .kept (wordIndex L N) (λ j hj e. let same = word-index-inj L N i (216 + j) hL (omega arith) hi (omega arith) e .1 in omega arith)
-      ∙ c .information L N hL hN;
+          s .kept (wordIndex L N) (λ j hj e. let same = word-index-inj L N i (216 + j) hL (omega arith) hi (omega arith) e .1 in omega arith)
+          ∙ c .information L N hL hN;
       parities = λ L j hL hj. elim (ℕ-discrete L i) [ yes e ↦ new L j e hj | no e ↦ old L j (omega arith) hj ];
     }
   where

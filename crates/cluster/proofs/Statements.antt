@@ -1,11 +1,10 @@
 -- What is promised of ECC clusters, on their definitions: one that was made is read back, nothing else is read, and so a cluster
 -- determines its user bytes, its PSN and its side data. Assumes nothing.
-use mathlib.Core.Path.{_≡_, refl, sym, ap, ap₂, subst, _∙_}
+use mathlib.Core.Path.{_≡_, sym, ap, ap₂, subst, _∙_}
 use mathlib.Core.Logic.{_↔_}
 use mathlib.Core.Bool.{Bool, true, false, not}
 use mathlib.Core.List.{List, _++_}
-use Prim.Native.Nat.{ℕ, _+_, _*_, _-_, _/_, _%_, _<_, _≤_}
-use native.Mathlib.Nat.{le-refl}
+use Prim.Native.Nat.{ℕ, _+_, _*_, _/_, _%_, _<_}
 use native.Mathlib.Omega.{arith}
 use borrow.Author.Tests.{not-false}
 use lib.ListN.{length, getD, take, drop, length-drop}
@@ -38,7 +37,7 @@ use Rattle.bis.proofs.Statements as Bis
 use Rattle.cluster.specs.EccCluster.{User, sectorOf, frames, eccCluster}
 use Rattle.cluster.specs.Multiplex.{ldcIndex, multiplexed, ldcIn, bisIn}
 use Rattle.cluster.specs.Reading.{wrongWord, firstWrongWord, dataFrameIn, wrongSector, firstWrongSector, userByteIn, userIn, Reads}
-use Rattle.cluster.proofs.Multiplex.{length-multiplexed, ldc-back, bis-back, is-block-in, multiplexed-back, multiplexed-ext}
+use Rattle.cluster.proofs.Multiplex.{ldc-back, bis-back, is-block-in, multiplexed-back, multiplexed-ext}
 
 -- ---- code words and data frames depend on the 496 rows and 152 columns alone
 

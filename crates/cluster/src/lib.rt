@@ -141,9 +141,7 @@ fn put_data(user: &[u8], stream: &[u8], work: &mut [u8])
 
 // The ECC cluster of 65,536 user bytes, an accepted PSN and 592 bytes of side data. For the crates of this repository.
 pub fn encode(user: &[u8], psn: Psn, side: &[u8], work: &mut [u8])
-    requires {
-        ⌜ ((length (now user) ≡ 65536) × (length (now side) ≡ 592)) × ((length (now work) ≡ 76880) × (judged (psn .0) ≡ Accepted)) ⌝
-    }
+    requires { ⌜ ((length (now user) ≡ 65536) × (length (now side) ≡ 592)) × ((length (now work) ≡ 76880) × (judged (psn .0) ≡ Accepted)) ⌝ }
     ensures { λ _. ⌜ now (work .exit) ≡ eccCluster (now (user .entry)) (psn .0) (now (side .entry)) ⌝ }
 {
     let stream = sector::scrambling(psn);

@@ -22,11 +22,11 @@ module _ {A : Type 0} {d : A} {place : ℕ → ℕ} {v : ℕ → A} {l₀ : List
       record {
         size = length-set l (place i) x ∙ s .size;
         done = λ q h.
-        elim (ℕ-discrete q i) [
-          | yes p ↦
-              ap (λ (j : ℕ). getD (set l (place i) x) (place j) d) p ∙ getD-set-same l (place i) x d (omega (arith, s .size)) ∙ e ∙ ap v (sym p)
-          | no p ↦ getD-set-other l (place i) (place q) x d (λ r. new q (omega arith) r) ∙ s .done q (omega arith)
-        ];
+            elim (ℕ-discrete q i) [
+              | yes p ↦
+                  ap (λ (j : ℕ). getD (set l (place i) x) (place j) d) p ∙ getD-set-same l (place i) x d (omega (arith, s .size)) ∙ e ∙ ap v (sym p)
+              | no p ↦ getD-set-other l (place i) (place q) x d (λ r. new q (omega arith) r) ∙ s .done q (omega arith)
+            ];
         kept = λ k free. getD-set-other l (place i) k x d (λ r. free i (omega arith) r) ∙ s .kept k (λ q h. free q (omega arith));
       }
 

@@ -1,5 +1,6 @@
+-- `bis_column` meets its contract: each turn reads the next byte of the column at its index (Loops).
 use native.Mathlib.Omega.{arith}
-use Prim.Native.Nat.{ℕ, _-_}
+use Prim.Native.Nat.{_-_}
 use borrow.Author.Needs.{needs}
 use lib.ListN.{getD}
 use Rattle.laws.proofs.Fill.{Upto, upto-none, upto-all}
@@ -8,10 +9,6 @@ use Rattle.cluster.specs.Multiplex.{bisIndex, columnIn}
 use Rattle.cluster.proofs.Loops.{column-read}
 use Rattle.cluster.proofs.bis_column.Statement.{statement}
 use Rattle.cluster.proofs.bis_column.Tie as tie
-use Rattle.cluster.proofs.bis_column.Reads as reads
-use Rattle.cluster.proofs.bis_column.Lts as lts
-use Rattle.cluster.proofs.bis_index.Reads as bis-index-reads
-use Rattle.cluster.proofs.zero_column.Reads as zero-column-reads
 
 abbrev Inv-loop : tie.InvT-loop
 Inv-loop work c column₀ n₀ column n = Upto 0 (λ N. getD work (bisIndex (rowOf N c) (columnOf N c)) 0) 62 n column
@@ -19,42 +16,33 @@ Inv-loop work c column₀ n₀ column n = Upto 0 (λ N. getD work (bisIndex (row
 abbrev μ-loop : tie.MeasureT-loop
 μ-loop work c column₀ n₀ column n = 62 - n
 
--- src/lib.rt:205:22
 zero-column-requires : tie.Need-zero-column-requires Inv-loop μ-loop
 zero-column-requires c κs = search needs
 
--- src/lib.rt:207:5
 loop-holds : tie.Need-loop-holds Inv-loop μ-loop
 loop-holds c = upto-none (c .zero-column .ensures)
 
--- src/lib.rt:208:26
 bis-index-requires : tie.Need-bis-index-requires Inv-loop μ-loop
 bis-index-requires c κs = search needs
 
--- src/lib.rt:208:21
 shared-slice-read-column : tie.Need-shared-slice-read-column Inv-loop μ-loop
 shared-slice-read-column c = search needs
 
--- src/lib.rt:208:9
 array-write-column : tie.Need-array-write-column Inv-loop μ-loop
 array-write-column c = search needs
 
--- src/lib.rt:209:9
 add-n : tie.Need-add-n Inv-loop μ-loop
 add-n c = search needs
 
--- src/lib.rt:207:5
 loop-less : tie.Need-loop-less Inv-loop μ-loop
 loop-less c = search needs
 
--- src/lib.rt:207:5
 loop-again : tie.Need-loop-again Inv-loop μ-loop
 loop-again c =
     let head = c .before .before .before in
     let args = head .before .before .before .args in
     column-read (args .work .now) (args .c) (head .loop .n) (c .before .bis-index .result) (head .loop .column) (omega arith) (c .before .bis-index .ensures) (head .loop .inv)
 
--- src/lib.rt:201:1
 returns : tie.Need-returns Inv-loop μ-loop
 unfolding columnIn
 returns c = upto-all (omega arith) (c .before .loop .inv)

@@ -1,12 +1,10 @@
+-- `complete_all` meets its contract: parity bytes do not touch information bytes, nor those of other code words (Loops).
 use native.Mathlib.Omega.{arith}
-use Prim.Native.Nat.{ℕ, _-_, _≤_}
+use Prim.Native.Nat.{_-_, _≤_}
 use borrow.Author.Needs.{needs}
 use Rattle.cluster.proofs.Loops.{Completed, completed-none, completed-more, completed-all}
 use Rattle.cluster.proofs.complete_all.Statement.{statement}
 use Rattle.cluster.proofs.complete_all.Tie as tie
-use Rattle.cluster.proofs.complete_all.Reads as reads
-use Rattle.cluster.proofs.complete_all.Lts as lts
-use Rattle.cluster.proofs.complete.Reads as complete-reads
 
 abbrev Inv-loop : tie.InvT-loop
 Inv-loop work₀ word₀ work word = (word ≤ 304) × Completed work₀ word work
@@ -14,31 +12,24 @@ Inv-loop work₀ word₀ work word = (word ≤ 304) × Completed work₀ word wo
 abbrev μ-loop : tie.MeasureT-loop
 μ-loop work₀ word₀ work word = 304 - word
 
--- src/lib.rt:67:5
 loop-holds : tie.Need-loop-holds Inv-loop μ-loop
 loop-holds c = (omega arith, completed-none _)
 
--- src/lib.rt:68:9
 complete-requires : tie.Need-complete-requires Inv-loop μ-loop
 complete-requires c κs = search needs
 
--- src/lib.rt:69:9
 add-word : tie.Need-add-word Inv-loop μ-loop
 add-word c = search needs
 
--- src/lib.rt:67:5
 loop-less : tie.Need-loop-less Inv-loop μ-loop
 loop-less c = search needs
 
--- src/lib.rt:67:5
 loop-again : tie.Need-loop-again Inv-loop μ-loop
 loop-again c = (omega arith, search (completed-more))
 
--- src/lib.rt:60:1
 same-length : tie.Need-same-length Inv-loop μ-loop
 same-length c = search needs
 
--- src/lib.rt:60:1
 returns : tie.Need-returns Inv-loop μ-loop
 returns c = search (completed-all)
 

@@ -1,16 +1,13 @@
+-- `gather` meets its contract: each turn reads the next byte of the code word at its index (Loops).
 use Rattle.cluster.proofs.Loops.{gather-turn}
-use Prim.Native.Nat.{ℕ, _-_}
+use Prim.Native.Nat.{_-_}
 use native.Mathlib.Omega.{arith}
 use borrow.Author.Needs.{needs}
 use lib.ListN.{length, getD}
-use Rattle.laws.proofs.Fill.{Upto, upto-none, upto-more, upto-all}
+use Rattle.laws.proofs.Fill.{Upto, upto-all}
 use Rattle.cluster.specs.Multiplex.{wordIndex}
-use Rattle.cluster.proofs.Places.{word-index-lt}
 use Rattle.cluster.proofs.gather.Statement.{statement}
 use Rattle.cluster.proofs.gather.Tie as tie
-use Rattle.cluster.proofs.gather.Reads as reads
-use Rattle.cluster.proofs.gather.Lts as lts
-use Rattle.cluster.proofs.word_index.Reads as word-index-reads
 
 abbrev Inv-loop : tie.InvT-loop
 Inv-loop work word bytes₀ n₀ bytes n = Upto 0 (λ N. getD work (wordIndex word N) 0) (length bytes₀) n bytes
@@ -18,42 +15,33 @@ Inv-loop work word bytes₀ n₀ bytes n = Upto 0 (λ N. getD work (wordIndex wo
 abbrev μ-loop : tie.MeasureT-loop
 μ-loop work word bytes₀ n₀ bytes n = length bytes₀ - n
 
--- src/lib.rt:25:5
 loop-holds : tie.Need-loop-holds Inv-loop μ-loop
 loop-holds c = search needs
 
--- src/lib.rt:26:25
 word-index-requires : tie.Need-word-index-requires Inv-loop μ-loop
 word-index-requires c κs = search needs
 
--- src/lib.rt:26:20
 shared-slice-read-bytes : tie.Need-shared-slice-read-bytes Inv-loop μ-loop
 shared-slice-read-bytes c = search needs
 
--- src/lib.rt:26:9
 slice-write-bytes : tie.Need-slice-write-bytes Inv-loop μ-loop
 slice-write-bytes c = search needs
 
--- src/lib.rt:27:9
 add-n : tie.Need-add-n Inv-loop μ-loop
 add-n c = search needs
 
--- src/lib.rt:25:5
 loop-less : tie.Need-loop-less Inv-loop μ-loop
 loop-less c = search needs
 
--- src/lib.rt:25:5
 loop-again : tie.Need-loop-again Inv-loop μ-loop
 loop-again c =
     let head = c .before .before .before in
     let args = head .before .before .before .args in
     gather-turn (args .work .now) (args .word) _ (head .loop .n) (c .before .word-index .result) (head .loop .bytes) (omega arith) (c .before .word-index .ensures) (head .loop .inv)
 
--- src/lib.rt:20:1
 same-length : tie.Need-same-length Inv-loop μ-loop
 same-length c = search needs
 
--- src/lib.rt:20:1
 returns : tie.Need-returns Inv-loop μ-loop
 returns c = upto-all (omega arith) (c .before .loop .inv)
 

@@ -1,5 +1,6 @@
+-- `put_bis` meets its contract: each turn writes a place that no turn before wrote (Loops).
 use native.Mathlib.Omega.{arith}
-use Prim.Native.Nat.{ℕ, _-_, _≤_, _/_, _%_}
+use Prim.Native.Nat.{_-_, _≤_, _/_, _%_}
 use borrow.Author.Needs.{needs}
 use Rattle.laws.specs.Scatter.{Scattered}
 use Rattle.laws.proofs.Scatter.{scattered-none, scattered-end}
@@ -8,9 +9,6 @@ use Rattle.cluster.specs.Multiplex.{bisIndex}
 use Rattle.cluster.proofs.Loops.{bis-turn}
 use Rattle.cluster.proofs.put_bis.Statement.{statement}
 use Rattle.cluster.proofs.put_bis.Tie as tie
-use Rattle.cluster.proofs.put_bis.Reads as reads
-use Rattle.cluster.proofs.put_bis.Lts as lts
-use Rattle.cluster.proofs.bis_byte.Reads as bis-byte-reads
 
 abbrev Inv-loop : tie.InvT-loop
 Inv-loop work₀ block m₀ work m = (m ≤ 1488) × Scattered 0 (λ m. bisIndex (m / 3) (m % 3)) (λ m. bisByte block (m / 3) (m % 3)) work₀ m work
@@ -18,54 +16,42 @@ Inv-loop work₀ block m₀ work m = (m ≤ 1488) × Scattered 0 (λ m. bisIndex
 abbrev μ-loop : tie.MeasureT-loop
 μ-loop work₀ block m₀ work m = 1488 - m
 
--- src/lib.rt:93:5
 loop-holds : tie.Need-loop-holds Inv-loop μ-loop
 loop-holds c = (omega arith, scattered-none)
 
--- src/lib.rt:96:46
 bis-byte-requires : tie.Need-bis-byte-requires Inv-loop μ-loop
 bis-byte-requires c κs = search needs
 
--- src/lib.rt:96:14
 mul-work : tie.Need-mul-work Inv-loop μ-loop
 mul-work c = search needs
 
--- src/lib.rt:96:26
 mul-work-2 : tie.Need-mul-work-2 Inv-loop μ-loop
 mul-work-2 c = search needs
 
--- src/lib.rt:96:14
 add-work : tie.Need-add-work Inv-loop μ-loop
 add-work c = search needs
 
--- src/lib.rt:96:14
 add-work-2 : tie.Need-add-work-2 Inv-loop μ-loop
 add-work-2 c = search needs
 
--- src/lib.rt:96:9
 slice-write-work : tie.Need-slice-write-work Inv-loop μ-loop
 slice-write-work c = search needs
 
--- src/lib.rt:97:9
 add-m : tie.Need-add-m Inv-loop μ-loop
 add-m c = search needs
 
--- src/lib.rt:93:5
 loop-less : tie.Need-loop-less Inv-loop μ-loop
 loop-less c = search needs
 
--- src/lib.rt:93:5
 loop-again : tie.Need-loop-again Inv-loop μ-loop
 loop-again c =
     let head = c .before .before in
     let args = head .before .before .args in
     (omega arith, bis-turn (args .work .now) (head .loop .work) (args .block .now) (head .loop .m) (c .bis-byte .result) (omega arith) (omega arith) (c .bis-byte .ensures) (head .loop .inv .1))
 
--- src/lib.rt:86:1
 same-length : tie.Need-same-length Inv-loop μ-loop
 same-length c = search needs
 
--- src/lib.rt:86:1
 returns : tie.Need-returns Inv-loop μ-loop
 returns c = record { put = scattered-end (omega arith) (c .before .loop .inv .1) }
 

@@ -1,16 +1,14 @@
+-- `put_frame` meets its contract: each turn writes a place that no turn before wrote (Loops).
 use native.Mathlib.Omega.{arith}
-use Prim.Native.Nat.{ℕ, _-_, _≤_, _+_, _*_}
+use Prim.Native.Nat.{_-_, _≤_, _+_, _*_}
 use borrow.Author.Needs.{needs}
 use lib.ListN.{getD}
 use Rattle.laws.specs.Scatter.{Scattered}
 use Rattle.laws.proofs.Scatter.{scattered-none, scattered-end}
 use Rattle.cluster.specs.Multiplex.{dataIndex}
-use Rattle.cluster.proofs.Loops.{frame-turn, data-index-lt}
+use Rattle.cluster.proofs.Loops.{frame-turn}
 use Rattle.cluster.proofs.put_frame.Statement.{statement}
 use Rattle.cluster.proofs.put_frame.Tie as tie
-use Rattle.cluster.proofs.put_frame.Reads as reads
-use Rattle.cluster.proofs.put_frame.Lts as lts
-use Rattle.cluster.proofs.data_index.Reads as data-index-reads
 
 abbrev Inv-loop : tie.InvT-loop
 Inv-loop work₀ f frame k₀ work k = (k ≤ 2052) × Scattered 0 (λ k. dataIndex (2052 * f + k)) (λ k. getD frame k 0) work₀ k work
@@ -18,49 +16,38 @@ Inv-loop work₀ f frame k₀ work k = (k ≤ 2052) × Scattered 0 (λ k. dataIn
 abbrev μ-loop : tie.MeasureT-loop
 μ-loop work₀ f frame k₀ work k = 2052 - k
 
--- src/lib.rt:36:5
 loop-holds : tie.Need-loop-holds Inv-loop μ-loop
 loop-holds c = (omega arith, scattered-none)
 
--- src/lib.rt:37:42
 element-copy-out-work : tie.Need-element-copy-out-work Inv-loop μ-loop
 element-copy-out-work c = search needs
 
--- src/lib.rt:37:25
 mul-data-index : tie.Need-mul-data-index Inv-loop μ-loop
 mul-data-index c = search needs
 
--- src/lib.rt:37:25
 add-data-index : tie.Need-add-data-index Inv-loop μ-loop
 add-data-index c = search needs
 
--- src/lib.rt:37:14
 data-index-requires : tie.Need-data-index-requires Inv-loop μ-loop
 data-index-requires c κs = search needs
 
--- src/lib.rt:37:9
 slice-write-work : tie.Need-slice-write-work Inv-loop μ-loop
 slice-write-work c = search needs
 
--- src/lib.rt:38:9
 add-k : tie.Need-add-k Inv-loop μ-loop
 add-k c = search needs
 
--- src/lib.rt:36:5
 loop-less : tie.Need-loop-less Inv-loop μ-loop
 loop-less c = search needs
 
--- src/lib.rt:36:5
 loop-again : tie.Need-loop-again Inv-loop μ-loop
 loop-again c = let head = c .before .before .before in
     let args = head .before .before .args in
     (omega arith, frame-turn (args .work .now) (head .loop .work) (args .frame .now) (args .f) (head .loop .k) (c .data-index .result) (omega arith) (omega arith) (omega arith) (c .data-index .ensures) (head .loop .inv .1))
 
--- src/lib.rt:31:1
 same-length : tie.Need-same-length Inv-loop μ-loop
 same-length c = search needs
 
--- src/lib.rt:31:1
 returns : tie.Need-returns Inv-loop μ-loop
 returns c = record { put = scattered-end (omega arith) (c .before .loop .inv .1) }
 

@@ -1,48 +1,37 @@
+-- `row` meets its contract, case by case of what is shown (Loops).
 use native.Mathlib.Omega.{arith}
 use Rattle.cluster.proofs.Loops.{row-of-no-cluster, row-past-the-end, row-shown}
 use borrow.Author.Needs.{needs}
 use Rattle.cluster.proofs.row.Statement.{statement}
 use Rattle.cluster.proofs.row.Tie as tie
-use Rattle.cluster.proofs.row.Reads as reads
-use Rattle.cluster.proofs.row.Lts as lts
 
--- src/lib.rt:121:9
 slice-aggregate-result : tie.Need-slice-aggregate-result
 slice-aggregate-result c = search needs
 
--- src/lib.rt:121:9
 returns : tie.Need-returns
 returns c = search (row-of-no-cluster)
 
--- src/lib.rt:124:9
 slice-aggregate-result-2 : tie.Need-slice-aggregate-result-2
 slice-aggregate-result-2 c = search needs
 
--- src/lib.rt:124:9
 returns-2 : tie.Need-returns-2
 returns-2 c = search (row-past-the-end)
 
--- src/lib.rt:126:17
 mul-start : tie.Need-mul-start
 mul-start c = search needs
 
--- src/lib.rt:127:15
 add-end : tie.Need-add-end
 add-end c = search needs
 
--- src/lib.rt:128:5
 sub-result : tie.Need-sub-result
 sub-result c = search needs
 
--- src/lib.rt:128:5
 part-result-start : tie.Need-part-result-start
 part-result-start c = search needs
 
--- src/lib.rt:128:5
 part-result-end : tie.Need-part-result-end
 part-result-end c = search needs
 
--- src/lib.rt:117:1
 returns-3 : tie.Need-returns-3
 returns-3 c = let args = c .before .before .before .args in row-shown (args .work .now) (args .n) (omega arith) (omega arith)
 
