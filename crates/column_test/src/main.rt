@@ -1,6 +1,6 @@
-// Columns of clusters that an independent program encoded, from standard input: three LDC columns, two BIS columns and four primary
-// address fields, each with its parity. Prints the parity of what stands before it, whether the column has its roots, and how many
-// changes of one byte go unseen.
+// Columns of clusters that an independent program encoded, from standard input: three LDC columns, the first of them again with one root
+// taken from it, two BIS columns and four primary address fields, each with its parity. Prints the parity of what stands before it,
+// whether the column has its roots, and how many changes of one byte go unseen.
 
 fn print_bytes(bytes: &[u8]) {
     let mut i = 0;
@@ -85,6 +85,8 @@ fn main() {
     ldc(b"LDC column 0, zero cluster: ");
     ldc(b"LDC column 0, seed 0: ");
     ldc(b"LDC column 0, seed 1: ");
+    ldc(b"the first, without root 0: ");
+    ldc(b"the first, without root 31: ");
     bis(b"BIS column 0, zone 1: ");
     bis(b"BIS column 23, zone 2: ");
     address(b"address field 0, seed 0: ");
