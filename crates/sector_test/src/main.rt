@@ -57,6 +57,14 @@ fn draw(drawn: bool, state: u64, bytes: &mut [u8]) -> u64 {
     x
 }
 
+fn no_user() -> [u8; 2048] {
+    [0u8; 2048]
+}
+
+fn no_frame() -> [u8; 2052] {
+    [7u8; 2052]
+}
+
 // The generator's state, the hashes of the user bytes and of the data frames so far, and how often the test of the code answered wrongly.
 struct Seen {
     state: u64,
@@ -80,10 +88,10 @@ fn end_code(s: usize, user: &[u8]) {
 
 // One sector more: written, read back, and read with one byte changed.
 fn sector(seen: Seen, drawn: bool, s: usize, stream: &[u8]) -> Seen {
-    let mut user = [0u8; 2048];
+    let mut user = no_user();
     let state = draw(drawn, seen.state, &mut user);
     end_code(s, &user);
-    let mut frame = [0u8; 2052];
+    let mut frame = no_frame();
     sector::data_frame(&user, stream, &mut frame);
     sector::scramble(&mut frame, stream);
     let frames = hash(seen.frames, &frame);
@@ -121,7 +129,7 @@ fn cluster(psn: u32, drawn: bool, seed: u64) {
 
 // A sector of zeros but for its last byte.
 fn last_byte(x: u8) {
-    let mut user = [0u8; 2048];
+    let mut user = no_user();
     user[2047] = x;
     line(b"last byte ", x as u64, 2);
     line(b"error-detection code ", sector::edc(&user) as u64, 8);
@@ -129,9 +137,9 @@ fn last_byte(x: u8) {
 
 // The scrambled data frame of a sector of zeros is the stream.
 fn zeros_scrambled() {
-    let user = [0u8; 2048];
+    let user = no_user();
     let stream = sector::scrambling(Psn(0x0010_0000));
-    let mut frame = [7u8; 2052];
+    let mut frame = no_frame();
     let done = sector::data_frame(&user, &stream, &mut frame);
     line(b"data frame of zeros ", flag(done), 1);
     line(b"scrambled ", hash(NO_BYTES, &frame), 16);
@@ -143,7 +151,7 @@ fn other_lengths() {
     line(b"no byte ", sector::edc(&bytes[0..0]) as u64, 8);
     line(b"one byte ", sector::edc(&bytes[0..1]) as u64, 8);
     line(b"13 bytes ", sector::edc(&bytes) as u64, 8);
-    let mut frame = [7u8; 2052];
+    let mut frame = no_frame();
     let done = sector::data_frame(&bytes, &bytes, &mut frame);
     line(b"data frame of 13 bytes ", flag(done), 1);
     line(b"frame ", hash(NO_BYTES, &frame), 16);
