@@ -12,7 +12,7 @@ use Rattle.laws.proofs.Tabulate.{length-tabulate}
 use Rattle.field.specs.Field.{α, power}
 use Rattle.column.specs.Column.{value, Roots, hasRoots, Completes, IsParity, generator, remainder, parity}
 use Rattle.column.proofs.Value.{value-append, value-zeros}
-use Rattle.column.proofs.Generator.{taps-length, taps-roots}
+use Rattle.column.proofs.Generator.{coefficients-length, coefficients-roots}
 use Rattle.column.proofs.Division.{length-remainder, bytes-remainder, remainder-keeps}
 use Rattle.column.proofs.Unique.{completes-once}
 use Rattle.column.proofs.Roots.{has-roots}
@@ -23,13 +23,13 @@ zeros-bytes : (r : ℕ) → Bytes (tabulate r (λ _. 0))
 zeros-bytes r = bytes-tabulate r (λ _. 0) (λ k h. omega arith)
 
 zeros-length : (r : ℕ) → length {A = ℕ} (tabulate r (λ _. 0)) ≡ length (drop 1 (generator r))
-zeros-length r = length-tabulate r (λ _. 0) ∙ sym (taps-length r)
+zeros-length r = length-tabulate r (λ _. 0) ∙ sym (coefficients-length r)
 
 -- ---- r bytes, which give the column its roots
 
 pub parity-length : (r : ℕ) (message : List ℕ) → length (parity r message) ≡ r
 unfolding parity
-parity-length r message = length-remainder (drop 1 (generator r)) (tabulate r (λ _. 0)) message (zeros-length r) ∙ taps-length r
+parity-length r message = length-remainder (drop 1 (generator r)) (tabulate r (λ _. 0)) message (zeros-length r) ∙ coefficients-length r
 
 pub parity-bytes : (r : ℕ) (message : List ℕ) → Bytes (parity r message)
 unfolding parity
@@ -39,7 +39,7 @@ pub parity-roots : (r : ℕ) (message : List ℕ) → Bytes message → Roots r 
 unfolding parity value
 parity-roots r message bytes i h =
     value-append 0 message (remainder (drop 1 (generator r)) (tabulate r (λ _. 0)) message) (power α i)
-    ∙ remainder-keeps (drop 1 (generator r)) (tabulate r (λ _. 0)) message 0 (power α i) (zeros-length r) (zeros-bytes r) bytes (taps-roots r i h)
+    ∙ remainder-keeps (drop 1 (generator r)) (tabulate r (λ _. 0)) message 0 (power α i) (zeros-length r) (zeros-bytes r) bytes (coefficients-roots r i h)
     (value-zeros r (power α i))
 
 pub parity-completes : (r : ℕ) (message : List ℕ) → Bytes message → Completes r message (parity r message)

@@ -128,8 +128,8 @@ divided-next {g} {message} {now} {next} {i} h e divided =
 
 -- ---- the parity, by a table that is the generator without its first coefficient
 
-pub divided-parity : {r n : ℕ} {taps out : List ℕ} (message : List ℕ) → generator r ≡ 1 ∷ taps → n ≡ r → out ≡ remainder taps (tabulate n (λ _. 0)) message
+pub divided-parity : {r n : ℕ} {g out : List ℕ} (message : List ℕ) → generator r ≡ 1 ∷ g → n ≡ r → out ≡ remainder g (tabulate n (λ _. 0)) message
     → out ≡ parity r message
 unfolding parity
-divided-parity {r} {n} {taps} {out} message e size right =
+divided-parity {r} {n} {g} {out} message e size right =
     right ∙ ap₂ (λ (k : ℕ) (l : List ℕ). remainder (drop 1 l) (tabulate k (λ _. 0)) message) size (sym e)

@@ -43,15 +43,15 @@ field =
       no-zero-divisors = no-divisor;
     }
 
--- an element generates a field if its powers below 255 are distinct, run through every element but 0, and then start again
-pub record Generates (a : ℕ) : Type 0 where
+-- a is a primitive element: its powers below 255 are distinct, reach every element but 0, and then start again
+pub record IsPrimitive (a : ℕ) : Type 0 where
   pub distinct : (i j : ℕ) → i < 255 → j < 255 → power a i ≡ power a j → i ≡ j
   pub reaches : (b : ℕ) → 0 < b → b < 256 → (k : ℕ) × (k < 255) × (power a k ≡ b)
   pub cycle : power a 255 ≡ 1
   pub add : (i j : ℕ) → power a (i + j) ≡ product (power a i) (power a j)
 
-pub α-generates : Generates α
-α-generates =
+pub primitive : IsPrimitive α
+primitive =
     record {
       distinct = α-distinct;
       reaches = λ b h below. (log b, log-small b h below, power-log b h below);

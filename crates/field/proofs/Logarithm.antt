@@ -1,12 +1,13 @@
 -- The code's tables are those of the definition: the rule of each by one test that antt computes over the whole table. Assumes nothing.
 use mathlib.Core.Path.{_≡_, refl, sym, ap, _∙_}
+use mathlib.Core.Bool.{Bool}
 use mathlib.Core.List.{List, [], _∷_}
 use Prim.Native.Nat.{ℕ, zero, suc, _<_}
 use native.Mathlib.Omega.{arith}
-use lib.Dec.{T, eqb, ltb}
+use lib.Dec.{T, eqb, eqb→eq, ltb, ltb→lt}
 use lib.ListN.{getD}
 use borrow.Author.Tests.{eq-eqb, ne-eqb}
-use Rattle.laws.proofs.Finite.{all, equal-below, bounded-below}
+use Rattle.laws.proofs.Finite.{both, both-left, both-right, all, all-at, equal-below}
 use Rattle.laws.proofs.First.{first-at}
 use Rattle.laws.proofs.Tabulate.{getD-tabulate, is-tabulate}
 use Rattle.field.specs.Field.{α, sum, timesα, power}
@@ -78,55 +79,64 @@ pub powers-at : (k : ℕ) → k < 256 → getD powerTable k 0 ≡ power α k
 unfolding powerTable
 powers-at k h = getD-tabulate 256 (power α) k 0 h
 
--- ---- the logarithms: below 255, the place of the element among the powers, and of no other
+-- ---- the logarithms: that of k + 1 is below 255, and its place among the powers; and that of α^k is k, so that it has no other place
 
-logs-small : T (all 255 (λ a. ltb (getD logList (suc a) 0) 255))
-unfolding all logList
-logs-small = tt
+logs-test : ℕ → Bool
+logs-test k =
+    both (ltb (getD logList (suc k) 0) 255)
+    (both (eqb (getD powerList (getD logList (suc k) 0) 0) (suc k)) (eqb (getD logList (getD powerList k 0) 0) k))
 
-logs-power : T (all 255 (λ a. eqb (getD powerList (getD logList (suc a) 0) 0) (suc a)))
-unfolding all powerList logList
-logs-power = tt
+logs-tested : T (all 255 logs-test)
+unfolding all logs-test powerList logList
+logs-tested = tt
 
-logs-back : T (all 255 (λ k. eqb (getD logList (getD powerList k 0) 0) k))
-unfolding all powerList logList
-logs-back = tt
+module _ (k : ℕ) (h : k < 255) where
+  places : T (both (eqb (getD powerList (getD logList (suc k) 0) 0) (suc k)) (eqb (getD logList (getD powerList k 0) 0) k))
+  unfolding logs-test
+  places =
+      both-right (ltb (getD logList (suc k) 0) 255)
+      (both (eqb (getD powerList (getD logList (suc k) 0) 0) (suc k)) (eqb (getD logList (getD powerList k 0) 0) k)) (all-at 255 logs-test logs-tested k h)
 
-power-back : (k : ℕ) → k < 255 → getD logList (power α k) 0 ≡ k
-power-back k h =
-    ap (λ (x : ℕ). getD logList x 0) (sym (powers-right k (omega arith)))
-    ∙ equal-below 255 (λ k. getD logList (getD powerList k 0) 0) (λ k. k) logs-back k h
+  small : getD logList (suc k) 0 < 255
+  unfolding logs-test
+  small =
+      ltb→lt (getD logList (suc k) 0) 255
+      (both-left (ltb (getD logList (suc k) 0) 255)
+      (both (eqb (getD powerList (getD logList (suc k) 0) 0) (suc k)) (eqb (getD logList (getD powerList k 0) 0) k)) (all-at 255 logs-test logs-tested k h))
+
+  place : power α (getD logList (suc k) 0) ≡ suc k
+  place =
+      sym (powers-right (getD logList (suc k) 0) (omega (arith, small)))
+      ∙ eqb→eq (getD powerList (getD logList (suc k) 0) 0) (suc k)
+      (both-left (eqb (getD powerList (getD logList (suc k) 0) 0) (suc k)) (eqb (getD logList (getD powerList k 0) 0) k) places)
+
+  back : getD logList (power α k) 0 ≡ k
+  back =
+      ap (λ (x : ℕ). getD logList x 0) (sym (powers-right k (omega arith)))
+      ∙ eqb→eq (getD logList (getD powerList k 0) 0) k
+      (both-right (eqb (getD powerList (getD logList (suc k) 0) 0) (suc k)) (eqb (getD logList (getD powerList k 0) 0) k) places)
 
 pub α-distinct : (i j : ℕ) → i < 255 → j < 255 → power α i ≡ power α j → i ≡ j
-α-distinct i j hi hj e = sym (power-back i hi) ∙ ap (λ (x : ℕ). getD logList x 0) e ∙ power-back j hj
+α-distinct i j hi hj e = sym (back i hi) ∙ ap (λ (x : ℕ). getD logList x 0) e ∙ back j hj
 
-module _ (a : ℕ) (h : a < 255) where
-  small : getD logList (suc a) 0 < 255
-  small = bounded-below 255 255 (λ a. getD logList (suc a) 0) logs-small a h
+log-first : (a : ℕ) → a < 255 → getD logList (suc a) 0 ≡ log (suc a)
+unfolding log
+log-first a h =
+    sym
+    (first-at 255 (λ k. eqb (power α k) (suc a)) (getD logList (suc a) 0) (small a h)
+    (record { fails = λ k lower. ne-eqb (power α k) (suc a) (λ e. other k lower (e ∙ sym (place a h))) })
+    (eq-eqb (power α (getD logList (suc a) 0)) (suc a) (place a h)))
+  where
+    other : (k : ℕ) → k < getD logList (suc a) 0 → power α k ≡ power α (getD logList (suc a) 0) → ⊥
+    other k lower e = omega (arith, α-distinct k (getD logList (suc a) 0) (omega (arith, small a h)) (small a h) e)
 
-  right : power α (getD logList (suc a) 0) ≡ suc a
-  right =
-      sym (powers-right (getD logList (suc a) 0) (omega (arith, small)))
-      ∙ equal-below 255 (λ a. getD powerList (getD logList (suc a) 0) 0) suc logs-power a h
-
-  table-log : getD logList (suc a) 0 ≡ log (suc a)
-  unfolding log
-  table-log =
-      sym
-      (first-at 255 (λ k. eqb (power α k) (suc a)) (getD logList (suc a) 0) small
-      (record { fails = λ k lower. ne-eqb (power α k) (suc a) (λ e. other k lower (α-distinct k (getD logList (suc a) 0) (omega (arith, small)) small (e ∙ sym right))) })
-      (eq-eqb (power α (getD logList (suc a) 0)) (suc a) right))
-    where
-      other : (k : ℕ) → k < getD logList (suc a) 0 → k ≡ getD logList (suc a) 0 → ⊥
-      other k lower e = omega arith
-
-table-zero : getD logList 0 0 ≡ log 0
+log-zero : getD logList 0 0 ≡ log 0
 unfolding logList log
-table-zero = refl
+log-zero = refl
 
 logs-right : (a : ℕ) → a < 256 → getD logList a 0 ≡ log a
-logs-right zero h = table-zero
-logs-right (suc a) h = table-log a (omega arith)
+logs-right zero h = log-zero
+logs-right (suc a) h = log-first a (omega arith)
 
 pub logs-table : logList ≡ logTable
 unfolding logList logTable
@@ -136,27 +146,28 @@ pub logs-at : (a : ℕ) → a < 256 → getD logTable a 0 ≡ log a
 unfolding logTable
 logs-at a h = getD-tabulate 256 log a 0 h
 
--- ---- the logarithm of an element other than 0
-
+-- the logarithm of an element other than 0
 pub log-small : (a : ℕ) → 0 < a → a < 256 → log a < 255
 log-small zero h below = absurd (omega arith)
-log-small (suc a) h below = rw (← (table-log a (omega arith))) (small a (omega arith))
+log-small (suc a) h below = rw (← (log-first a (omega arith))) (small a (omega arith))
 
 pub power-log : (a : ℕ) → 0 < a → a < 256 → power α (log a) ≡ a
 power-log zero h below = absurd (omega arith)
-power-log (suc a) h below = ap (power α) (sym (table-log a (omega arith))) ∙ right a (omega arith)
+power-log (suc a) h below = ap (power α) (sym (log-first a (omega arith))) ∙ place a (omega arith)
 
-pub log-one : log 1 ≡ 0
-log-one = α-distinct (log 1) 0 (log-small 1 (omega arith) (omega arith)) (omega arith) (power-log 1 (omega arith) (omega arith) ∙ sym one)
-  where
-    one : power α 0 ≡ 1
-    one = sym (powers-right 0 (omega arith)) ∙ powers-first
+-- ---- single entries
 
-pub log-zero : log 0 ≡ 0
-unfolding log
-log-zero = refl
-
--- the last power in the table is 1 again
-pub α-cycle : power α 255 ≡ 1
+pub powers-last : getD powerTable 255 0 ≡ 1
 unfolding powerList
-α-cycle = sym (powers-right 255 (omega arith))
+powers-last = ap (λ (l : List ℕ). getD l 255 0) (sym powers-table)
+
+pub logs-one : getD logTable 1 0 ≡ 0
+unfolding logList
+logs-one = ap (λ (l : List ℕ). getD l 1 0) (sym logs-table)
+
+pub logs-zero : getD logTable 0 0 ≡ 0
+unfolding logList
+logs-zero = ap (λ (l : List ℕ). getD l 0 0) (sym logs-table)
+
+pub α-cycle : power α 255 ≡ 1
+α-cycle = sym (powers-at 255 (omega arith)) ∙ powers-last

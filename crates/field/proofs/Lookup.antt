@@ -1,12 +1,13 @@
 -- Powers, products and inverses by the two tables: what stands at a place that is computed from logarithms. Assumes nothing.
-use mathlib.Core.Path.{_≡_, sym, ap, ap₂, _∙_}
+use mathlib.Core.Path.{_≡_, refl, sym, ap, ap₂, _∙_}
 use mathlib.Core.List.{List}
 use Prim.Native.Nat.{ℕ, zero, suc, _+_, _*_, _-_, _%_, _^_, _<_, _≤_}
 use native.Mathlib.Nat.{mul-le-mul-right, le-of-lt, mod-lt, zero-lt-suc, add-sub-of-le}
 use native.Mathlib.Decide.{decLt}
 use native.Mathlib.Omega.{arith}
 use borrow.Author.Tests.{lt-ltb, le-ltb, ne-eqb}
-use lib.ListN.{getD}
+use lib.ListN.{getD, set}
+use lib.Seq.{getD-set-other}
 use Rattle.field.specs.Field.{α, product, power, inverse}
 use Rattle.field.specs.Tables.{log, powerTable, logTable, AreTables, powerBy, productBy}
 use Rattle.field.proofs.Product.{product-zero, zero-product}
@@ -45,7 +46,7 @@ power-by k h =
       | no l ↦ rw (le-ltb k 255 (omega arith)) (powers-at (k - 255) (omega arith) ∙ power-wrap k (omega arith))
     ]
 
-pub product-by : (a b : ℕ) → a < 256 → b < 256 → productBy powerTable logTable a b ≡ product a b
+product-by : (a b : ℕ) → a < 256 → b < 256 → productBy powerTable logTable a b ≡ product a b
 unfolding productBy
 product-by zero b ha hb = sym (zero-product b)
 product-by (suc a) zero ha hb = rw (ne-eqb (suc a) 0 (λ e. omega (arith, e))) (sym (product-zero (suc a)))
@@ -63,6 +64,14 @@ module _ (p l : List ℕ) {a b i j : ℕ} (ha : a ≡ 0 → ⊥) (hb : b ≡ 0 �
   pub product-high : 255 ≤ i + j → getD p (i + j - 255) 0 ≡ productBy p l a b
   unfolding productBy powerBy
   product-high h = rw (ne-eqb a 0 ha, ne-eqb b 0 hb, ← ea, ← eb, le-ltb (i + j) 255 h)
+
+-- the entry at 0 of the table of logarithms is not used
+pub log-zero-unused : (p l : List ℕ) (x a b : ℕ) → productBy p (set l 0 x) a b ≡ productBy p l a b
+unfolding productBy
+log-zero-unused p l x zero b = refl
+log-zero-unused p l x (suc a) zero = rw (ne-eqb (suc a) 0 (λ e. omega (arith, e)))
+log-zero-unused p l x (suc a) (suc b) =
+    rw (getD-set-other l 0 (suc a) x 0 (λ e. omega (arith, e)), getD-set-other l 0 (suc b) x 0 (λ e. omega (arith, e)))
 
 -- ---- in tables that are lent
 

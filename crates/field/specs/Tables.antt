@@ -20,7 +20,7 @@ powerTable = tabulate 256 (power α)
 unfoldable pub logTable : List ℕ
 logTable = tabulate 256 log
 
--- two lists that are lent for the tables are these
+-- p and l are the two tables
 pub record AreTables (p l : List ℕ) : Type 0 where
   pub powers : p ≡ powerTable
   pub logs : l ≡ logTable

@@ -11,7 +11,8 @@ use lib.ListN.{length}
 use Rattle.laws.proofs.Xor.{xor-assoc, xor-cancel}
 use Rattle.bits.specs.Bits.{Bits, number}
 use Rattle.sector.specs.Edc.{generator, timesG, MultipleOfG, divided, remainder}
-use Rattle.sector.proofs.Polynomial.{xor-left, xor-equal, xor-scaled, times-zero, times-one, times-add, times-scaled, times-low}
+use Rattle.sector.proofs.Xor.{xor-left, xor-equal, xor-scaled}
+use Rattle.sector.proofs.Polynomial.{times-zero, times-one, times-add, times-scaled, times-low}
 
 -- r is the remainder of p(x)
 pub record Leaves (p r : ℕ) : Type 0 where

@@ -15,7 +15,7 @@ use Rattle.sector.specs.Edc.{MultipleOfG, edcOf, edcBytes}
 use Rattle.sector.specs.Scrambling.{scramblingOf, scrambled}
 use Rattle.sector.specs.DataFrame.{dataFrame, sectorFrame, edcRight}
 use Rattle.sector.proofs.Concat.{bytes-equal}
-use Rattle.sector.proofs.Detection.{length-edc, bytes-edc, number-edc, edc-completes, code-completes, complete-is-code}
+use Rattle.sector.proofs.Detection.{length-edc, bytes-edc, number-edc, edc-completes, edc-only, code-completes, complete-is-code}
 use Rattle.sector.proofs.Stream.{length-scrambled, bytes-scrambled, bytes-scrambling, scrambled-twice, scrambled-inj}
 
 -- ---- the parts of a data frame
@@ -55,6 +55,11 @@ module _ (user : List ℕ) (size : length user ≡ 2048) where
   pub frame-multiple : MultipleOfG (number (bitsOf (dataFrame user)))
   unfolding dataFrame
   frame-multiple = edc-completes user
+
+  -- and no other four bytes make them one
+  pub frame-only : (e : List ℕ) → length e ≡ 4 → Bytes e → MultipleOfG (number (bitsOf (user ++ e))) → user ++ e ≡ dataFrame user
+  unfolding dataFrame
+  frame-only e four bytes m = ap (λ (l : List ℕ). user ++ l) (edc-only user e four bytes m)
 
   pub frame-right : edcRight (dataFrame user) ≡ true
   unfolding edcRight

@@ -1,4 +1,5 @@
 -- Laws of sectors.
+pub mod Xor
 pub mod Polynomial
 pub mod Division
 pub mod Concat
@@ -8,4 +9,4 @@ pub mod Quotient
 pub mod Loops
 pub mod Stream
 pub mod Frame
-pub mod Placing
+pub mod Writing

@@ -1,33 +1,13 @@
 -- Polynomials over bits as numbers: products with G(x). Assumes nothing.
-use mathlib.Core.Path.{_≡_, refl, sym, ap, ap₂, _∙_}
+use mathlib.Core.Path.{_≡_, refl, sym, ap, _∙_}
 use Prim.Native.Nat.{ℕ, zero, suc, _+_, _*_, _/_, _%_, _^_, _<_}
 use native.Mathlib.Nat.{mul-comm, mul-assoc}
 use native.Mathlib.Omega.{arith}
 use lib.Arith.{bin-ind}
-use lib.Bits.{bitXor, xor-comm, xor-self, xor-lt, xor-block, xor-shifted}
-use lib.Pow.{pow-pos}
+use lib.Bits.{bitXor, xor-comm, xor-lt, xor-shifted}
 use Rattle.laws.proofs.Xor.{xor-assoc, xor-cancel}
 use Rattle.sector.specs.Edc.{generator, timesG}
-
--- ---- exclusive or
-
-pub xor-left : (a b c : ℕ) → bitXor a (bitXor b c) ≡ bitXor b (bitXor a c)
-xor-left a b c = sym (xor-assoc a b c) ∙ ap (λ (x : ℕ). bitXor x c) (xor-comm a b) ∙ xor-assoc b a c
-
--- twice the same number has no effect
-pub xor-twice : (a b : ℕ) → bitXor a (bitXor a b) ≡ b
-xor-twice a b = sym (xor-assoc a a b) ∙ ap (λ (x : ℕ). bitXor x b) (xor-self a)
-
--- two equal numbers have the exclusive or 0, and no others
-pub xor-equal : (a b : ℕ) → bitXor a b ≡ 0 → a ≡ b
-xor-equal a b e = sym (xor-cancel a b) ∙ ap (λ (x : ℕ). bitXor x b) e
-
-pub xor-scaled : (a b k : ℕ) → bitXor a b * 2 ^ k ≡ bitXor (a * 2 ^ k) (b * 2 ^ k)
-xor-scaled a b k =
-    let whole : (x : ℕ) → x * 2 ^ k + 0 ≡ x * 2 ^ k = λ x. omega arith in
-    sym (ap₂ bitXor (sym (whole a)) (sym (whole b)) ∙ xor-block k a b 0 0 (pow-pos k) (pow-pos k) ∙ whole (bitXor a b))
-
--- ---- products
+use Rattle.sector.proofs.Xor.{xor-left, xor-scaled}
 
 pub times-zero : timesG 0 ≡ 0
 unfolding timesG

@@ -7,9 +7,9 @@ use lib.Bits.{bitXor, xor-comm, xor-self, xor-zero-r, xor-lt, xor-shr}
 use lib.Pow.{pow-pos, split, shr-shr, shr-le}
 use Rattle.laws.proofs.Xor.{xor-assoc, xor-cancel}
 use Rattle.sector.specs.Edc.{timesG, edcOf, fourBytes}
-use Rattle.sector.proofs.Polynomial.{xor-left, xor-twice, xor-equal, xor-scaled}
+use Rattle.sector.proofs.Xor.{xor-left, xor-twice, xor-equal, xor-scaled, raised}
 use Rattle.sector.proofs.Division.{Leaves, leaves-one}
-use Rattle.sector.proofs.Steps.{four-leaves, raised}
+use Rattle.sector.proofs.Steps.{four-leaves}
 
 -- ---- a number and itself k bits lower
 

@@ -6,11 +6,11 @@ use native.Mathlib.Nat.{mod-lt, mod-eq-of-lt}
 use native.Mathlib.Omega.{arith}
 use lib.Bits.{bitXor, xor-comm, xor-self, xor-lt, xor-shifted}
 use lib.ListN.{length}
-use lib.Pow.{pow-pos, split, shl-shr, shr-shr}
+use lib.Pow.{pow-pos}
 use Rattle.laws.proofs.Xor.{xor-assoc}
 use Rattle.bits.specs.Bits.{bitsOf, number}
 use Rattle.sector.specs.Edc.{edcOf, fourBytes}
-use Rattle.sector.proofs.Polynomial.{xor-left, xor-twice, xor-scaled}
+use Rattle.sector.proofs.Xor.{xor-left, xor-twice, xor-scaled, raised}
 use Rattle.sector.proofs.Division.{Leaves, leaves-self, leaves-add, leaves-one, leaves-multiple, multiple-leaves, multiple-scaled}
 use Rattle.sector.proofs.Concat.{number-bytes, number-byte}
 use Rattle.sector.proofs.Detection.{edc-leaves, edc-lt, number-of-four, four-lt, number-behind}
@@ -36,13 +36,6 @@ edc-four-more l e size =
     (subst (λ (p : ℕ). Leaves p (edcOf (fourBytes (bitXor r v)))) whole (leaves-add (over l 32) (four-leaves (bitXor r v) (xor-lt 32 r v (edc-lt l) (four-lt l e size)))))
 
 -- ---- one byte more
-
--- a number, eight bits higher: what is then above 32 bits, and the rest
-pub raised : (r j k : ℕ) → r * 2 ^ k ≡ bitXor (r / 2 ^ j * 2 ^ (k + j)) (r * 2 ^ k % 2 ^ (k + j))
-raised r j k =
-    let top : r * 2 ^ k / 2 ^ (k + j) ≡ r / 2 ^ j = sym (shr-shr (r * 2 ^ k) k j) ∙ ap (λ (y : ℕ). y / 2 ^ j) (shl-shr r k) in
-    let rest : ℕ = r * 2 ^ k % 2 ^ (k + j) in
-    sym (xor-shifted (r / 2 ^ j) (k + j) rest (mod-lt (r * 2 ^ k) (pow-pos (k + j))) ∙ ap (λ (y : ℕ). y * 2 ^ (k + j) + rest) (sym top) ∙ split (r * 2 ^ k) (k + j))
 
 cancel : (a b c d : ℕ) → bitXor (bitXor a (bitXor b d)) (bitXor (bitXor b c) d) ≡ bitXor a c
 cancel a b c d = simp (xor-assoc, xor-comm, xor-left, xor-twice, xor-self)

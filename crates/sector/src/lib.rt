@@ -127,7 +127,7 @@ pub fn scramble(frame: &mut [u8], stream: &[u8])
 }
 
 // The data frame of 2,048 user bytes.
-fn place(user: &[u8], frame: &mut [u8])
+fn fill_frame(user: &[u8], frame: &mut [u8])
     requires { ⌜ (length (now user) ≡ 2048) × (length (now frame) ≡ 2052) ⌝ }
     ensures { λ _. ⌜ now (frame .exit) ≡ dataFrame (now (user .entry)) ⌝ }
 {
@@ -151,7 +151,7 @@ pub fn data_frame(user: &[u8], stream: &[u8], frame: &mut [u8]) -> bool
     if frame.len() != 2052 {
         return false;
     }
-    place(user, frame);
+    fill_frame(user, frame);
     scramble(frame, stream);
     true
 }

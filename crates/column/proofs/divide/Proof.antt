@@ -8,10 +8,10 @@ use Rattle.column.proofs.divide.Statement.{statement}
 use Rattle.column.proofs.divide.Tie as tie
 
 abbrev Inv-loop : tie.InvT-loop
-Inv-loop taps message register₀ powers logs i₀ register i = Divided taps message i register
+Inv-loop generator message register₀ powers logs i₀ register i = Divided generator message i register
 
 abbrev μ-loop : tie.MeasureT-loop
-μ-loop taps message register₀ powers logs i₀ register i = length message - i
+μ-loop generator message register₀ powers logs i₀ register i = length message - i
 
 powers-requires : tie.Need-powers-requires Inv-loop μ-loop
 powers-requires c κs = search needs

@@ -6,10 +6,10 @@ use Rattle.column.proofs.push.Statement.{statement}
 use Rattle.column.proofs.push.Tie as tie
 
 abbrev Inv-loop : tie.InvT-loop
-Inv-loop powers logs taps register₀ byte f last j₀ register j = (j ≤ last) × Moved powers logs taps register₀ byte (f .0) j register
+Inv-loop powers logs generator register₀ byte f last j₀ register j = (j ≤ last) × Moved powers logs generator register₀ byte (f .0) j register
 
 abbrev μ-loop : tie.MeasureT-loop
-μ-loop powers logs taps register₀ byte f last j₀ register j = last - j
+μ-loop powers logs generator register₀ byte f last j₀ register j = last - j
 
 slice-read-t13 : tie.Need-slice-read-t13 Inv-loop μ-loop
 slice-read-t13 c = search needs

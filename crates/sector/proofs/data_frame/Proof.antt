@@ -1,5 +1,5 @@
--- `data_frame` meets its contract, case by case of the lengths (Placing).
-use Rattle.sector.proofs.Placing.{other-user, other-frame, both-lengths}
+-- `data_frame` meets its contract, case by case of the lengths (Writing).
+use Rattle.sector.proofs.Writing.{other-user, other-frame, both-lengths}
 use borrow.Author.Needs.{needs}
 use Rattle.sector.proofs.data_frame.Statement.{statement}
 use Rattle.sector.proofs.data_frame.Tie as tie
@@ -10,8 +10,8 @@ returns c = search (other-user)
 returns-2 : tie.Need-returns-2
 returns-2 c = search (other-frame)
 
-place-requires : tie.Need-place-requires
-place-requires c κs = search needs
+fill-frame-requires : tie.Need-fill-frame-requires
+fill-frame-requires c κs = search needs
 
 scramble-requires : tie.Need-scramble-requires
 scramble-requires c κs = search needs
@@ -24,4 +24,4 @@ returns-3 c = search (both-lengths)
 
 pub data-frame-spec : {M : Type 1} → statement M
 data-frame-spec =
-    tie.close (tie.spec returns returns-2 place-requires scramble-requires same-length returns-3)
+    tie.close (tie.spec returns returns-2 fill-frame-requires scramble-requires same-length returns-3)

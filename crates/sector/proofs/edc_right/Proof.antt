@@ -1,5 +1,5 @@
--- `edc_right` meets its contract: another length, and 2,052 bytes (Placing).
-use Rattle.sector.proofs.Placing.{other-length, compared}
+-- `edc_right` meets its contract: another length, and 2,052 bytes (Writing).
+use Rattle.sector.proofs.Writing.{other-length, compared}
 use borrow.Author.Needs.{needs}
 use Rattle.sector.proofs.edc_right.Statement.{statement}
 use Rattle.sector.proofs.edc_right.Tie as tie

@@ -1,14 +1,14 @@
--- `place` meets its contract: the bytes passed are those of the data frame, then come the four of the code (Placing).
+-- `fill_frame` meets its contract: the bytes passed are those of the data frame, then come the four of the code (Writing).
 use Prim.Native.Nat.{_≤_, _-_}
 use native.Mathlib.Omega.{arith}
 use borrow.Author.Needs.{needs}
 use Rattle.laws.proofs.Fill.{upto-none}
-use Rattle.sector.proofs.Placing.{Placed, placed-more, placed-all, placed-length}
-use Rattle.sector.proofs.place.Statement.{statement}
-use Rattle.sector.proofs.place.Tie as tie
+use Rattle.sector.proofs.Writing.{Written, written-more, written-all, written-length}
+use Rattle.sector.proofs.fill_frame.Statement.{statement}
+use Rattle.sector.proofs.fill_frame.Tie as tie
 
 abbrev Inv-loop : tie.InvT-loop
-Inv-loop user frame₀ k₀ frame k = (k ≤ 2048) × Placed user k frame
+Inv-loop user frame₀ k₀ frame k = (k ≤ 2048) × Written user k frame
 
 abbrev μ-loop : tie.MeasureT-loop
 μ-loop user frame₀ k₀ frame k = 2048 - k
@@ -29,7 +29,7 @@ loop-less : tie.Need-loop-less Inv-loop μ-loop
 loop-less c = search needs
 
 loop-again : tie.Need-loop-again Inv-loop μ-loop
-loop-again c = (omega arith, search (placed-more))
+loop-again c = (omega arith, search (written-more))
 
 edc-requires : tie.Need-edc-requires Inv-loop μ-loop
 edc-requires c κs = search needs
@@ -59,13 +59,13 @@ slice-write-frame-5 : tie.Need-slice-write-frame-5 Inv-loop μ-loop
 slice-write-frame-5 c = search needs
 
 same-length : tie.Need-same-length Inv-loop μ-loop
-same-length c = search (placed-length)
+same-length c = search (written-length)
 
 returns : tie.Need-returns Inv-loop μ-loop
-returns c = search (placed-all)
+returns c = search (written-all)
 
-pub place-spec : {M : Type 1} → statement M
-place-spec =
+pub fill-frame-spec : {M : Type 1} → statement M
+fill-frame-spec =
     tie.close
     (tie.spec
     Inv-loop
