@@ -1,0 +1,6 @@
+-- 17PP modulation, the frame sync, and what is promised of a run of frames.
+pub mod Modulation
+pub mod Bits
+pub mod Sync
+pub mod Stream
+pub mod Gaps

@@ -1,0 +1,1 @@
+// 17PP modulation.
