@@ -1,0 +1,8 @@
+-- The theorems are in Theorems; the other files lead there, and to the proofs of the functions.
+pub mod Tests
+pub mod Bits
+pub mod Words
+pub mod Size
+pub mod Machine
+pub mod Reading
+pub mod Demodulator
