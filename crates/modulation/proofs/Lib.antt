@@ -6,3 +6,9 @@ pub mod Size
 pub mod Machine
 pub mod Reading
 pub mod Demodulator
+pub mod Joined
+pub mod Scan
+pub mod Spacing
+pub mod Streams
+pub mod Limits
+pub mod Unique
