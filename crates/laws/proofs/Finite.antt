@@ -52,3 +52,10 @@ equal-below n f g t k h = eqb→eq (f k) (g k) (all-at n (λ k. eqb (f k) (g k))
 -- a function that stays below a bound
 pub bounded-below : (n bound : ℕ) (f : ℕ → ℕ) → T (all n (λ k. ltb (f k) bound)) → (k : ℕ) → k < n → f k < bound
 bounded-below n bound f t k h = ltb→lt (f k) bound (all-at n (λ k. ltb (f k) bound) t k h)
+
+-- the same in two arguments
+pub equal-below₂ : (m n : ℕ) (f g : ℕ → ℕ → ℕ) → T (all₂ m n (λ a b. eqb (f a b) (g a b))) → (a b : ℕ) → a < m → b < n → f a b ≡ g a b
+equal-below₂ m n f g t a b ha hb = eqb→eq (f a b) (g a b) (all₂-at m n (λ a b. eqb (f a b) (g a b)) t a b ha hb)
+
+pub bounded-below₂ : (m n bound : ℕ) (f : ℕ → ℕ → ℕ) → T (all₂ m n (λ a b. ltb (f a b) bound)) → (a b : ℕ) → a < m → b < n → f a b < bound
+bounded-below₂ m n bound f t a b ha hb = ltb→lt (f a b) bound (all₂-at m n (λ a b. ltb (f a b) bound) t a b ha hb)

@@ -1,0 +1,3 @@
+-- Laws and statements on the three numberings.
+pub mod Judging
+pub mod Statements

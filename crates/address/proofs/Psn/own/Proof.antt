@@ -1,0 +1,16 @@
+-- `Psn::own` meets its contract, from what `judge` and `if_accepted` ensure.
+use borrow.Author.Needs.{needs}
+use Rattle.address.proofs.Psn.own.Statement.{statement}
+use Rattle.address.proofs.Psn.own.Tie as tie
+
+judge-requires : tie.Need-judge-requires
+judge-requires c κs = search needs
+
+if-accepted-requires : tie.Need-if-accepted-requires
+if-accepted-requires c κs = search needs
+
+returns : tie.Need-returns
+returns c = cc
+
+pub own-spec : {M : Type 1} → statement M
+own-spec = tie.close (tie.spec judge-requires if-accepted-requires returns)

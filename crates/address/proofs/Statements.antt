@@ -1,0 +1,85 @@
+-- What is promised of the numberings, on their definitions. Assumes nothing.
+use mathlib.Core.Path.{_≡_, refl, sym, ap, _∙_}
+use mathlib.Core.Bool.{Bool, true, false, _&&_}
+use mathlib.Core.List.{[], _∷_, map}
+use Prim.Native.Nat.{ℕ, _+_, _*_, _-_, _/_, _%_, _<_, _≤_}
+use native.Mathlib.Omega.{arith}
+use borrow.Author.Tests.{eqb-true, eq-eqb, leb-true, le-leb}
+use native.Mathlib.Nat.{mul-mod-right, mul-div-cancel-left}
+use lib.Arith.{digits-mod}
+use lib.Dec.{leb}
+use Rattle.address.specs.Zones.{Zone, zone0, zone1, zone2, within, firstOfCluster}
+use Rattle.address.specs.Judged.{judged, numberOf}
+use Rattle.address.specs.Conversions.{aunOf, paaOf}
+
+-- ---- document 01's examples
+
+-- accepted, refused by 7, refused by 6
+pub examples : map (λ (psn : ℕ). numberOf (judged psn))
+    (0x0010_0000 ∷ 0x0108_9BE0 ∷ 0x02F7_6400 ∷ 0x0508_9BE0 ∷ 0x000F_FFE0 ∷ 0x0108_9C00 ∷ 0x0600_0000 ∷ 0x0010_0010 ∷ 0x0600_0001 ∷ [])
+    ≡ (0 ∷ 0 ∷ 0 ∷ 0 ∷ 7 ∷ 7 ∷ 7 ∷ 6 ∷ 6 ∷ [])
+unfolding judged
+examples = refl
+
+-- the first clusters of the zones (the PAAs that clause 18 names)
+pub first-paas : map paaOf (zone0 .first ∷ zone1 .first ∷ zone2 .first ∷ []) ≡ 0x02_0000 ∷ 0x5E_EC80 ∷ 0x82_0000 ∷ []
+first-paas = refl
+
+-- ---- how many clusters a zone holds
+
+-- the PSNs of the clusters in z are first + 32 k for k below n, and no others
+pub record Holds (z : Zone) (n : ℕ) : Type 0 where
+  pub every : (k : ℕ) → k < n → (firstOfCluster (z .first + 32 * k) ≡ true) × (within z (z .first + 32 * k) ≡ true)
+  pub only : (psn : ℕ) → firstOfCluster psn ≡ true → within z psn ≡ true → ((psn - z .first) / 32 < n) × (psn ≡ z .first + 32 * ((psn - z .first) / 32))
+
+both-true : (a b : Bool) → (a && b) ≡ true → (a ≡ true) × (b ≡ true)
+both-true true b e = (refl, e)
+both-true false b e = let z : _≡_ {A = Bool} false true = e in (cc, cc)
+
+-- a zone that starts at a multiple of 32, 32 f, and ends 32 n - 1 behind it
+holds : (f n : ℕ) → 0 < n → Holds (record { first = 32 * f; last = 32 * f + 32 * n - 1 }) n
+holds f n h =
+    record {
+      every = λ k hk. (
+        eq-eqb ((32 * f + 32 * k) % 32) 0 (ap (λ (x : ℕ). x % 32) {x = 32 * f + 32 * k} {y = 32 * (f + k)} (omega arith) ∙ mul-mod-right 32 (f + k)),
+        rw (le-leb (32 * f) (32 * f + 32 * k) (omega arith), le-leb (32 * f + 32 * k) (32 * f + 32 * n - 1) (omega arith)),
+      );
+      only = λ psn m w.
+          let low : 32 * f ≤ psn = leb-true (32 * f) psn (both-true (leb (32 * f) psn) (leb psn (32 * f + 32 * n - 1)) w .0) in
+          let high : psn ≤ 32 * f + 32 * n - 1 = leb-true psn (32 * f + 32 * n - 1) (both-true (leb (32 * f) psn) (leb psn (32 * f + 32 * n - 1)) w .1) in
+          let multiple : psn % 32 ≡ 0 = eqb-true (psn % 32) 0 m in
+          let whole : psn ≡ 32 * (psn / 32) = omega arith in
+          let shifted : (psn - 32 * f) / 32 ≡ psn / 32 - f = ap (λ (x : ℕ). x / 32) {x = psn - 32 * f} {y = 32 * (psn / 32 - f)} (omega arith) ∙ mul-div-cancel-left (psn / 32 - f) {n = 32} (omega arith) in
+          (omega arith, omega arith);
+    }
+
+pub zone0-clusters : Holds zone0 509_152
+zone0-clusters = holds 0x8000 509_152 (omega arith)
+
+pub zone1-clusters : Holds zone1 509_152
+zone1-clusters = holds 0x17_BB20 509_152 (omega arith)
+
+pub zone2-clusters : Holds zone2 509_152
+zone2-clusters = holds 0x20_8000 509_152 (omega arith)
+
+-- ---- address unit numbers
+
+-- the AUN of a cluster's unit is the PSN plus two for each unit before it
+pub aun-is : (psn unit : ℕ) → psn % 32 ≡ 0 → aunOf psn unit ≡ psn + 2 * unit
+aun-is psn unit m = omega arith
+
+-- the bits that 13.9.2.3 names: AU31 to AU5, AU4 to AU1, AU0
+pub aun-bits : (psn unit : ℕ) → unit < 16 → (aunOf psn unit / 32 ≡ psn / 32) × (aunOf psn unit / 2 % 16 ≡ unit) × (aunOf psn unit % 2 ≡ 0)
+aun-bits psn unit h =
+    let halved : aunOf psn unit / 2 ≡ psn / 32 * 16 + unit = omega arith in
+    (omega arith, ap (λ (x : ℕ). x % 16) halved ∙ digits-mod (psn / 32) h, ap (λ (x : ℕ). x % 2) {x = aunOf psn unit} {y = 2 * (psn / 32 * 16 + unit)} (omega arith) ∙ mul-mod-right 2 (psn / 32 * 16 + unit))
+
+-- the AUNs that the standard prints: the first of zones 0 and 2, the last of zone 1
+pub printed-auns : (aunOf 0x0010_0000 0 ≡ 0x0010_0000) × (aunOf 0x0410_0000 0 ≡ 0x0410_0000) × (aunOf 0x03EF_FFE0 15 ≡ 0x03EF_FFFE)
+printed-auns = (refl, refl, refl)
+
+-- equal AUNs mean the same cluster and the same unit
+pub aun-inj : (p q s t : ℕ) → p % 32 ≡ 0 → q % 32 ≡ 0 → s < 16 → t < 16 → aunOf p s ≡ aunOf q t → (p ≡ q) × (s ≡ t)
+aun-inj p q s t hp hq hs ht e =
+    let cluster : p / 32 ≡ q / 32 = sym (aun-bits p s hs .0) ∙ ap (λ (x : ℕ). x / 32) e ∙ aun-bits q t ht .0 in
+    (omega arith, sym (aun-bits p s hs .1) ∙ ap (λ (x : ℕ). x / 2 % 16) e ∙ aun-bits q t ht .1)

@@ -1,0 +1,39 @@
+-- Address unit numbers (AUN, 13.9.2.3), groove addresses (PAA, Figure 90), and what the conversions answer.
+-- A value is 0 where its input is refused.
+use mathlib.Core.Bool.{cond}
+use Prim.Native.Nat.{ℕ, _+_, _*_, _/_, _%_}
+use lib.Dec.{leb, eqb}
+use Rattle.address.specs.declared.Judged.{Judged}
+use Rattle.address.specs.declared.Judged.the-variants.{NoMultiple}
+use Rattle.address.specs.declared.PsnAnswer.{PsnAnswer}
+use Rattle.address.specs.declared.AunAnswer.{AunAnswer}
+use Rattle.address.specs.declared.PaaAnswer.{PaaAnswer}
+use Rattle.address.specs.Judged.{judged, ifAccepted}
+
+-- AU31 to AU5 are PS31 to PS5, AU4 to AU1 count the address units of the cluster, AU0 is ZERO
+abbrev pub aunOf : ℕ → ℕ → ℕ
+aunOf psn unit = psn / 32 * 32 + unit * 2
+
+-- the PAA of the cluster's first word
+abbrev pub paaOf : ℕ → ℕ
+paaOf psn = psn / 8
+
+-- PSN to PAA
+unfoldable pub psnToPaa : ℕ → PaaAnswer
+psnToPaa psn = record { judged = judged psn; paa = record { 0 = ifAccepted (judged psn) (paaOf psn) } }
+
+-- PSN and address unit to AUN; 0 for a unit above 15
+unfoldable pub psnToAun : ℕ → ℕ → AunAnswer
+psnToAun psn unit = record { judged = judged psn; aun = record { 0 = cond (leb unit 15) (ifAccepted (judged psn) (aunOf psn unit)) 0 } }
+
+-- a judgement, with the PSN that it accepts
+abbrev pub psnAnswer : Judged → ℕ → PsnAnswer
+psnAnswer j psn = record { judged = j; psn = record { 0 = ifAccepted j psn } }
+
+-- PAA to PSN: that of the cluster whose first word has the PAA
+unfoldable pub paaToPsn : ℕ → PsnAnswer
+paaToPsn paa = psnAnswer (judged (8 * paa)) (8 * paa)
+
+-- AUN to the PSN of its cluster; 6 where AU0 is ONE
+unfoldable pub aunToPsn : ℕ → PsnAnswer
+aunToPsn aun = psnAnswer (cond (eqb (aun % 2) 0) (judged (aun / 32 * 32)) NoMultiple) (aun / 32 * 32)

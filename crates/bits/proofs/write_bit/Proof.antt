@@ -1,0 +1,17 @@
+-- `write_bit` meets its contract: a position is a byte and a place in it (Write).
+use Rattle.bits.proofs.Write.{bit-written}
+use borrow.Author.Needs.{needs}
+use Rattle.bits.proofs.write_bit.Statement.{statement}
+use Rattle.bits.proofs.write_bit.Tie as tie
+
+put-bit-requires : tie.Need-put-bit-requires
+put-bit-requires c κs = search needs
+
+same-length : tie.Need-same-length
+same-length c = search needs
+
+returns : tie.Need-returns
+returns c = search (bit-written)
+
+pub write-bit-spec : {M : Type 1} → statement M
+write-bit-spec = tie.close (tie.spec put-bit-requires same-length returns)

@@ -1,0 +1,3 @@
+-- The bits of bytes.
+pub mod Bits
+pub mod Step

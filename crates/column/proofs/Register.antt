@@ -1,0 +1,114 @@
+-- The register of the division, in loops: place by place as a byte goes in, and byte by byte over the message. Assumes nothing.
+use mathlib.Core.Path.{_≡_, refl, sym, ap, ap₂, _∙_}
+use mathlib.Core.List.{List, [], _∷_, _++_}
+use Prim.Native.Nat.{ℕ, _+_, _<_, _≤_}
+use native.Mathlib.Numerals.{add-one}
+use native.Mathlib.Omega.{arith}
+use lib.ListN.{length, getD, set, take, drop, List·getD-eq-default}
+use lib.Seq.{take-suc, take-all, getD-set-other}
+use Rattle.laws.specs.Tabulate.{tabulate}
+use Rattle.laws.proofs.Tabulate.{length-tabulate, is-tabulate}
+use Rattle.laws.proofs.Fill.{Upto, upto-none, upto-more, upto-all}
+use Rattle.field.specs.Field.{sum, product}
+use Rattle.field.proofs.Sum.{zero-sum}
+use Rattle.column.specs.Column.{scaled, generator, pushed, remainder, parity}
+use Rattle.column.proofs.Sums.{length-snoc, length-scaled, snoc-at, sums-at, scaled-at}
+use Rattle.column.proofs.Division.{length-pushed}
+
+-- ---- a byte goes in
+
+pushed-at : (g cs : List ℕ) (d i : ℕ) → length g ≡ length cs → 0 < length cs
+    → getD (pushed g cs d) i 0 ≡ sum (getD cs (i + 1) 0) (product (sum d (getD cs 0 0)) (getD g i 0))
+unfolding pushed
+pushed-at g [] d i e h = absurd (omega arith)
+pushed-at g (c ∷ cs) d i e h =
+    sums-at (cs ++ 0 ∷ []) (scaled (sum d c) g) i (length-snoc cs ∙ sym e ∙ sym (length-scaled (sum d c) g))
+    ∙ ap₂ sum (snoc-at cs i ∙ ap (λ (k : ℕ). getD (c ∷ cs) k 0) (sym (add-one i))) (scaled-at (sum d c) g i)
+
+-- f is the byte that comes out, with the one that goes in; the first j places are those after the byte, and the others as they were
+pub record Moved (g was : List ℕ) (byte f j : ℕ) (now : List ℕ) : Type 0 where
+  pub same : length g ≡ length was
+  pub out : f ≡ sum byte (getD was 0 0)
+  pub done : Upto 0 (λ k. getD (pushed g was byte) k 0) (length was) j now
+  pub rest : (k : ℕ) → j ≤ k → getD now k 0 ≡ getD was k 0
+
+pub moved-none : {g was : List ℕ} {byte f : ℕ} → length g ≡ length was → f ≡ sum byte (getD was 0 0) → Moved g was byte f 0 was
+moved-none same out = record { same = same; out = out; done = upto-none refl; rest = λ k h. refl }
+
+-- p is the product of f and the coefficient at j
+module _ {g was now : List ℕ} {byte f j p : ℕ} (times : p ≡ product f (getD g j 0)) (moved : Moved g was byte f j now) where
+  after : j < length was → sum (getD was (j + 1) 0) p ≡ getD (pushed g was byte) j 0
+  after h =
+      ap (sum (getD was (j + 1) 0)) (times ∙ ap (λ (u : ℕ). product u (getD g j 0)) (moved .out))
+      ∙ sym (pushed-at g was byte j (moved .same) (omega arith))
+
+  pub moved-next : {next : ℕ} → j + 1 < length was → next ≡ sum (getD now (j + 1) 0) p → Moved g was byte f (j + 1) (set now j next)
+  moved-next {next} h e =
+      record {
+        same = moved .same;
+        out = moved .out;
+        done = upto-more (omega arith) (e ∙ ap (λ (u : ℕ). sum u p) (moved .rest (j + 1) (omega arith)) ∙ after (omega arith)) (moved .done);
+        rest = λ k h. getD-set-other now j k next 0 (λ q. omega (arith, q)) ∙ moved .rest k (omega arith);
+      }
+
+  -- past the last place the register was 0
+  pub moved-last : j + 1 ≡ length was → set now j p ≡ pushed g was byte
+  moved-last h =
+      upto-all (omega arith) (upto-more (omega arith) right (moved .done))
+      ∙ sym (is-tabulate 0 (length was) (λ k. getD (pushed g was byte) k 0) (pushed g was byte) size (λ k h. refl))
+    where
+      right : p ≡ getD (pushed g was byte) j 0
+      right =
+          sym (zero-sum p) ∙ ap (λ (u : ℕ). sum u p) (sym (List·getD-eq-default was 0 {n = j + 1} (omega arith))) ∙ after (omega arith)
+
+      size : length (pushed g was byte) ≡ length was
+      size = length-pushed g was byte (sym (moved .same)) ∙ moved .same
+
+-- ---- the message goes in
+
+remainder-snoc : (g register ds : List ℕ) (d : ℕ) → remainder g register (ds ++ d ∷ []) ≡ pushed g (remainder g register ds) d
+unfolding remainder
+remainder-snoc g register [] d = refl
+remainder-snoc g register (e ∷ ds) d = remainder-snoc g (pushed g register e) ds d
+
+-- the register holds the remainder of the first i bytes
+pub record Divided (g message : List ℕ) (i : ℕ) (now : List ℕ) : Type 0 where
+  pub within : i ≤ length message
+  pub size : length now ≡ length g
+  pub right : now ≡ remainder g (tabulate (length g) (λ _. 0)) (take i message)
+
+module _ {g : List ℕ} (message entry : List ℕ) (same : length g ≡ length entry) where
+  pub divided-none : {now : List ℕ} → now ≡ tabulate (length entry) (λ _. 0) → Divided g message 0 now
+  unfolding remainder
+  divided-none {now} cleared =
+      record {
+        within = omega arith;
+        size = ap length cleared ∙ length-tabulate (length entry) (λ _. 0) ∙ sym same;
+        right = cleared ∙ ap (λ (n : ℕ). tabulate n (λ _. 0)) (sym same);
+      }
+
+  pub divided-all : {now : List ℕ} {i : ℕ} → length message ≤ i → Divided g message i now
+      → now ≡ remainder g (tabulate (length entry) (λ _. 0)) message
+  divided-all {now} {i} h divided =
+      divided .right ∙ ap₂ (λ (n : ℕ) (l : List ℕ). remainder g (tabulate n (λ _. 0)) l) same (take-all i message h)
+
+pub divided-next : {g message now next : List ℕ} {i : ℕ} → i < length message → next ≡ pushed g now (getD message i 0)
+    → Divided g message i now → Divided g message (i + 1) next
+divided-next {g} {message} {now} {next} {i} h e divided =
+    record {
+      within = omega arith;
+      size = ap length e ∙ length-pushed g now (getD message i 0) (divided .size);
+      right =
+          e
+          ∙ ap (λ (l : List ℕ). pushed g l (getD message i 0)) (divided .right)
+          ∙ sym (remainder-snoc g (tabulate (length g) (λ _. 0)) (take i message) (getD message i 0))
+          ∙ ap (remainder g (tabulate (length g) (λ _. 0))) (sym (ap (λ (k : ℕ). take k message) (add-one i) ∙ take-suc message i 0 h));
+    }
+
+-- ---- the parity, by a table that is the generator without its first coefficient
+
+pub divided-parity : {r n : ℕ} {taps out : List ℕ} (message : List ℕ) → generator r ≡ 1 ∷ taps → n ≡ r → out ≡ remainder taps (tabulate n (λ _. 0)) message
+    → out ≡ parity r message
+unfolding parity
+divided-parity {r} {n} {taps} {out} message e size right =
+    right ∙ ap₂ (λ (k : ℕ) (l : List ℕ). remainder (drop 1 l) (tabulate k (λ _. 0)) message) size (sym e)

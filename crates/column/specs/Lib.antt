@@ -1,0 +1,2 @@
+-- Columns of the Reed-Solomon codes.
+pub mod Column

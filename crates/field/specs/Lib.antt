@@ -1,0 +1,2 @@
+-- The field of 256 elements.
+pub mod Field

@@ -1,0 +1,2 @@
+-- Laws of recording frames.
+pub mod FrameBits
