@@ -1,2 +1,3 @@
 -- Laws of recording frames.
 pub mod FrameBits
+pub mod SyncTables

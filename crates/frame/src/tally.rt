@@ -1,0 +1,1 @@
+// How often each gap length occurs.
