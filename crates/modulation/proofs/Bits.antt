@@ -3,40 +3,22 @@ use mathlib.Core.List.{List, [], _∷_, _++_}
 use mathlib.Core.Path.{_≡_, refl, sym, ap, ap₂, _∙_}
 use Prim.Native.Nat.{ℕ, zero, suc, _+_, _*_, _<_, _/_, _%_}
 use native.Mathlib.Omega.{arith}
-use lib.ListN.{length, getD, length-append}
+use lib.ListN.{length}
+use Rattle.bits.specs.Bits.{Bits, threeOf}
 use Rattle.modulation.specs.Modulation.{Two, d00, d01, d10, d11, twoNumber, Three, m000, m001, m010, m011, m100, m101, m110, m111, threeNumber}
-use Rattle.modulation.specs.Bits.{two, pairs, dataBits, bits, ones}
+use Rattle.modulation.specs.Bits.{two, pairs, dataBits, groups, bits, ones}
 
 -- ---- modulation bits
 
 pub bits-append : (a c : List Three) → bits (a ++ c) ≡ bits a ++ bits c
 bits-append [] c = refl
-bits-append (m ∷ a) c = ap (λ (l : List ℕ). threeNumber m / 4 % 2 ∷ threeNumber m / 2 % 2 ∷ threeNumber m % 2 ∷ l) (bits-append a c)
+bits-append (m ∷ a) c = ap (λ (l : List ℕ). threeOf (threeNumber m) ++ l) (bits-append a c)
 
 pub length-bits : (ms : List Three) → length (bits ms) ≡ 3 * length ms
 length-bits [] = refl
 length-bits (m ∷ ms) = omega (arith, length-bits ms)
 
-unfoldable pub three : ℕ → ℕ → ℕ → Three
-three zero zero zero = m000
-three zero zero (suc z) = m001
-three zero (suc y) zero = m010
-three zero (suc y) (suc z) = m011
-three (suc x) zero zero = m100
-three (suc x) zero (suc z) = m101
-three (suc x) (suc y) zero = m110
-three (suc x) (suc y) (suc z) = m111
-
--- modulation bits three by three
-unfoldable pub groups : List ℕ → List Three
-unfolding three
-groups [] = []
-groups (x ∷ []) = []
-groups (x ∷ y ∷ []) = []
-groups (x ∷ y ∷ z ∷ l) = three x y z ∷ groups l
-
 pub groups-bits : (ms : List Three) → groups (bits ms) ≡ ms
-unfolding groups three
 groups-bits [] = refl
 groups-bits (m000 ∷ ms) = ap (λ (l : List Three). m000 ∷ l) (groups-bits ms)
 groups-bits (m001 ∷ ms) = ap (λ (l : List Three). m001 ∷ l) (groups-bits ms)
@@ -81,14 +63,14 @@ two-number (suc zero) (suc (suc y)) hx hy = absurd (omega arith)
 two-number (suc (suc x)) y hx hy = absurd (omega arith)
 
 -- an even number of bits comes back from its pairs
-pub dataBits-pairs : (l : List ℕ) → length l % 2 ≡ 0 → ((i : ℕ) → getD l i 0 < 2) → dataBits (pairs l) ≡ l
+pub dataBits-pairs : (l : List ℕ) → length l % 2 ≡ 0 → Bits l → dataBits (pairs l) ≡ l
 dataBits-pairs [] e h = refl
 dataBits-pairs (x ∷ []) e h = absurd (omega arith)
 dataBits-pairs (x ∷ y ∷ l) e h =
     ap₂ _∷_ (omega (arith, two-number x y (h 0) (h 1), h 1))
     (ap₂ _∷_ (omega (arith, two-number x y (h 0) (h 1), h 1)) (dataBits-pairs l (omega arith) (λ i. h (suc (suc i)))))
 
-pub pairs-injective : (l k : List ℕ) → length l % 2 ≡ 0 → length k % 2 ≡ 0 → ((i : ℕ) → getD l i 0 < 2) → ((i : ℕ) → getD k i 0 < 2)
+pub pairs-injective : (l k : List ℕ) → length l % 2 ≡ 0 → length k % 2 ≡ 0 → Bits l → Bits k
     → pairs l ≡ pairs k → l ≡ k
 pairs-injective l k el ek hl hk e = sym (dataBits-pairs l el hl) ∙ ap dataBits e ∙ dataBits-pairs k ek hk
 

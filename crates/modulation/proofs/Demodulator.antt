@@ -1,29 +1,19 @@
 -- A demodulator: from the groups of a frame, # of the next sync and the bit before, word by word, the data bits. It gives those that
 -- were modulated; so modulation loses nothing, and whether data bits exist is told by modulating again. Assumes nothing.
-use mathlib.Core.Bool.{Bool, true, false, _||_, false≢true}
+use mathlib.Core.Bool.{Bool, true, _||_, false≢true}
 use mathlib.Core.List.{List, [], _∷_, _++_}
 use mathlib.Core.Logic.{_↔_}
 use mathlib.Core.Path.{_≡_, refl, sym, ap, _∙_}
 use Prim.Native.Nat.{ℕ, zero, suc, _-_, _≤_}
 use native.Mathlib.Nat.{not-suc-le-zero}
 use native.Mathlib.Omega.{arith}
-use lib.ListN.{length, drop, length-append}
+use lib.ListN.{length, drop}
 use lib.Seq.{drop-append-seam}
-use Rattle.modulation.specs.Modulation.{Two, Three, Row, When, always, after-one, after-zero, before-010, at-end, Modulated, terminates, modulate}
+use Rattle.modulation.specs.Modulation.{Two, Three, Row, When, always, after-one, after-zero, before-010, at-end, rowAt, Modulated, terminates, modulate}
+use Rattle.modulation.specs.Demodulator.{agrees, rowRead, demodulateFrom, demodulate}
 use Rattle.modulation.proofs.Size.{size}
-use Rattle.modulation.proofs.Words.{Word, drop-behind, inFront, nextBit, row-size, modulate-none, by-words}
-use Rattle.modulation.proofs.Reading.{rowAt, rowRead, agrees, row-agrees, row-read}
-
--- the groups from some place to the frame's end, of which the first k belong to the word before; b is the bit before
-unfoldable pub demodulateFrom : Bool → List Three → ℕ → Bool → List Two
-demodulateFrom hash [] k b = []
-demodulateFrom hash (g ∷ gs) (suc k) b = demodulateFrom hash gs k b
-demodulateFrom hash (g ∷ gs) zero b =
-    let r = rowAt (rowRead b hash (g ∷ gs)) in
-    r .pairs ++ demodulateFrom hash gs (length (r .groups) - 1) (nextBit r)
-
-abbrev pub demodulate : Bool → Modulated → List Two
-demodulate b f = demodulateFrom (f .terminated) (f .groups) 0 b
+use Rattle.modulation.proofs.Words.{Word, drop-behind, nextBit, row-size, modulate-none, by-words}
+use Rattle.modulation.proofs.Reading.{row-agrees, row-read}
 
 skip : (hash : Bool) (gs : List Three) (k : ℕ) (b : Bool) → demodulateFrom hash gs k b ≡ demodulateFrom hash (drop k gs) 0 b
 unfolding demodulateFrom

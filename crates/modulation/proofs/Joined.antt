@@ -1,15 +1,14 @@
 -- Neighbouring ones, and windows of fifteen bits, of a list that is joined from two. Assumes nothing.
 use mathlib.Core.List.{List, [], _∷_, _++_}
 use mathlib.Core.Logic.{_⊎_, inl, inr}
-use mathlib.Core.Path.{_≡_, refl, sym, ap, _∙_}
+use mathlib.Core.Path.{_≡_, sym, ap, _∙_}
 use Prim.Native.Nat.{ℕ, suc, _+_, _-_, _<_, _≤_}
 use native.Mathlib.Decide.{decLt}
 use native.Mathlib.Omega.{arith}
-use lib.Dec.{eqb, eqb→eq}
-use lib.ListN.{length, getD, take, drop, length-append, length-drop, List·getD-append, List·getD-eq-default}
+use lib.ListN.{length, getD, take, drop, length-drop, List·getD-append, List·getD-eq-default}
 use lib.Seq.{getD-append-add, getD-take, getD-drop, take-append-le, drop-append-le, drop-append-add}
 use Rattle.laws.proofs.Finite.{all, equal-below}
-use Rattle.modulation.specs.Gaps.{Neighbours, NoSeven}
+use Rattle.modulation.specs.Gaps.{Neighbours}
 
 module _ (a t : List ℕ) where
   -- what stands at k of the joined list, behind a

@@ -1,50 +1,20 @@
 -- A word is found again in its modulation bits: of the rows in the table's order it is the first whose groups stand there and whose
 -- condition agrees with what follows, since the group 100 starts no word and # says how the frame ends. Assumes nothing.
-use mathlib.Core.Bool.{Bool, true, false, not, _&&_, _||_, Bool·beq, or-true, or-false}
+use mathlib.Core.Bool.{Bool, true, false, _&&_, _||_, Bool·beq}
 use mathlib.Core.List.{List, [], _∷_, _++_, tail}
 use mathlib.Core.Path.{_≡_, refl, sym, ap, _∙_, subst}
-use Prim.Native.Nat.{ℕ, zero, suc, _<_}
+use Prim.Native.Nat.{ℕ, _<_}
 use native.Mathlib.Omega.{arith}
 use borrow.Author.Tests.{eqb-true}
 use lib.Dec.{T, eqb, eqb→eq}
-use lib.ListN.{length, getD, drop, length-append}
+use lib.ListN.{length, length-append}
 use Rattle.laws.specs.First.{first}
 use Rattle.laws.proofs.Finite.{all, all-at}
-use Rattle.modulation.specs.Modulation.{Two, d00, d01, d10, d11, Three, m000, m001, m010, m100, m101, threeNumber, Row, When, always, after-one, after-zero, before-010, at-end, rows, noRow, starts, startsWith010, allowed, behind, Modulated, terminates, modulateFrom, modulate}
+use Rattle.modulation.specs.Modulation.{Two, d00, d01, d10, d11, twoNumber, Three, m000, m001, m010, m100, m101, Row, When, always, after-one, after-zero, before-010, at-end, rowAt, starts, startsWith010, allowed, Modulated, terminates, modulateFrom, modulate}
+use Rattle.modulation.specs.Demodulator.{agrees, rowRead}
 use Rattle.modulation.proofs.Tests.{and-right, implies, given}
-use Rattle.modulation.proofs.Words.{First, nextBit, inFront, Word, modulate-none}
-use Rattle.modulation.proofs.Machine.{put, plain, substituted, followed, not-followed}
-
--- ---- the test of a row
-
--- the groups xs stand first in gs
-abbrev pub stands : List Three → List Three → Bool
-stands [] gs = true
-stands (x ∷ xs) [] = false
-stands (x ∷ xs) (g ∷ gs) = eqb (threeNumber x) (threeNumber g) && stands xs gs
-
--- gs may follow the word of a row: no word starts with 100, and at the frame's end # says whether the row is a terminating one
-abbrev pub follows : When → Bool → List Three → Bool
-follows w hash [] = Bool·beq (terminates w) hash
-follows w hash (g ∷ gs) = not (eqb (threeNumber g) 0b100)
-
--- the row's own condition, after the bit b and in front of gs
-abbrev pub agrees : When → Bool → List Three → Bool
-agrees always b gs = true
-agrees after-one b gs = b
-agrees after-zero b gs = not b
-agrees before-010 b gs = startsWith010 gs
-agrees at-end b [] = true
-agrees at-end b (g ∷ gs) = false
-
--- the word of row r stands at the front of gs, the groups up to the frame's end, after the bit b
-abbrev pub reads : Bool → Bool → List Three → Row → Bool
-reads b hash gs r =
-    stands (r .groups) gs && (follows (r .when) hash (drop (length (r .groups)) gs) && agrees (r .when) b (drop (length (r .groups)) gs))
-
--- the number of the row of the word at the front of gs; 16 where there is none
-abbrev pub rowRead : Bool → Bool → List Three → ℕ
-rowRead b hash gs = first 16 (λ k. reads b hash gs (getD rows k noRow))
+use Rattle.modulation.proofs.Words.{nextBit, Word, modulate-none}
+use Rattle.modulation.proofs.Machine.{put, plain, followed, not-followed}
 
 -- ---- how the modulation of any pairs starts, after the bit b
 
@@ -110,9 +80,6 @@ starts-as false (d11 ∷ d11 ∷ ds) = s101
 
 -- ---- the word is found again
 
-abbrev pub rowAt : ℕ → Row
-rowAt k = getD rows k noRow
-
 -- the word of row k in front of the groups gs, with which a frame ends under hash, after the bit b
 abbrev readBack : Bool → Bool → List Three → ℕ → ℕ
 readBack b hash gs k = rowRead b (terminates (rowAt k .when) || hash) (rowAt k .groups ++ gs)
@@ -123,7 +90,7 @@ found c b hash gs k =
     implies (Bool·beq (nextBit (rowAt k)) c && agrees (rowAt k .when) b gs) (eqb (readBack b hash gs k) k)
 
 after-zero-found : {hash : Bool} {gs : List Three} → Start false hash gs → (b : Bool) → T (all 16 (found false b hash gs))
-unfolding all first
+unfolding all first rowRead
 after-zero-found none b = elim b [ true ↦ tt | false ↦ tt ]
 after-zero-found s001 b = elim b [ true ↦ tt | false ↦ tt ]
 after-zero-found s010 b = elim b [ true ↦ tt | false ↦ tt ]
@@ -132,7 +99,7 @@ after-zero-found s000-100 b = elim b [ true ↦ tt | false ↦ tt ]
 after-zero-found s000-end b = elim b [ true ↦ tt | false ↦ tt ]
 
 after-one-found : {hash : Bool} {gs : List Three} → Start true hash gs → (b : Bool) → T (all 16 (found true b hash gs))
-unfolding all first
+unfolding all first rowRead
 after-one-found none b = elim b [ true ↦ tt | false ↦ tt ]
 after-one-found s001 b = elim b [ true ↦ tt | false ↦ tt ]
 after-one-found s010 b = elim b [ true ↦ tt | false ↦ tt ]
@@ -177,7 +144,7 @@ module _ (b : Bool) (ds : List Two) (f : Word b ds) where
           empty (f .rest) (omega (arith, eqb-true (length (f .row .pairs)) (length ds) e, ap length (f .split), length-append (f .row .pairs) (f .rest)))
 
   pub row-agrees : agrees (f .row .when) b (modulate (nextBit (f .row)) (f .rest) .groups) ≡ true
-  row-agrees = when-agrees (f .row .when) (and-right (starts (f .row .pairs) ds) _ (f .first .passed))
+  row-agrees = when-agrees (f .row .when) (and-right (starts twoNumber (f .row .pairs) ds) _ (f .first .passed))
 
   -- the number of the row of the word in front is read from the groups
   pub row-read : rowRead b (modulate b ds .terminated) (modulate b ds .groups) ≡ f .first .index

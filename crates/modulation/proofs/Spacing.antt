@@ -2,7 +2,7 @@
 -- state and at each place of the test that can be met there, by a test that is computed; then by induction. Assumes nothing.
 use mathlib.Core.Bool.{Bool, true, false, cond}
 use mathlib.Core.List.{List, [], _∷_, _++_, append-assoc}
-use mathlib.Core.Path.{_≡_, sym, ap, subst, _∙_}
+use mathlib.Core.Path.{sym, ap, subst, _∙_}
 use Prim.Native.Nat.{ℕ}
 use lib.Dec.{T, eqb, leb, ltb, ltb→lt}
 use lib.ListN.{getD}

@@ -1,14 +1,14 @@
 -- Runs of frames: their lengths, and each frame and sync at its place. Assumes nothing.
 use mathlib.Core.Bool.{Bool, false}
-use mathlib.Core.List.{List, [], _++_, append-assoc}
+use mathlib.Core.List.{List, _++_, append-assoc}
 use mathlib.Core.Path.{_≡_, refl, sym, ap, _∙_}
-use Prim.Native.Nat.{ℕ, zero, suc, _+_, _*_, _<_, _≤_}
+use Prim.Native.Nat.{ℕ, zero, suc, _*_, _<_, _≤_}
 use native.Mathlib.Nat.{not-suc-le-zero, le-of-suc-le-suc, eq-or-lt-of-le}
 use mathlib.Core.Logic.{⊎-elim}
 use native.Mathlib.Omega.{arith}
 use lib.ListN.{length, take, drop, length-append}
 use lib.Seq.{take-at, drop-at, take-all, take-take}
-use Rattle.modulation.specs.Modulation.{Two, Three, lastBit}
+use Rattle.modulation.specs.Modulation.{Three, lastBit}
 use Rattle.modulation.specs.Bits.{bits}
 use Rattle.modulation.specs.Sync.{FS, FS0, FS1, FS2, FS3, FS4, FS5, FS6, sync, syncId}
 use Rattle.modulation.specs.Stream.{Recording, modulated, hash, recorded, run, stream, Full}

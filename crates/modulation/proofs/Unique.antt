@@ -1,19 +1,17 @@
 -- A run of frames determines # of its first sync and the data bits of each frame: # stands first in each sync, and says how the frame
 -- before it ended. Assumes nothing.
 use mathlib.Core.Bool.{Bool, true, false}
-use mathlib.Core.List.{List, [], _∷_, _++_}
-use mathlib.Core.Logic.{⊎-elim}
+use mathlib.Core.List.{List, [], _∷_}
 use mathlib.Core.Path.{_≡_, refl, sym, ap, _∙_}
 use Prim.Native.Nat.{ℕ, suc, _*_, _/_, _<_, _≤_}
-use native.Mathlib.Nat.{eq-or-lt-of-le}
 use native.Mathlib.Omega.{arith}
 use lib.Dec.{eqb}
 use lib.ListN.{take, drop}
 use lib.Seq.{drop-at}
-use Rattle.modulation.specs.Modulation.{Three, threeNumber, Modulated, lastBit}
+use Rattle.modulation.specs.Modulation.{Three, threeNumber, lastBit}
 use Rattle.modulation.specs.Bits.{bits}
 use Rattle.modulation.specs.Sync.{FS, sync, syncId}
-use Rattle.modulation.specs.Stream.{Recording, modulated, hash, recorded, run, stream, Full}
+use Rattle.modulation.specs.Stream.{Recording, modulated, hash, stream, Full}
 use Rattle.modulation.proofs.Bits.{bits-injective}
 use Rattle.modulation.proofs.Demodulator.{injective}
 use Rattle.modulation.proofs.Streams.{length-sync, frame-at, sync-at}

@@ -1,17 +1,17 @@
 -- The frame word by word: some row of the table fits at every word's start, a word is its row's bits with the rest's behind them, and
 -- what holds of the empty list and goes over a word holds of every list. Assumes nothing.
-use mathlib.Core.Bool.{Bool, true, false, cond, _&&_, _||_, false≢true}
+use mathlib.Core.Bool.{Bool, true, false, cond, _||_}
 use mathlib.Core.List.{List, [], _∷_, _++_, tail}
-use mathlib.Core.Path.{_≡_, refl, sym, ap, ap₂, _∙_, subst}
-use Prim.Native.Nat.{ℕ, zero, suc, _+_, _-_, _<_, _≤_}
+use mathlib.Core.Path.{_≡_, refl, sym, ap, _∙_, subst}
+use Prim.Native.Nat.{ℕ, zero, suc, _-_, _<_, _≤_}
 use native.Mathlib.Nat.{not-suc-le-zero, le-of-suc-le-suc}
 use native.Mathlib.Omega.{arith}
 use lib.Dec.{T, eqb, eqb→eq, leb, leb→le, ltb, ltb→lt}
 use lib.ListN.{length, getD, drop, length-append}
-use Rattle.laws.proofs.Finite.{both, both-left, both-right, all, all-at}
-use borrow.Author.Tests.{eqb-true}
-use Rattle.modulation.proofs.Tests.{and-left, and-right}
-use Rattle.modulation.specs.Modulation.{Two, d00, d01, d10, d11, twoNumber, Three, Row, rows, noRow, starts, fits, choose, Rest, behind, Modulated, terminates, lastBit, modulateFrom, modulate}
+use Rattle.laws.proofs.Finite.{all, all-at}
+use Rattle.modulation.proofs.Fronts.{two-injective, starts-split}
+use Rattle.modulation.proofs.Tests.{and-left}
+use Rattle.modulation.specs.Modulation.{Two, d00, d01, d10, d11, twoNumber, Row, rows, noRow, starts, fits, choose, Rest, behind, Modulated, terminates, lastBit, modulateFrom, modulate}
 
 -- ---- the first row that passes
 
@@ -83,29 +83,6 @@ row-size {r = r} f = (
   leb→le 1 (length (r .pairs)) (row-fact (λ r. leb 1 (length (r .pairs))) tt f),
 )
 
-two-from : ℕ → Two
-two-from zero = d00
-two-from (suc zero) = d01
-two-from (suc (suc zero)) = d10
-two-from (suc (suc (suc n))) = d11
-
-two-from-number : (d : Two) → two-from (twoNumber d) ≡ d
-unfolding two-from
-two-from-number d00 = refl
-two-from-number d01 = refl
-two-from-number d10 = refl
-two-from-number d11 = refl
-
-pub two-injective : (c d : Two) → twoNumber c ≡ twoNumber d → c ≡ d
-two-injective c d e = sym (two-from-number c) ∙ ap two-from e ∙ two-from-number d
-
-pub starts-split : (xs ds : List Two) → starts xs ds ≡ true → ds ≡ xs ++ drop (length xs) ds
-starts-split [] ds e = refl
-starts-split (x ∷ xs) [] e = absurd (false≢true e)
-starts-split (x ∷ xs) (d ∷ ds) e =
-    ap₂ _∷_ (sym (two-injective x d (eqb-true (twoNumber x) (twoNumber d) (and-left (eqb (twoNumber x) (twoNumber d)) (starts xs ds) e))))
-    (starts-split xs ds (and-right (eqb (twoNumber x) (twoNumber d)) (starts xs ds) e))
-
 -- ---- the word at the front
 
 -- what is left of a list behind its first n elements
@@ -120,7 +97,7 @@ pub modulate-none : (b : Bool) → modulate b [] ≡ record { groups = []; termi
 unfolding modulateFrom
 modulate-none b = refl
 
-skip : (ds : List Two) (k : ℕ) (b : Bool) → modulateFrom ds k b ≡ modulate b (drop k ds)
+pub skip : (ds : List Two) (k : ℕ) (b : Bool) → modulateFrom ds k b ≡ modulate b (drop k ds)
 unfolding modulateFrom
 skip [] zero b = refl
 skip [] (suc k) b = refl
@@ -164,7 +141,7 @@ module _ (b : Bool) (d : Two) (ds : List Two) where
         row = r;
         rest = drop n (d ∷ ds);
         first = chosen;
-        split = starts-split (r .pairs) (d ∷ ds) (and-left (starts (r .pairs) (d ∷ ds)) _ (chosen .passed));
+        split = starts-split twoNumber two-injective (r .pairs) (d ∷ ds) (and-left (starts twoNumber (r .pairs) (d ∷ ds)) _ (chosen .passed));
         behind-is = skip ds (n - 1) (nextBit r) ∙ ap (modulate (nextBit r)) (drop-behind d ds n (row-size chosen .1));
         gives = ap (inFront r) (skip ds (n - 1) (nextBit r) ∙ ap (modulate (nextBit r)) (drop-behind d ds n (row-size chosen .1)));
       }

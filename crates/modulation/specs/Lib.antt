@@ -4,3 +4,6 @@ pub mod Bits
 pub mod Sync
 pub mod Stream
 pub mod Gaps
+pub mod Demodulator
+pub mod Code
+pub mod Ahead

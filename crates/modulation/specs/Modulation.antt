@@ -4,7 +4,7 @@ use mathlib.Core.Bool.{Bool, true, false, not, _&&_, _||_, cond}
 use mathlib.Core.List.{List, [], _∷_, _++_}
 use Prim.Native.Nat.{ℕ, zero, suc, _-_, _%_}
 use lib.Dec.{eqb}
-use lib.ListN.{length}
+use lib.ListN.{length, getD}
 
 -- two data bits
 pub data Two : Type 0 where
@@ -85,11 +85,11 @@ threeNumber m101 = 0b101
 threeNumber m110 = 0b110
 threeNumber m111 = 0b111
 
--- the pairs xs stand first in ds
-abbrev pub starts : List Two → List Two → Bool
-starts [] ds = true
-starts (x ∷ xs) [] = false
-starts (x ∷ xs) (d ∷ ds) = eqb (twoNumber x) (twoNumber d) && starts xs ds
+-- xs stands at the front of l; elements are compared by their numbers
+abbrev pub starts : {A : Type 0} → (A → ℕ) → List A → List A → Bool
+starts n [] l = true
+starts n (x ∷ xs) [] = false
+starts n (x ∷ xs) (y ∷ l) = eqb (n x) (n y) && starts n xs l
 
 abbrev pub startsWith010 : List Three → Bool
 startsWith010 [] = false
@@ -122,10 +122,14 @@ allowed r before-010 b ds rest = startsWith010 (behind r rest .groups)
 allowed r at-end b ds rest = eqb (length (r .pairs)) (length ds)
 
 abbrev pub fits : Row → Bool → List Two → Rest → Bool
-fits r b ds rest = starts (r .pairs) ds && allowed r (r .when) b ds rest
+fits r b ds rest = starts twoNumber (r .pairs) ds && allowed r (r .when) b ds rest
 
 abbrev pub noRow : Row
 noRow = row [] [] always
+
+-- the row tried k-th
+abbrev pub rowAt : ℕ → Row
+rowAt k = getD rows k noRow
 
 -- the first row that passes
 abbrev pub choose : (Row → Bool) → List Row → Row
