@@ -1,3 +1,5 @@
 -- Laws of recording frames.
 pub mod FrameBits
+pub mod Pairs
 pub mod SyncTables
+pub mod Writing

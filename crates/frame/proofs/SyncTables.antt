@@ -1,6 +1,6 @@
 -- The code's tables are those of Figures 39 and 41. Assumes nothing.
 use mathlib.Core.Path.{_≡_, refl, sym, ap, _∙_}
-use mathlib.Core.Bool.{Bool, true, false}
+use mathlib.Core.Bool.{Bool, false}
 use mathlib.Core.List.{List, [], _∷_}
 use Prim.Native.Nat.{ℕ, zero, suc, _+_, _/_, _%_, _<_}
 use native.Mathlib.Nat.{mod-lt, zero-lt-suc}
@@ -8,9 +8,9 @@ use native.Mathlib.Omega.{arith}
 use lib.Dec.{eqb}
 use lib.ListN.{getD}
 use Rattle.laws.proofs.Finite.{all, equal-below, bounded-below}
-use Rattle.modulation.specs.Modulation.{m000, threeNumber, lastBit}
-use Rattle.modulation.specs.Sync.{FS0, sync, syncId, syncNumbers, syncNumber}
-use Rattle.frame.specs.Sync.{fs, fsNumber}
+use Rattle.modulation.specs.Modulation.{lastBit}
+use Rattle.modulation.specs.Sync.{FS, FS0, syncId, syncNumbers, syncNumber}
+use Rattle.frame.specs.Sync.{fs, fsNumber, syncGroup}
 
 -- ---- Figure 41
 
@@ -46,20 +46,24 @@ each-number P p0 p1 p2 p3 p4 p5 p6 (suc (suc (suc (suc (suc (suc (suc k))))))) h
 
 -- the bit behind which the frame's first word stands
 pub end-at : (number : ℕ) → number < 7 → eqb (getD idTable number 0 % 2) 1 ≡ lastBit false (syncId (fs number))
+unfolding fs
 end-at = each-number (λ k. eqb (getD idTable k 0 % 2) 1 ≡ lastBit false (syncId (fs k))) refl refl refl refl refl refl refl
 
 -- # is the first bit of group 0; groups 1 to 7 are the same in each sync; groups 8 and 9 are the ID
-pub body-at : (hash : Bool) (number j : ℕ) → (j ≡ 0 → ⊥) → (j ≡ 8 → ⊥) → (j ≡ 9 → ⊥) → j < 10 → getD bodyTable j 0 ≡ threeNumber (getD (sync hash (fs number)) j m000)
-body-at hash number zero e f g h = absurd (e refl)
-body-at hash number (suc j) e f g h =
-    each-number (λ k. getD bodyTable (suc k) 0 ≡ threeNumber (getD (sync hash (fs number)) (suc k) m000)) refl refl refl refl refl refl refl j (omega arith)
+pub body-at : (hash : Bool) (n : FS) (j : ℕ) → (j ≡ 0 → ⊥) → (j ≡ 8 → ⊥) → (j ≡ 9 → ⊥) → j < 10 → getD bodyTable j 0 ≡ syncGroup n hash j
+unfolding syncGroup
+body-at hash n zero e f g h = absurd (e refl)
+body-at hash n (suc j) e f g h =
+    each-number (λ k. getD bodyTable (suc k) 0 ≡ syncGroup n hash (suc k)) refl refl refl refl refl refl refl j (omega arith)
 
-pub high-at : (hash : Bool) (number j : ℕ) → number < 7 → j ≡ 8 → getD idTable number 0 / 8 ≡ threeNumber (getD (sync hash (fs number)) j m000)
+pub high-at : (hash : Bool) (number j : ℕ) → number < 7 → j ≡ 8 → getD idTable number 0 / 8 ≡ syncGroup (fs number) hash j
+unfolding fs syncGroup
 high-at hash number j h e =
-    each-number (λ k. getD idTable k 0 / 8 ≡ threeNumber (getD (sync hash (fs k)) 8 m000)) refl refl refl refl refl refl refl number h
-    ∙ sym (ap (λ (i : ℕ). threeNumber (getD (sync hash (fs number)) i m000)) e)
+    each-number (λ k. getD idTable k 0 / 8 ≡ syncGroup (fs k) hash 8) refl refl refl refl refl refl refl number h
+    ∙ sym (ap (syncGroup (fs number) hash) e)
 
-pub low-at : (hash : Bool) (number j : ℕ) → number < 7 → j ≡ 9 → getD idTable number 0 % 8 ≡ threeNumber (getD (sync hash (fs number)) j m000)
+pub low-at : (hash : Bool) (number j : ℕ) → number < 7 → j ≡ 9 → getD idTable number 0 % 8 ≡ syncGroup (fs number) hash j
+unfolding fs syncGroup
 low-at hash number j h e =
-    each-number (λ k. getD idTable k 0 % 8 ≡ threeNumber (getD (sync hash (fs k)) 9 m000)) refl refl refl refl refl refl refl number h
-    ∙ sym (ap (λ (i : ℕ). threeNumber (getD (sync hash (fs number)) i m000)) e)
+    each-number (λ k. getD idTable k 0 % 8 ≡ syncGroup (fs k) hash 9) refl refl refl refl refl refl refl number h
+    ∙ sym (ap (syncGroup (fs number) hash) e)

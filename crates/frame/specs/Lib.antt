@@ -2,4 +2,5 @@
 pub mod Sync
 pub mod FrameBits
 pub mod Frame
+pub mod Written
 pub mod Tally

@@ -1,4 +1,5 @@
 use Rattle.frame.proofs.SyncTables.{body-at, high-at, low-at}
+use Rattle.frame.specs.Sync.{fs, syncGroup}
 use borrow.Author.Needs.{needs}
 use Rattle.frame.proofs.sync.sync_group.Statement.{statement}
 use Rattle.frame.proofs.sync.sync_group.Tie as tie
@@ -19,10 +20,12 @@ array-read-result-3 c = search needs
 
 -- src/sync.rt:32:1
 returns : tie.Need-returns
+unfolding syncGroup
 returns c = search needs
 
 -- src/sync.rt:32:1
 returns-2 : tie.Need-returns-2
+unfolding syncGroup
 returns-2 c = search needs
 
 -- src/sync.rt:32:1
@@ -38,7 +41,7 @@ returns-5 : tie.Need-returns-5
 returns-5 c =
     let args = c .before .args in
     let none = c .match .rest in
-    body-at (args .hash) (args .number) (args .j) (none .0 .0 .1) (none .0 .1) (none .1) (c .before .pre .1)
+    body-at (args .hash) (fs (args .number)) (args .j) (none .0 .0 .1) (none .0 .1) (none .1) (c .before .pre .1)
 
 pub sync-group-spec : {M : Type 1} → statement M
 sync-group-spec =

@@ -1,5 +1,5 @@
 use mathlib.Core.Path.{sym, _∙_}
-use Rattle.frame.proofs.FrameBits.{dc-bit, data-bit}
+use Rattle.frame.proofs.FrameBits.{dc-read, data-read}
 use borrow.Author.Needs.{needs}
 use Rattle.frame.proofs.weave.frame_bit.Statement.{statement}
 use Rattle.frame.proofs.weave.frame_bit.Tie as tie
@@ -33,7 +33,7 @@ cast-result-2 c = search needs
 
 -- src/weave.rt:14:9
 returns : tie.Need-returns
-returns c = let args = c .before .before .args in sym (dc-bit (args .row .now) (args .dc) (args .j) (c .if1 .taken))
+returns c = let args = c .before .before .args in dc-read (args .row .now) (args .dc) (args .j) (c .if1 .taken)
 
 -- src/weave.rt:16:25
 sub-read-bit : tie.Need-sub-read-bit
@@ -47,7 +47,7 @@ read-bit-requires c κs = search needs
 returns-2 : tie.Need-returns-2
 returns-2 c =
     let args = c .before .before .before .args in
-    c .read-bit .ensures ∙ sym (data-bit (args .row .now) (args .dc) (args .j) (c .before .if1 .left))
+    data-read (args .row .now) (args .dc) (args .j) (c .read-bit .result) (c .before .if1 .left) (c .read-bit .ensures)
 
 pub frame-bit-spec : {M : Type 1} → statement M
 frame-bit-spec =
