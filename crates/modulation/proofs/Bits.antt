@@ -1,0 +1,85 @@
+-- Laws of bits, pairs and groups: lengths, and that each is had back from the other. Assumes nothing.
+use mathlib.Core.List.{List, [], _∷_, _++_}
+use mathlib.Core.Path.{_≡_, refl, sym, ap, ap₂, _∙_}
+use Prim.Native.Nat.{ℕ, zero, suc, _+_, _*_, _<_, _/_, _%_}
+use native.Mathlib.Omega.{arith}
+use lib.ListN.{length}
+use Rattle.bits.specs.Bits.{Bits, threeOf}
+use Rattle.modulation.specs.Modulation.{Two, d00, d01, d10, d11, twoNumber, Three, m000, m001, m010, m011, m100, m101, m110, m111, threeNumber}
+use Rattle.modulation.specs.Bits.{two, pairs, dataBits, groups, bits, ones}
+
+-- ---- modulation bits
+
+pub bits-append : (a c : List Three) → bits (a ++ c) ≡ bits a ++ bits c
+bits-append [] c = refl
+bits-append (m ∷ a) c = ap (λ (l : List ℕ). threeOf (threeNumber m) ++ l) (bits-append a c)
+
+pub length-bits : (ms : List Three) → length (bits ms) ≡ 3 * length ms
+length-bits [] = refl
+length-bits (m ∷ ms) = omega (arith, length-bits ms)
+
+pub groups-bits : (ms : List Three) → groups (bits ms) ≡ ms
+groups-bits [] = refl
+groups-bits (m000 ∷ ms) = ap (λ (l : List Three). m000 ∷ l) (groups-bits ms)
+groups-bits (m001 ∷ ms) = ap (λ (l : List Three). m001 ∷ l) (groups-bits ms)
+groups-bits (m010 ∷ ms) = ap (λ (l : List Three). m010 ∷ l) (groups-bits ms)
+groups-bits (m011 ∷ ms) = ap (λ (l : List Three). m011 ∷ l) (groups-bits ms)
+groups-bits (m100 ∷ ms) = ap (λ (l : List Three). m100 ∷ l) (groups-bits ms)
+groups-bits (m101 ∷ ms) = ap (λ (l : List Three). m101 ∷ l) (groups-bits ms)
+groups-bits (m110 ∷ ms) = ap (λ (l : List Three). m110 ∷ l) (groups-bits ms)
+groups-bits (m111 ∷ ms) = ap (λ (l : List Three). m111 ∷ l) (groups-bits ms)
+
+pub bits-injective : (a c : List Three) → bits a ≡ bits c → a ≡ c
+bits-injective a c e = sym (groups-bits a) ∙ ap groups e ∙ groups-bits c
+
+-- ---- data bits
+
+pub length-dataBits : (ds : List Two) → length (dataBits ds) ≡ 2 * length ds
+length-dataBits [] = refl
+length-dataBits (d ∷ ds) = omega (arith, length-dataBits ds)
+
+pub length-pairs : (l : List ℕ) → length (pairs l) ≡ length l / 2
+length-pairs [] = refl
+length-pairs (x ∷ []) = refl
+length-pairs (x ∷ y ∷ l) = omega (arith, length-pairs l)
+
+two-dataBits : (d : Two) → two (twoNumber d / 2) (twoNumber d % 2) ≡ d
+two-dataBits d00 = refl
+two-dataBits d01 = refl
+two-dataBits d10 = refl
+two-dataBits d11 = refl
+
+pub pairs-dataBits : (ds : List Two) → pairs (dataBits ds) ≡ ds
+pairs-dataBits [] = refl
+pairs-dataBits (d ∷ ds) = ap₂ _∷_ (two-dataBits d) (pairs-dataBits ds)
+
+pub two-number : (x y : ℕ) → x < 2 → y < 2 → twoNumber (two x y) ≡ 2 * x + y
+two-number zero zero hx hy = refl
+two-number zero (suc zero) hx hy = refl
+two-number zero (suc (suc y)) hx hy = absurd (omega arith)
+two-number (suc zero) zero hx hy = refl
+two-number (suc zero) (suc zero) hx hy = refl
+two-number (suc zero) (suc (suc y)) hx hy = absurd (omega arith)
+two-number (suc (suc x)) y hx hy = absurd (omega arith)
+
+-- an even number of bits comes back from its pairs
+pub dataBits-pairs : (l : List ℕ) → length l % 2 ≡ 0 → Bits l → dataBits (pairs l) ≡ l
+dataBits-pairs [] e h = refl
+dataBits-pairs (x ∷ []) e h = absurd (omega arith)
+dataBits-pairs (x ∷ y ∷ l) e h =
+    ap₂ _∷_ (omega (arith, two-number x y (h 0) (h 1), h 1))
+    (ap₂ _∷_ (omega (arith, two-number x y (h 0) (h 1), h 1)) (dataBits-pairs l (omega arith) (λ i. h (suc (suc i)))))
+
+pub pairs-injective : (l k : List ℕ) → length l % 2 ≡ 0 → length k % 2 ≡ 0 → Bits l → Bits k
+    → pairs l ≡ pairs k → l ≡ k
+pairs-injective l k el ek hl hk e = sym (dataBits-pairs l el hl) ∙ ap dataBits e ∙ dataBits-pairs k ek hk
+
+-- ---- ones
+
+pub ones-append : (a c : List ℕ) → ones (a ++ c) ≡ ones a + ones c
+ones-append [] c = omega arith
+ones-append (x ∷ a) c = omega (arith, ones-append a c)
+
+pub dataBits-append : (a c : List Two) → dataBits (a ++ c) ≡ dataBits a ++ dataBits c
+dataBits-append [] c = refl
+dataBits-append (d ∷ a) c = ap (λ (l : List ℕ). twoNumber d / 2 ∷ twoNumber d % 2 ∷ l) (dataBits-append a c)

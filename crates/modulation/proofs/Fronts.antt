@@ -1,0 +1,147 @@
+-- What stands at the front of a list, element by element, and by the number that its bits make. Assumes nothing.
+use mathlib.Core.Bool.{true, _&&_, false≢true}
+use mathlib.Core.List.{List, [], _∷_, _++_}
+use mathlib.Core.Path.{_≡_, refl, sym, ap, ap₂, _∙_}
+use Prim.Native.Nat.{ℕ, zero, suc, _+_, _*_, _/_, _%_, _^_, _<_}
+use native.Mathlib.Omega.{arith}
+use borrow.Author.Tests.{eqb-true, eq-eqb, leb-true, le-leb}
+use lib.Dec.{eqb, leb}
+use lib.ListN.{length, getD, take, drop, length-append, take-append-drop}
+use lib.Pow.{pow-add}
+use lib.Seq.{take-append-seam, length-take-le, take-suc}
+use Rattle.bits.specs.Bits.{Bits, number, bitsOfNumber}
+use Rattle.bits.proofs.Number.{bits-of-number}
+use Rattle.modulation.specs.Modulation.{Two, d00, d01, d10, d11, twoNumber, Three, m000, m001, m010, m011, m100, m101, m110, m111, threeNumber, starts}
+use Rattle.modulation.specs.Bits.{two, pairs, dataBits, three, groups, bits}
+use Rattle.modulation.proofs.Tests.{and-left, and-right, and-true, same-tests}
+use Rattle.modulation.proofs.Bits.{bits-append, dataBits-append, pairs-dataBits, groups-bits, length-dataBits, length-bits}
+
+-- ---- pairs and groups are determined by their numbers
+
+two-back : (d : Two) → two (twoNumber d / 2) (twoNumber d % 2) ≡ d
+two-back d00 = refl
+two-back d01 = refl
+two-back d10 = refl
+two-back d11 = refl
+
+pub two-injective : (c d : Two) → twoNumber c ≡ twoNumber d → c ≡ d
+two-injective c d e = sym (two-back c) ∙ ap (λ (n : ℕ). two (n / 2) (n % 2)) e ∙ two-back d
+
+three-back : (m : Three) → three (threeNumber m / 4 % 2) (threeNumber m / 2 % 2) (threeNumber m % 2) ≡ m
+three-back m000 = refl
+three-back m001 = refl
+three-back m010 = refl
+three-back m011 = refl
+three-back m100 = refl
+three-back m101 = refl
+three-back m110 = refl
+three-back m111 = refl
+
+pub three-injective : (l m : Three) → threeNumber l ≡ threeNumber m → l ≡ m
+three-injective l m e = sym (three-back l) ∙ ap (λ (n : ℕ). three (n / 4 % 2) (n / 2 % 2) (n % 2)) e ∙ three-back m
+
+-- ---- element by element
+
+module _ {A : Type 0} (n : A → ℕ) (injective : (x y : A) → n x ≡ n y → x ≡ y) where
+  pub starts-split : (xs l : List A) → starts n xs l ≡ true → l ≡ xs ++ drop (length xs) l
+  starts-split [] l e = refl
+  starts-split (x ∷ xs) [] e = absurd (false≢true e)
+  starts-split (x ∷ xs) (y ∷ l) e =
+      ap₂ _∷_ (sym (injective x y (eqb-true (n x) (n y) (and-left (eqb (n x) (n y)) (starts n xs l) e))))
+      (starts-split xs l (and-right (eqb (n x) (n y)) (starts n xs l) e))
+
+  starts-append : (xs t : List A) → starts n xs (xs ++ t) ≡ true
+  starts-append [] t = refl
+  starts-append (x ∷ xs) t = rw (eq-eqb (n x) (n x) refl, starts-append xs t)
+
+  -- ---- by the number of the bits
+  module _ (code : List A → List ℕ) (width : ℕ) (decode : List ℕ → List A) (back : (l : List A) → decode (code l) ≡ l)
+      (code-length : (l : List A) → length (code l) ≡ width * length l) (code-bits : (l : List A) → Bits (code l)) where
+    number-injective : (l m : List A) → length l ≡ length m → number (code l) ≡ number (code m) → l ≡ m
+    number-injective l m e h =
+        sym (back l)
+        ∙ ap decode (sym (bits-of-number (code l) (code-bits l)) ∙ ap₂ bitsOfNumber (code-length l ∙ ap (λ (k : ℕ). width * k) e ∙ sym (code-length m)) h ∙ bits-of-number (code m) (code-bits m))
+        ∙ back m
+
+    pub starts-number : (xs l : List A)
+        → starts n xs l ≡ (leb (length xs) (length l) && eqb (number (code (take (length xs) l))) (number (code xs)))
+    starts-number xs l = same-tests (starts n xs l) (leb (length xs) (length l) && eqb (number (code (take (length xs) l))) (number (code xs))) there back-again
+      where
+        there : starts n xs l ≡ true → (leb (length xs) (length l) && eqb (number (code (take (length xs) l))) (number (code xs))) ≡ true
+        there e =
+            let split = starts-split xs l e in
+            let front : take (length xs) l ≡ xs = ap (take (length xs)) split ∙ take-append-seam xs (drop (length xs) l) in
+            and-true (leb (length xs) (length l)) _
+            (le-leb (length xs) (length l) (omega (arith, ap length split, length-append xs (drop (length xs) l))))
+            (eq-eqb (number (code (take (length xs) l))) (number (code xs)) (ap (λ (k : List A). number (code k)) front))
+
+        back-again : (leb (length xs) (length l) && eqb (number (code (take (length xs) l))) (number (code xs))) ≡ true → starts n xs l ≡ true
+        back-again e =
+            let within = leb-true (length xs) (length l) (and-left (leb (length xs) (length l)) _ e) in
+            let same = eqb-true (number (code (take (length xs) l))) (number (code xs)) (and-right (leb (length xs) (length l)) _ e) in
+            let front = number-injective (take (length xs) l) xs (length-take-le (length xs) l within) same in
+            ap (starts n xs) (sym (take-append-drop (length xs) l) ∙ ap (λ (k : List A). k ++ drop (length xs) l) front) ∙ starts-append xs (drop (length xs) l)
+
+bits-dataBits : (ds : List Two) → Bits (dataBits ds)
+bits-dataBits [] i = omega arith
+bits-dataBits (d00 ∷ ds) zero = omega arith
+bits-dataBits (d01 ∷ ds) zero = omega arith
+bits-dataBits (d10 ∷ ds) zero = omega arith
+bits-dataBits (d11 ∷ ds) zero = omega arith
+bits-dataBits (d ∷ ds) (suc zero) = omega arith
+bits-dataBits (d ∷ ds) (suc (suc i)) = bits-dataBits ds i
+
+pub bits-groups : (ms : List Three) → Bits (bits ms)
+bits-groups [] i = omega arith
+bits-groups (m ∷ ms) zero = omega arith
+bits-groups (m ∷ ms) (suc zero) = omega arith
+bits-groups (m ∷ ms) (suc (suc zero)) = omega arith
+bits-groups (m ∷ ms) (suc (suc (suc i))) = bits-groups ms i
+
+pub pairs-start : (xs ds : List Two) → starts twoNumber xs ds ≡ (leb (length xs) (length ds) && eqb (number (dataBits (take (length xs) ds))) (number (dataBits xs)))
+pairs-start = starts-number twoNumber two-injective dataBits 2 pairs pairs-dataBits length-dataBits bits-dataBits
+
+pub groups-start : (xs gs : List Three) → starts threeNumber xs gs ≡ (leb (length xs) (length gs) && eqb (number (bits (take (length xs) gs))) (number (bits xs)))
+groups-start = starts-number threeNumber three-injective bits 3 groups groups-bits length-bits bits-groups
+
+-- ---- one pair or group more
+
+number-append : (a b : List ℕ) → number (a ++ b) ≡ number a * 2 ^ length b + number b
+unfolding number
+number-append [] b = omega arith
+number-append (x ∷ a) b =
+    omega (arith, number-append a b, ap (λ (k : ℕ). x * 2 ^ k) (length-append a b) ∙ ap (λ (k : ℕ). x * k) (pow-add 2 (length a) (length b)))
+
+two-alone : (d : Two) → number (dataBits (d ∷ [])) ≡ twoNumber d
+unfolding number
+two-alone d00 = refl
+two-alone d01 = refl
+two-alone d10 = refl
+two-alone d11 = refl
+
+three-alone : (m : Three) → number (bits (m ∷ [])) ≡ threeNumber m
+unfolding number
+three-alone m000 = refl
+three-alone m001 = refl
+three-alone m010 = refl
+three-alone m011 = refl
+three-alone m100 = refl
+three-alone m101 = refl
+three-alone m110 = refl
+three-alone m111 = refl
+
+pub pair-more : (n : ℕ) (ds : List Two) → n < length ds → number (dataBits (take (suc n) ds)) ≡ 4 * number (dataBits (take n ds)) + twoNumber (getD ds n d00)
+pair-more n ds h =
+    let last = getD ds n d00 ∷ [] in
+    ap (λ (l : List Two). number (dataBits l)) (take-suc ds n d00 h)
+    ∙ ap number (dataBits-append (take n ds) last)
+    ∙ number-append (dataBits (take n ds)) (dataBits last)
+    ∙ omega (arith, two-alone (getD ds n d00))
+
+pub group-more : (n : ℕ) (gs : List Three) → n < length gs → number (bits (take (suc n) gs)) ≡ 8 * number (bits (take n gs)) + threeNumber (getD gs n m000)
+group-more n gs h =
+    let last = getD gs n m000 ∷ [] in
+    ap (λ (l : List Three). number (bits l)) (take-suc gs n m000 h)
+    ∙ ap number (bits-append (take n gs) last)
+    ∙ number-append (bits (take n gs)) (bits last)
+    ∙ omega (arith, three-alone (getD gs n m000))

@@ -1,0 +1,21 @@
+-- The theorems are in Theorems; the other files lead there, and to the proofs of the functions.
+pub mod Tests
+pub mod Bits
+pub mod Fronts
+pub mod Words
+pub mod Rows
+pub mod Ahead
+pub mod Next
+pub mod Fitting
+pub mod Writing
+pub mod Modulating
+pub mod Size
+pub mod Machine
+pub mod Reading
+pub mod Demodulator
+pub mod Joined
+pub mod Scan
+pub mod Spacing
+pub mod Streams
+pub mod Limits
+pub mod Unique

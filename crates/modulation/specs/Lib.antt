@@ -1,0 +1,9 @@
+-- 17PP modulation, the frame sync, and what is promised of a run of frames.
+pub mod Modulation
+pub mod Bits
+pub mod Sync
+pub mod Stream
+pub mod Gaps
+pub mod Demodulator
+pub mod Code
+pub mod Ahead
