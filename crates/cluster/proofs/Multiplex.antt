@@ -151,3 +151,17 @@ multiplexed-ext ldc ldc′ block agree = tabulate-ext 0 76880 (λ k. rowByte ldc
           | yes e ↦ rw (eq-eqb (k % 155 % 39) 38 e)
           | no e ↦ rw (ne-eqb (k % 155 % 39) 38 e) (agree (k / 155) (k % 155 - k % 155 / 39) (omega arith) (omega arith))
         ]
+
+-- what is multiplexed from bytes is bytes
+pub bytes-multiplexed : (ldc : ℕ → ℕ → ℕ) (block : List (List ℕ)) → ((row column : ℕ) → row < 496 → column < 152 → ldc row column < 256) → Block block → Bytes (multiplexed ldc block)
+unfolding multiplexed
+bytes-multiplexed ldc block bytes is = bytes-tabulate 76880 (λ k. rowByte ldc block (k / 155) (k % 155)) byte
+  where
+    byte : (k : ℕ) → k < 76880 → rowByte ldc block (k / 155) (k % 155) < 256
+    byte k h =
+        elim (ℕ-discrete (k % 155 % 39) 38) [
+          | yes e ↦
+              rw (eq-eqb (k % 155 % 39) 38 e)
+              (is .bytes (Bis.wordAt (k / 155) (k % 155 / 39)) (bis-word-lt (k / 155) (k % 155 / 39) (omega arith) (omega arith)) (Bis.byteAt (k / 155)))
+          | no e ↦ rw (ne-eqb (k % 155 % 39) 38 e) (bytes (k / 155) (k % 155 - k % 155 / 39) (omega arith) (omega arith))
+        ]

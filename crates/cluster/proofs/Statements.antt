@@ -24,7 +24,7 @@ use Rattle.sector.proofs.Stream.{length-scrambled, bytes-scrambled, bytes-scram
 use Rattle.ldc.specs.LdcCluster.{shifted, ldcByte}
 use Rattle.ldc.specs.LdcBlock.{dataByte, information, codeWord}
 use Rattle.ldc.specs.Places.{placeOf, at, wordIn, dataIn, frameIn}
-use Rattle.ldc.proofs.CodeWords.{words-back, frames-back, word-roots, cluster-back, length-frame-in, bytes-frame-in}
+use Rattle.ldc.proofs.CodeWords.{bytes-word, words-back, frames-back, word-roots, cluster-back, length-frame-in, bytes-frame-in}
 use Rattle.ldc.proofs.Interleaving.{place-row-lt, place-column-lt, shifted-word-lt}
 use Rattle.address.specs.declared.Psn.{Psn}
 use Rattle.bis.specs.declared.PsnFound.{PsnFound}
@@ -37,7 +37,7 @@ use Rattle.bis.proofs.Statements as Bis
 use Rattle.cluster.specs.EccCluster.{User, sectorOf, frames, eccCluster}
 use Rattle.cluster.specs.Multiplex.{ldcIndex, multiplexed, ldcIn, bisIn}
 use Rattle.cluster.specs.Reading.{wrongWord, firstWrongWord, dataFrameIn, wrongSector, firstWrongSector, userByteIn, userIn, Reads}
-use Rattle.cluster.proofs.Multiplex.{ldc-back, bis-back, is-block-in, multiplexed-back, multiplexed-ext}
+use Rattle.cluster.proofs.Multiplex.{bytes-multiplexed, length-multiplexed, ldc-back, bis-back, is-block-in, multiplexed-back, multiplexed-ext}
 
 -- ---- code words and data frames depend on the 496 rows and 152 columns alone
 
@@ -98,6 +98,17 @@ module _ (user : List ℕ) (psn : ℕ) (side : List ℕ) (is-user : User user) (
   made-block : bisIn work ≡ bisBlock psn side
   unfolding eccCluster
   made-block = bis-back (ldcByte (frames psn user)) (bisBlock psn side) (written-block psn side accepted (is-side .bytes))
+
+  pub length-cluster : length work ≡ 76880
+  unfolding eccCluster
+  length-cluster = length-multiplexed (ldcByte (frames psn user)) (bisBlock psn side)
+
+  pub bytes-cluster : Bytes work
+  unfolding eccCluster
+  bytes-cluster =
+      bytes-multiplexed (ldcByte (frames psn user)) (bisBlock psn side)
+      (λ row column hr hc. bytes-word (frames psn user) (shifted row column .word) bytes-frames (shifted row column .byte))
+      (written-block psn side accepted (is-side .bytes))
 
   made-word : (L : ℕ) → L < 304 → wrongWord work L ≡ false
   unfolding wrongWord

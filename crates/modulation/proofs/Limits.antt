@@ -233,7 +233,7 @@ module _ (c : Recording) where
       regroup : stream c (suc n) ≡ stream c n ++ (modulated (c .number n) (c .frames n) .groups ++ syncAt (suc n))
       regroup = simp append-assoc
 
-  length-stream : (n : ℕ) → Full c n → length (bits (stream c n)) ≡ 1932 * n + 30
+  pub length-stream : (n : ℕ) → Full c n → length (bits (stream c n)) ≡ 1932 * n + 30
   length-stream n full =
       omega (
         arith,
