@@ -1,6 +1,8 @@
 -- Laws of recording frames.
 pub mod FrameBits
 pub mod Pairs
+pub mod Frame
 pub mod Counting
+pub mod TallyCases
 pub mod SyncTables
 pub mod Writing

@@ -39,12 +39,15 @@ dcIn input = ((getD input 2 0 * 256 + getD input 3 0) * 256 + getD input 4 0) * 
 abbrev pub accepted : List ℕ → Bool
 accepted input = eqb (length input) 161 && (ltb (getD input 0 0) 2 && (ltb (getD input 1 0) 7 && ltb (dcIn input) (2 ^ 28)))
 
--- the gap counts of the frame that the input gives; a refusal has zeros
+abbrev pub refusal : TallyAnswer
+refusal = record { accepted = false; counts = replicate 8 0 }
+
+-- the gap counts of the frame that the input gives, or a refusal
 unfoldable pub tallied : List ℕ → TallyAnswer
 tallied input =
     cond (accepted input)
     (record { accepted = true; counts = gapCounts (frame (eqb (getD input 0 0) 1) (fs (getD input 1 0)) (drop 6 input) (dcIn input)) })
-    (record { accepted = false; counts = replicate 8 0 })
+    refusal
 
 -- ---- what a step of counting leaves
 

@@ -5,7 +5,7 @@ ghost use lib.ListN.{length, take, drop};
 ghost use Rattle.bits.specs.Bits.{bitsOf};
 ghost use Rattle.frame.specs.Sync.{fs};
 ghost use Rattle.frame.specs.Frame.{frame};
-ghost use Rattle.frame.specs.Tally.{gapCounts, dcIn, tallied, BitCounted, Counts};
+ghost use Rattle.frame.specs.Tally.{gapCounts, dcIn, refusal, tallied, BitCounted, Counts};
 
 // The answer to the tally's input: refused, or the counts of the gap lengths 1 to 8.
 pub struct TallyAnswer {
@@ -44,4 +44,68 @@ fn gap_counts(bytes: &[u8], n: usize) -> [u32; 8]
         i += 1;
     }
     counts
+}
+
+fn blank() -> [u8; 242]
+    ensures { λ r. ⌜ length r ≡ 242 ⌝ }
+{
+    [0u8; 242]
+}
+
+// The counts of the frame of a row and a dc word.
+pub fn frame_counts(row: &[u8], dc: u32, number: usize, hash: bool) -> [u32; 8]
+    requires { ⌜ (length (now row) ≡ 155) × (number < 7) ⌝ }
+    ensures { λ r. ⌜ r ≡ gapCounts (frame hash (fs number) (now (row .entry)) dc) ⌝ }
+{
+    let mut image = blank();
+    crate::write_frame(row, dc, number, hash, &mut image, 0);
+    gap_counts(&image, 1932)
+}
+
+fn refused() -> TallyAnswer
+    ensures { λ r. ⌜ r ≡ refusal ⌝ }
+{
+    TallyAnswer {
+        accepted: false,
+        counts: [0u32; 8],
+    }
+}
+
+fn wide(x: u8) -> u32
+    ensures { λ r. ⌜ (r ≡ x) × (r < 256) ⌝ }
+{
+    x as u32
+}
+
+// The dc word of the input, four bytes from 2 on.
+fn dc_in(input: &[u8]) -> u32
+    requires { ⌜ length (now input) ≡ 161 ⌝ }
+    ensures { λ r. ⌜ r ≡ dcIn (now (input .entry)) ⌝ }
+{
+    ((wide(input[2]) * 256 + wide(input[3])) * 256 + wide(input[4])) * 256 + wide(input[5])
+}
+
+// The tally's answer to its input: # (0 or 1), sync number, dc word in four bytes, 155 frame bytes.
+pub fn tally_input(input: &[u8]) -> TallyAnswer
+    ensures { λ r. ⌜ r ≡ tallied (now (input .entry)) ⌝ }
+{
+    if input.len() != 161 {
+        return refused();
+    }
+    let hash = input[0];
+    if 1 < hash {
+        return refused();
+    }
+    let number = input[1];
+    if 6 < number {
+        return refused();
+    }
+    let dc = dc_in(input);
+    if 0x0fff_ffff < dc {
+        return refused();
+    }
+    TallyAnswer {
+        accepted: true,
+        counts: frame_counts(&input[6..], dc, number as usize, hash == 1),
+    }
 }
