@@ -8,8 +8,12 @@ ghost use mathlib.Core.Path.{_≡_};
 ghost use lib.ListN.{length};
 ghost use Rattle.frame.specs.Sync.{fs};
 ghost use Rattle.frame.specs.Written.{FrameWritten};
-pub use sync::{sync_end, sync_number, write_sync};
+pub use sync::sync_end;
+pub use sync::sync_number;
+pub use sync::write_sync;
 pub use tally::TallyAnswer;
+pub use tally::frame_counts;
+pub use tally::tally_input;
 
 // 634 pairs, all 0.
 fn no_pairs() -> [u8; 634]
