@@ -1,9 +1,9 @@
 -- Demand 3, on the definition of the image. Assumes nothing.
-use mathlib.Core.Path.{_≡_, refl, sym, ap, ap₂, _∙_}
+use mathlib.Core.Path.{_≡_, refl, sym, ap, _∙_}
 use mathlib.Core.Logic.{_↔_}
 use mathlib.Core.Bool.{Bool}
 use mathlib.Core.List.{List}
-use Prim.Native.Nat.{ℕ, _+_, _*_, _%_, _^_, _<_, _≤_}
+use Prim.Native.Nat.{ℕ, _*_, _%_, _^_, _<_, _≤_}
 use native.Mathlib.Omega.{arith}
 use lib.ListN.{length, getD}
 use lib.Seq.{ext-getD}
@@ -17,7 +17,7 @@ use Rattle.frame.specs.Frame.{framePairs}
 use Rattle.frame.proofs.FrameBits.{length-frame-bits, frame-bits-bits, frame-bits-inj}
 use Rattle.cluster.specs.EccCluster.{rowOf}
 use Rattle.cluster.proofs.Statements.{length-cluster, bytes-cluster, cluster-inj}
-use Rattle.image.specs.Image.{Input, Words, IsAccepted, cluster, recording, imageBitsFrom}
+use Rattle.image.specs.Image.{Input, IsAccepted, cluster, recording, imageBitsFrom}
 use Rattle.image.proofs.Recordings.{length-row, bytes-row, rows-same, full}
 
 -- ---- equal images come from equal inputs

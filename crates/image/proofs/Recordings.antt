@@ -1,21 +1,19 @@
 -- The rows of an ECC cluster, and the recording of an input. Assumes nothing.
-use mathlib.Core.Path.{_≡_, refl, sym, ap, ap₂, _∙_}
+use mathlib.Core.Path.{_≡_, sym, ap, _∙_}
 use mathlib.Core.Bool.{Bool}
 use mathlib.Core.List.{List}
-use Prim.Native.Nat.{ℕ, _+_, _*_, _-_, _/_, _%_, _^_, _<_, _≤_}
+use Prim.Native.Nat.{ℕ, _+_, _*_, _/_, _%_, _<_}
 use native.Mathlib.Omega.{arith}
-use lib.ListN.{length, getD, take, drop, length-drop}
+use lib.ListN.{length, getD, drop, length-drop}
 use lib.Seq.{ext-getD, getD-take, getD-drop, length-take-le}
 use Rattle.laws.specs.Bytes.{Bytes}
 use Rattle.laws.proofs.Bytes.{bytes-take, bytes-drop}
 use Rattle.modulation.specs.Stream.{Full}
 use Rattle.modulation.proofs.Bits.{length-pairs}
 use Rattle.frame.specs.FrameBits.{frameBits}
-use Rattle.frame.specs.Frame.{framePairs}
 use Rattle.frame.proofs.FrameBits.{length-frame-bits}
-use Rattle.cluster.specs.EccCluster.{eccCluster, rowOf}
-use Rattle.cluster.specs.Multiplex.{multiplexed}
-use Rattle.image.specs.Image.{Input, recording, cluster}
+use Rattle.cluster.specs.EccCluster.{rowOf}
+use Rattle.image.specs.Image.{Input, recordingOf, recording, cluster}
 
 -- ---- rows
 
@@ -39,5 +37,8 @@ rows-same work work′ size size′ rows = ext-getD 0 work work′ (size ∙ sym
 
 -- ---- every frame has 1,268 bits
 
+pub full-of : (first : Bool) (work dc : List ℕ) (n : ℕ) → Full (recordingOf first work dc) n
+full-of first work dc n k h = length-pairs (frameBits (rowOf work k) (getD dc k 0)) ∙ ap (λ (m : ℕ). m / 2) (length-frame-bits (rowOf work k) (getD dc k 0))
+
 pub full : (first : Bool) (input : Input) (n : ℕ) → Full (recording first input) n
-full first input n k h = length-pairs (frameBits (rowOf (cluster input) k) (getD (input .dc) k 0)) ∙ ap (λ (m : ℕ). m / 2) (length-frame-bits (rowOf (cluster input) k) (getD (input .dc) k 0))
+full first input n = full-of first (cluster input) (input .dc) n

@@ -37,9 +37,12 @@ pub record IsAccepted (input : Input) : Type 0 where
 abbrev pub cluster : Input → List ℕ
 cluster input = eccCluster (input .user) (input .psn) (input .side)
 
--- its recording: row n of the ECC cluster, with dc word n, behind the sync of frame n (Figure 41); # of the first sync is given
+-- the recording of an ECC cluster: its row n, with dc word n, behind the sync of frame n (Figure 41); # of the first sync is given
+abbrev pub recordingOf : Bool → List ℕ → List ℕ → Recording
+recordingOf first work dc = record { first = first; number = syncNumber; frames = λ n. framePairs (rowOf work n) (getD dc n 0) }
+
 abbrev pub recording : Bool → Input → Recording
-recording first input = record { first = first; number = syncNumber; frames = λ n. framePairs (rowOf (cluster input) n) (getD (input .dc) n 0) }
+recording first input = recordingOf first (cluster input) (input .dc)
 
 -- the 496 frames and the sync that follows, FS0: 958,302 bits
 unfoldable pub imageBitsFrom : Bool → Input → List ℕ
@@ -51,4 +54,4 @@ imageBits input = imageBitsFrom false input
 
 -- then two zero bits, and packed msb first: 119,788 bytes
 unfoldable pub image : Input → List ℕ
-image input = packed (imageBits input ++ 0 ∷ 0 ∷ [])
+image input = packed (imageBits input ++ (0 ∷ 0 ∷ []))
