@@ -2,8 +2,8 @@
 use Prim.Native.Nat.{_≤_, _-_}
 use borrow.Author.Needs.{needs}
 use lib.ListN.{length}
-use Rattle.cluster_test.proofs.differing.Statement.{statement}
-use Rattle.cluster_test.proofs.differing.Tie as tie
+use Rattle.writer_test.proofs.differing.Statement.{statement}
+use Rattle.writer_test.proofs.differing.Tie as tie
 
 abbrev Inv-loop : tie.InvT-loop
 Inv-loop a b n₀ k₀ n k = k ≤ length a
