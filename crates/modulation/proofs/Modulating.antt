@@ -9,13 +9,14 @@ use lib.ListN.{length, drop, length-append, drop-of-length-le}
 use lib.Seq.{sets, drop-drop, drop-append-seam}
 use Rattle.laws.proofs.First.{first-at}
 use Rattle.bits.specs.Bits.{bitsOf}
-use Rattle.modulation.specs.Modulation.{Two, Three, Row, rowAt, fits, terminates, Modulated, modulateFrom, modulate}
+use Rattle.modulation.specs.Modulation.{Two, Row, rowAt, fits, terminates, Modulated, modulateFrom, modulate}
 use Rattle.modulation.specs.Bits.{bits}
 use Rattle.modulation.specs.Code.{twos}
 use Rattle.modulation.specs.Ahead.{fittingRow, Fitting, Sized}
+use Rattle.modulation.proofs.Bits.{bits-append, length-bits}
 use Rattle.modulation.proofs.Words.{Word, word-at, modulate-none, nextBit, inFront}
 use Rattle.modulation.proofs.Ahead.{length-twos, pairs-left}
-use Rattle.modulation.proofs.Writing.{Rests, rests-none, rests-more, rests-all, rests-length}
+use Rattle.modulation.proofs.Writing.{Left, left-none, left-more, left-all, left-length, same-slice}
 
 -- ---- the word at a place
 
@@ -56,65 +57,57 @@ fitting {before} {l} {i} {k} h e =
     let f = word-found before (drop i (twos l)) k (omega (arith, pairs-left l i)) e in
     record { first-is = e; below = f .below; within = omega (arith, f .within, pairs-left l i) }
 
+-- the word at place i and what follows it
+pub word-step : {b b′ : Bool} {l : List ℕ} {i k n : ℕ} → i < length l → Fitting b l i k → Sized k n → b′ ≡ nextBit (rowAt k)
+    → modulate b (drop i (twos l)) ≡ inFront (rowAt k) (modulate b′ (drop (i + n) (twos l)))
+word-step {b} {b′} {l} {i} {k} {n} h fit sized eb =
+    word-found b (drop i (twos l)) k (omega (arith, pairs-left l i)) (fit .first-is) .gives
+    ∙ ap (inFront (rowAt k)) (ap₂ modulate (sym eb) (ap (λ (j : ℕ). drop j (drop i (twos l))) (sym (sized .pairs-are)) ∙ drop-drop n i (twos l)))
+
+-- whether some word is a terminating one, from those passed, the next one and the rest
+pub ends-step : (k : ℕ) (t : Bool) {t′ m : Bool} (f rest : Modulated) → f ≡ inFront (rowAt k) rest → t′ ≡ (t || terminates (rowAt k .when)) → (t || f .terminated) ≡ m
+    → (t′ || rest .terminated) ≡ m
+ends-step k t f rest e et em =
+    ap (λ (z : Bool). z || rest .terminated) et ∙ or-assoc t (terminates (rowAt k .when)) (rest .terminated) ∙ ap (λ (g : Modulated). t || g .terminated) (sym e) ∙ em
+
+-- and where no pairs are left
+pub words-end : (b : Bool) (l : List ℕ) (i : ℕ) → length l ≤ i → modulate b (drop i (twos l)) ≡ record { groups = []; terminated = false }
+words-end b l i h = ap (modulate b) (drop-of-length-le (twos l) {i = i} (omega (arith, length-twos l))) ∙ modulate-none b
+
 -- ---- the loop
 
 -- at place i of the pairs l, after the bit b; t: some word passed was a terminating one
 pub record Modulating (l : List ℕ) (before : Bool) (first : List ℕ) (at : ℕ) (out : List ℕ) (b t : Bool) (i : ℕ) : Type 0 where
   pub within : i ≤ length l
-  pub rests : Rests first at (modulate before (twos l) .groups) out (at + 3 * i) (modulate b (drop i (twos l)) .groups)
+  pub left : Left (bitsOf first) at (bits (modulate before (twos l) .groups)) (bitsOf out) (at + 3 * i) (bits (modulate b (drop i (twos l)) .groups))
   pub ends : (t || modulate b (drop i (twos l)) .terminated) ≡ modulate before (twos l) .terminated
 
 module _ {l : List ℕ} {before : Bool} {first : List ℕ} {at : ℕ} where
   pub modulating-none : Modulating l before first at first before false 0
-  modulating-none =
-      record {
-        within = omega arith;
-        rests = subst (λ (p : ℕ). Rests first at (modulate before (twos l) .groups) first p (modulate before (twos l) .groups)) (start at) rests-none;
-        ends = refl;
-      }
-    where
-      start : (at : ℕ) → at ≡ at + 3 * 0
-      start at = omega arith
+  modulating-none = record { within = omega arith; left = left-none (omega arith); ends = refl }
 
   module _ {out : List ℕ} {b t : Bool} {i : ℕ} (m : Modulating l before first at out b t i) where
     pub modulating-more : {k n : ℕ} {after : List ℕ} {b′ t′ : Bool} → i < length l → Fitting b l i k → Sized k n
         → bitsOf after ≡ sets (bitsOf out) (at + 3 * i) (bits (rowAt k .groups)) → b′ ≡ nextBit (rowAt k) → t′ ≡ (t || terminates (rowAt k .when))
         → Modulating l before first at after b′ t′ (i + n)
     modulating-more {k} {n} {after} {b′} {t′} h fit sized w eb et =
+        let rest = modulate b′ (drop (i + n) (twos l)) in
+        let step = word-step h fit sized eb in
         record {
           within = omega arith;
-          rests =
-              subst (λ (p : ℕ). Rests first at (modulate before (twos l) .groups) after p (modulate b′ (drop (i + n) (twos l)) .groups)) (on at i n (length (rowAt k .groups)) (sym (sized .groups-are)))
-              (rests-more (rowAt k .groups) w
-              (subst (λ (ms : List Three). Rests first at (modulate before (twos l) .groups) out (at + 3 * i) ms) (ap (λ (g : Modulated). g .groups) gives) (m .rests)));
-          ends =
-              ap (λ (x : Bool). x || modulate b′ (drop (i + n) (twos l)) .terminated) et
-              ∙ or-assoc t (terminates (rowAt k .when)) (modulate b′ (drop (i + n) (twos l)) .terminated)
-              ∙ ap (λ (g : Modulated). t || g .terminated) (sym gives)
-              ∙ m .ends;
+          left =
+              left-more (bits (rowAt k .groups)) w (omega (arith, length-bits (rowAt k .groups)))
+              (subst (Left (bitsOf first) at (bits (modulate before (twos l) .groups)) (bitsOf out) (at + 3 * i))
+              (ap (λ (g : Modulated). bits (g .groups)) step ∙ bits-append (rowAt k .groups) (rest .groups)) (m .left));
+          ends = ends-step k t (modulate b (drop i (twos l))) rest step et (m .ends);
         }
-      where
-        f : WordAt b (drop i (twos l)) k
-        f = word-found b (drop i (twos l)) k (omega (arith, pairs-left l i)) (fit .first-is)
-
-        rest-is : modulate (nextBit (rowAt k)) (drop (length (rowAt k .pairs)) (drop i (twos l))) ≡ modulate b′ (drop (i + n) (twos l))
-        rest-is = ap₂ modulate (sym eb) (ap (λ (j : ℕ). drop j (drop i (twos l))) (sym (sized .pairs-are)) ∙ drop-drop n i (twos l))
-
-        gives : modulate b (drop i (twos l)) ≡ inFront (rowAt k) (modulate b′ (drop (i + n) (twos l)))
-        gives = f .gives ∙ ap (inFront (rowAt k)) rest-is
-
-        on : (at i n g : ℕ) → g ≡ n → at + 3 * i + 3 * g ≡ at + 3 * (i + n)
-        on at i n g e = omega arith
-
-    -- no pairs are left
-    none-left : length l ≤ i → modulate b (drop i (twos l)) ≡ record { groups = []; terminated = false }
-    none-left h = ap (modulate b) (drop-of-length-le (twos l) {i = i} (omega (arith, length-twos l))) ∙ modulate-none b
 
     pub modulating-all : length l ≤ i → (bitsOf out ≡ sets (bitsOf first) at (bits (modulate before (twos l) .groups))) × (t ≡ modulate before (twos l) .terminated)
-    modulating-all h = (
-      rests-all (subst (Rests first at (modulate before (twos l) .groups) out (at + 3 * i)) (ap (λ (g : Modulated). g .groups) (none-left h)) (m .rests)),
-      sym (or-false t) ∙ ap (λ (g : Modulated). t || g .terminated) (sym (none-left h)) ∙ m .ends,
-    )
+    modulating-all h =
+        let end = words-end b l i h in (
+          left-all (subst (λ (g : Modulated). Left (bitsOf first) at (bits (modulate before (twos l) .groups)) (bitsOf out) (at + 3 * i) (bits (g .groups))) end (m .left)),
+          sym (or-false t) ∙ ap (λ (g : Modulated). t || g .terminated) (sym end) ∙ m .ends,
+        )
 
     pub modulating-length : length out ≡ length first
-    modulating-length = rests-length (m .rests)
+    modulating-length = same-slice out first (left-length (m .left))

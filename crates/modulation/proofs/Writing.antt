@@ -1,4 +1,4 @@
--- Groups written one after the other: what is still to be written, over what stands there, gives the whole. Assumes nothing.
+-- Values written one after the other: those still to be written, over what stands there, give the whole. Assumes nothing.
 use mathlib.Core.List.{List, [], _∷_, _++_}
 use mathlib.Core.Path.{_≡_, refl, sym, ap, ap₂, subst, _∙_}
 use Prim.Native.Nat.{ℕ, suc, _+_, _*_, _<_, _≤_}
@@ -8,9 +8,9 @@ use lib.ListN.{length, getD, set, drop, drop-of-length-le}
 use lib.Seq.{sets, length-sets, drop-cons}
 use Rattle.bits.specs.Bits.{bitsOf, threeOf}
 use Rattle.bits.proofs.Bits.{length-bits as length-bitsOf}
-use Rattle.modulation.specs.Modulation.{Three, m000, threeNumber}
+use Rattle.modulation.specs.Modulation.{Two, d00, twoNumber, Three, m000, threeNumber}
 use Rattle.modulation.specs.Bits.{bits}
-use Rattle.modulation.proofs.Bits.{bits-append, length-bits}
+use Rattle.modulation.specs.Code.{numbers}
 
 sets-append : (vs ws l : List ℕ) (i : ℕ) → sets l i (vs ++ ws) ≡ sets (sets l i vs) (i + length vs) ws
 sets-append [] ws l i = ap (λ (k : ℕ). sets l k ws) (none i)
@@ -22,68 +22,72 @@ sets-append (v ∷ vs) ws l i = sets-append vs ws (set l i v) (suc i) ∙ ap (λ
     one-on : (i n : ℕ) → suc i + n ≡ i + suc n
     one-on i n = omega arith
 
--- of the groups `all`, to be written over `first` from bit `at` on, ms are still to be written over `out`, from bit p on
-pub record Rests (first : List ℕ) (at : ℕ) (all : List Three) (out : List ℕ) (p : ℕ) (ms : List Three) : Type 0 where
-  pub written : sets (bitsOf out) p (bits ms) ≡ sets (bitsOf first) at (bits all)
+-- of `all`, to be written over `first` from `at` on, vs are still to be written over l, from p on
+pub record Left (first : List ℕ) (at : ℕ) (all l : List ℕ) (p : ℕ) (vs : List ℕ) : Type 0 where
+  pub written : sets l p vs ≡ sets first at all
 
-module _ {first : List ℕ} {at : ℕ} {all : List Three} where
-  pub rests-none : Rests first at all first at all
-  rests-none = record { written = refl }
+module _ {first : List ℕ} {at : ℕ} {all : List ℕ} where
+  pub left-none : {p : ℕ} → p ≡ at → Left first at all first p all
+  left-none e = record { written = ap (λ (k : ℕ). sets first k all) e }
 
-  pub rests-more : {out after : List ℕ} {p : ℕ} (a : List Three) {ms : List Three} → bitsOf after ≡ sets (bitsOf out) p (bits a)
-      → Rests first at all out p (a ++ ms) → Rests first at all after (p + 3 * length a) ms
-  rests-more {out} {after} {p} a {ms} e r =
-      record {
-        written =
-            ap₂ (λ (l : List ℕ) (k : ℕ). sets l (p + k) (bits ms)) e (sym (length-bits a))
-            ∙ sym (sets-append (bits a) (bits ms) (bitsOf out) p)
-            ∙ ap (sets (bitsOf out) p) (sym (bits-append a ms))
-            ∙ r .written;
-      }
+  pub left-more : {l after : List ℕ} {p q : ℕ} (a : List ℕ) {vs : List ℕ} → after ≡ sets l p a → q ≡ p + length a → Left first at all l p (a ++ vs)
+      → Left first at all after q vs
+  left-more {l} {after} {p} {q} a {vs} e eq r =
+      record { written = ap₂ (λ (k : List ℕ) (j : ℕ). sets k j vs) e eq ∙ sym (sets-append a vs l p) ∙ r .written }
 
-  pub rests-all : {out : List ℕ} {p : ℕ} → Rests first at all out p [] → bitsOf out ≡ sets (bitsOf first) at (bits all)
-  rests-all r = r .written
+  pub left-all : {l : List ℕ} {p : ℕ} → Left first at all l p [] → l ≡ sets first at all
+  left-all r = r .written
 
-  -- the slice keeps its length
-  pub rests-length : {out : List ℕ} {p : ℕ} {ms : List Three} → Rests first at all out p ms → length out ≡ length first
-  rests-length {out} {p} {ms} r =
-      omega (
-        arith,
-        ap length (r .written),
-        length-sets (bitsOf out) p (bits ms),
-        length-sets (bitsOf first) at (bits all),
-        length-bitsOf out,
-        length-bitsOf first,
-      )
+  pub left-length : {l : List ℕ} {p : ℕ} {vs : List ℕ} → Left first at all l p vs → length l ≡ length first
+  left-length {l} {p} {vs} r = sym (length-sets l p vs) ∙ ap length (r .written) ∙ length-sets first at all
 
--- ---- the groups of a row, one by one
+-- a slice whose bits keep their number keeps its length
+pub same-slice : (out first : List ℕ) → length (bitsOf out) ≡ length (bitsOf first) → length out ≡ length first
+same-slice out first e = omega (arith, length-bitsOf out, length-bitsOf first)
 
--- j of the groups are written
-pub record RowWritten (first : List ℕ) (at : ℕ) (ms : List Three) (out : List ℕ) (j : ℕ) : Type 0 where
+-- ---- a row, element by element: its groups as bits, its pairs as numbers
+
+-- j of the groups ms are written
+pub record GroupsWritten (first : List ℕ) (at : ℕ) (ms : List Three) (out : List ℕ) (j : ℕ) : Type 0 where
   pub within : j ≤ length ms
-  pub rests : Rests first at ms out (at + 3 * j) (drop j ms)
+  pub left : Left (bitsOf first) at (bits ms) (bitsOf out) (at + 3 * j) (bits (drop j ms))
 
 module _ {first : List ℕ} {at : ℕ} {ms : List Three} where
-  pub row-none : RowWritten first at ms first 0
-  row-none = record { within = omega arith; rests = subst (λ (k : ℕ). Rests first at ms first k ms) (start at) rests-none }
-    where
-      start : (at : ℕ) → at ≡ at + 3 * 0
-      start at = omega arith
+  pub groups-none : GroupsWritten first at ms first 0
+  groups-none = record { within = omega arith; left = left-none (omega arith) }
 
-  module _ {j : ℕ} {out : List ℕ} (r : RowWritten first at ms out j) where
-    pub row-more : {after : List ℕ} {v : ℕ} → j < length ms → v ≡ threeNumber (getD ms j m000) → bitsOf after ≡ sets (bitsOf out) (at + 3 * j) (threeOf v)
-        → RowWritten first at ms after (j + 1)
-    row-more {after} {v} h e w =
+  module _ {j : ℕ} {out : List ℕ} (r : GroupsWritten first at ms out j) where
+    pub groups-more : {after : List ℕ} {v : ℕ} → j < length ms → v ≡ threeNumber (getD ms j m000) → bitsOf after ≡ sets (bitsOf out) (at + 3 * j) (threeOf v)
+        → GroupsWritten first at ms after (j + 1)
+    groups-more {after} {v} h e w =
         record {
           within = omega arith;
-          rests =
-              subst (λ (q : ℕ). Rests first at ms after q (drop (j + 1) ms)) (three-on at j)
-              (rests-more (getD ms j m000 ∷ []) (w ∙ ap (λ (x : ℕ). sets (bitsOf out) (at + 3 * j) (threeOf x)) e)
-              (subst (Rests first at ms out (at + 3 * j)) (rw (add-one, drop-cons ms j m000)) (r .rests)));
+          left = left-more (threeOf v) w (omega arith) (subst (Left (bitsOf first) at (bits ms) (bitsOf out) (at + 3 * j)) front (r .left));
         }
       where
-        three-on : (at j : ℕ) → at + 3 * j + 3 * 1 ≡ at + 3 * (j + 1)
-        three-on at j = omega arith
+        front : bits (drop j ms) ≡ threeOf v ++ bits (drop (j + 1) ms)
+        front = rw (add-one, drop-cons ms j m000) (ap (λ (x : ℕ). threeOf x ++ bits (drop (suc j) ms)) (sym e))
 
-    pub row-all : length ms ≤ j → bitsOf out ≡ sets (bitsOf first) at (bits ms)
-    row-all h = rests-all (subst (Rests first at ms out (at + 3 * j)) (drop-of-length-le ms h) (r .rests))
+    pub groups-all : length ms ≤ j → bitsOf out ≡ sets (bitsOf first) at (bits ms)
+    groups-all h =
+        left-all (subst (λ (l : List Three). Left (bitsOf first) at (bits ms) (bitsOf out) (at + 3 * j) (bits l)) (drop-of-length-le ms h) (r .left))
+
+-- j of the pairs ds are written
+pub record PairsWritten (first : List ℕ) (at : ℕ) (ds : List Two) (l : List ℕ) (j : ℕ) : Type 0 where
+  pub within : j ≤ length ds
+  pub left : Left first at (numbers ds) l (at + j) (numbers (drop j ds))
+
+module _ {first : List ℕ} {at : ℕ} {ds : List Two} where
+  pub pairs-none : PairsWritten first at ds first 0
+  pairs-none = record { within = omega arith; left = left-none (omega arith) }
+
+  module _ {j : ℕ} {l : List ℕ} (r : PairsWritten first at ds l j) where
+    pub pairs-more : {v : ℕ} → j < length ds → v ≡ twoNumber (getD ds j d00) → PairsWritten first at ds (set l (at + j) v) (j + 1)
+    pairs-more {v} h e =
+        record { within = omega arith; left = left-more (v ∷ []) refl (omega arith) (subst (Left first at (numbers ds) l (at + j)) front (r .left)) }
+      where
+        front : numbers (drop j ds) ≡ v ∷ numbers (drop (j + 1) ds)
+        front = rw (add-one, drop-cons ds j d00) (ap (λ (x : ℕ). x ∷ numbers (drop (suc j) ds)) (sym e))
+
+    pub pairs-all : length ds ≤ j → l ≡ sets first at (numbers ds)
+    pairs-all h = left-all (subst (λ (k : List Two). Left first at (numbers ds) l (at + j) (numbers k)) (drop-of-length-le ds h) (r .left))

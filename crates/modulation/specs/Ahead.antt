@@ -1,13 +1,14 @@
 -- What the functions inside the crate answer: numbers of the pairs and groups ahead, and the row at the front.
-use mathlib.Core.Bool.{Bool}
+use mathlib.Core.Bool.{Bool, true, false}
 use mathlib.Core.List.{List, [], _∷_, tail}
 use mathlib.Core.Path.{_≡_}
 use Prim.Native.Nat.{ℕ, zero, suc, _+_, _<_, _≤_}
 use lib.ListN.{length, getD, take, drop}
 use Rattle.laws.specs.First.{first}
 use Rattle.bits.specs.Bits.{number}
-use Rattle.modulation.specs.Modulation.{Two, twoNumber, Three, rowAt, starts, fits, Modulated, modulateFrom}
+use Rattle.modulation.specs.Modulation.{Two, twoNumber, Three, threeNumber, rowAt, starts, fits, Modulated, modulateFrom}
 use Rattle.modulation.specs.Bits.{dataBits, bits, three}
+use Rattle.modulation.specs.Demodulator.{rowRead}
 use Rattle.modulation.specs.Code.{twos}
 
 -- at place n of f stands front n, for n below size as far as there is so much left
@@ -48,6 +49,22 @@ unfoldable pub groupsAt : List ℕ → ℕ → ℕ → List Three
 groupsAt b p zero = []
 groupsAt b p (suc n) = three (getD b p 0) (getD b (p + 1) 0) (getD b (p + 2) 0) ∷ groupsAt b (p + 3) n
 
+-- the number of the first group; 8 where the frame ends
+abbrev pub nextNumber : List Three → ℕ
+nextNumber [] = 8
+nextNumber (g ∷ gs) = threeNumber g
+
+-- row k is that of the word read at the front of gs, which are as many as are left
+pub record Reading (before hash : Bool) (gs : List Three) (left k : ℕ) : Type 0 where
+  pub row-is : k ≡ rowRead before hash gs
+  pub below : k < 16
+  pub within : length (rowAt k .pairs) ≤ left
+
 -- these groups as a frame that ends so
 abbrev pub frameAt : List ℕ → ℕ → ℕ → Bool → Modulated
 frameAt b p n hash = record { groups = groupsAt b p n; terminated = hash }
+
+-- whether f is g, as an answer
+pub record Compared (f g : Modulated) (answer : Bool) : Type 0 where
+  pub same : answer ≡ true → f ≡ g
+  pub other : answer ≡ false → f ≡ g → ⊥

@@ -9,7 +9,7 @@ use Rattle.bits.specs.Bits.{number}
 use Rattle.modulation.specs.declared.Row.{Row as CodeRow}
 use Rattle.modulation.specs.declared.When.{When as CodeWhen}
 use Rattle.modulation.specs.declared.When.the-variants.{Always, AfterOne, AfterZero, Before010, AtEnd}
-use Rattle.modulation.specs.Modulation.{Two, d00, d01, d10, d11, Row, When, always, after-one, after-zero, before-010, at-end, modulate}
+use Rattle.modulation.specs.Modulation.{Two, d00, d01, d10, d11, twoNumber, Row, When, always, after-one, after-zero, before-010, at-end, modulate}
 use Rattle.modulation.specs.Bits.{dataBits, bits}
 
 abbrev pub codedWhen : When → CodeWhen
@@ -35,6 +35,9 @@ twoOf (suc (suc (suc x))) = d11
 
 abbrev pub twos : List ℕ → List Two
 twos l = map twoOf l
+
+abbrev pub numbers : List Two → List ℕ
+numbers ds = map twoNumber ds
 
 -- the data bits ds give the modulation bits b after the bit before, and a next sync with # hash
 pub record Gives (before : Bool) (ds : List Two) (b : List ℕ) (hash : Bool) : Type 0 where

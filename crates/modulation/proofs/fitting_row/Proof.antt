@@ -1,11 +1,11 @@
--- `fitting_row` meets its contract: a search through the rows (Ahead), of which some row fits (Modulating). Assumes nothing.
+-- `fitting_row` meets its contract: a search through the rows (Search), of which some row fits (Modulating). Assumes nothing.
 use mathlib.Core.List.{tail}
 use Prim.Native.Nat.{_-_}
 use borrow.Author.Needs.{needs}
 use lib.ListN.{drop}
 use Rattle.modulation.specs.Modulation.{rowAt, fits, modulateFrom}
 use Rattle.modulation.specs.Code.{twos}
-use Rattle.modulation.proofs.Ahead.{Searched, searched-none, searched-more, searched-found, searched-all}
+use Rattle.modulation.proofs.Search.{Searched, searched-none, searched-more, searched-found, searched-all}
 use Rattle.modulation.proofs.Modulating.{fitting}
 use Rattle.modulation.proofs.fitting_row.Statement.{statement}
 use Rattle.modulation.proofs.fitting_row.Tie as tie

@@ -1,10 +1,11 @@
--- `standing_row` meets its contract: a search through the rows (Ahead). Assumes nothing.
+-- `standing_row` meets its contract: a search through the rows (Search). Assumes nothing.
 use Prim.Native.Nat.{_-_}
 use borrow.Author.Needs.{needs}
 use lib.ListN.{drop}
 use Rattle.modulation.specs.Modulation.{twoNumber, rowAt, starts}
 use Rattle.modulation.specs.Code.{twos}
-use Rattle.modulation.proofs.Ahead.{pairs-left, Searched, searched-none, searched-more, searched-found, searched-all}
+use Rattle.modulation.proofs.Ahead.{pairs-left}
+use Rattle.modulation.proofs.Search.{Searched, searched-none, searched-more, searched-found, searched-all}
 use Rattle.modulation.proofs.standing_row.Statement.{statement}
 use Rattle.modulation.proofs.standing_row.Tie as tie
 

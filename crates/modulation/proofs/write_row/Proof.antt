@@ -4,12 +4,12 @@ use native.Mathlib.Omega.{arith}
 use borrow.Author.Needs.{needs}
 use Rattle.modulation.specs.Modulation.{rowAt}
 use Rattle.modulation.specs.Ahead.{Sized}
-use Rattle.modulation.proofs.Writing.{RowWritten, row-none, row-more, row-all, rests-length}
+use Rattle.modulation.proofs.Writing.{GroupsWritten, groups-none, groups-more, groups-all, left-length, same-slice}
 use Rattle.modulation.proofs.write_row.Statement.{statement}
 use Rattle.modulation.proofs.write_row.Tie as tie
 
 abbrev Inv-loop : tie.InvT-loop
-Inv-loop k out₀ at len j₀ out j = Sized k len × RowWritten out₀ at (rowAt k .groups) out j
+Inv-loop k out₀ at len j₀ out j = Sized k len × GroupsWritten out₀ at (rowAt k .groups) out j
 
 abbrev μ-loop : tie.MeasureT-loop
 μ-loop k out₀ at len j₀ out j = len - j
@@ -18,7 +18,7 @@ row-len-requires : tie.Need-row-len-requires Inv-loop μ-loop
 row-len-requires c κs = search needs
 
 loop-holds : tie.Need-loop-holds Inv-loop μ-loop
-loop-holds c = (c .row-len .ensures, row-none)
+loop-holds c = (c .row-len .ensures, groups-none)
 
 mul-write-three : tie.Need-mul-write-three Inv-loop μ-loop
 mul-write-three c = omega arith
@@ -42,13 +42,13 @@ loop-again : tie.Need-loop-again Inv-loop μ-loop
 loop-again c =
     let wrote = c .before .before in
     let turn = wrote .before .before .before .before in
-    (turn .loop .inv .0, row-more (turn .loop .inv .1) (omega arith) (wrote .before .group-of .ensures) (wrote .write-three .ensures))
+    (turn .loop .inv .0, groups-more (turn .loop .inv .1) (omega arith) (wrote .before .group-of .ensures) (wrote .write-three .ensures))
 
 same-length : tie.Need-same-length Inv-loop μ-loop
-same-length c = rests-length (c .before .loop .inv .1 .rests)
+same-length c = same-slice (c .before .loop .out) _ (left-length (c .before .loop .inv .1 .left))
 
 returns : tie.Need-returns Inv-loop μ-loop
-returns c = row-all (c .before .loop .inv .1) (omega arith)
+returns c = groups-all (c .before .loop .inv .1) (omega arith)
 
 pub write-row-spec : {M : Type 1} → statement M
 write-row-spec =
