@@ -1,24 +1,13 @@
 -- The theorems are in Theorems; the other files lead there, and to the proofs of the functions.
 pub mod Tests
 pub mod Bits
+pub mod Pairs
 pub mod Fronts
 pub mod Words
-pub mod Rows
-pub mod Groups
-pub mod Search
-pub mod Ahead
-pub mod Next
-pub mod Fitting
-pub mod Follow
-pub mod Writing
-pub mod Modulating
 pub mod Size
 pub mod Machine
 pub mod Reading
 pub mod Demodulator
-pub mod Demodulating
-pub mod Comparing
-pub mod Answer
 pub mod Joined
 pub mod Scan
 pub mod Spacing
