@@ -15,7 +15,7 @@ use Rattle.modulation.specs.Bits.{bits, Gives}
 use Rattle.modulation.specs.Demodulator.{demodulate}
 use Rattle.modulation.specs.Pairs.{Pairs, twos, numbers}
 use Rattle.demodulator.specs.Demodulated.{Demodulated}
-use Rattle.demodulator.specs.Ahead.{frameAt, Compared}
+use Rattle.demodulator.specs.Ahead.{Inside, frameAt, Compared}
 use Rattle.modulation.proofs.Pairs.{pairs-numbers, twos-numbers}
 use Rattle.modulation.proofs.Bits.{bits-injective}
 use Rattle.demodulator.proofs.Groups.{length-groupsAt, bits-groupsAt}
@@ -33,7 +33,7 @@ pairs-zeros n i =
 
 -- ---- the answer
 
-module _ (bytes : List ℕ) (at n : ℕ) (before hash : Bool) (h : at + 3 * n ≤ 8 * length bytes) where
+module _ {bytes : List ℕ} {at n : ℕ} (before hash : Bool) (inside : Inside bytes at n) where
   abbrev frame : Modulated
   frame = frameAt (bitsOf bytes) at n hash
 

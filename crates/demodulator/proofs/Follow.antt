@@ -17,17 +17,17 @@ use Rattle.modulator.specs.declared.When.{When as CodeWhen}
 use Rattle.modulation.specs.Modulation.{Three, m000, threeNumber, When, before-010, at-end, rowAt, starts, startsWith010, terminates}
 use Rattle.modulation.specs.Demodulator.{follows, agrees, reads, rowRead}
 use Rattle.modulator.specs.Rows.{coded, Sized}
-use Rattle.demodulator.specs.Ahead.{nextNumber, groupsAt, Reading}
+use Rattle.demodulator.specs.Ahead.{Inside, nextNumber, groupsAt, Reading}
 use Rattle.modulation.proofs.Tests.{and-left}
 use Rattle.modulation.proofs.Fronts.{three-below, groups-start}
 use Rattle.demodulator.proofs.Groups.{group-at}
 use Rattle.modulator.proofs.Rows.{row-sized, whenOf, code-when}
 
 -- group j, as `read_three` reads it
-pub group-read : (l : List ℕ) (at left j : ℕ) {s : Step} → s ≡ stepAt (bitsOf l) (at + 3 * j) → at + 3 * left ≤ 8 * length l → j < left
+pub group-read : {l : List ℕ} {at left : ℕ} (j : ℕ) {s : Step} → s ≡ stepAt (bitsOf l) (at + 3 * j) → Inside l at left → j < left
     → (s .value ≡ threeNumber (getD (groupsAt (bitsOf l) at left) j m000)) × (s .value < 8)
 unfolding stepAt
-group-read l at left j {s} e h below = (value, omega (arith, three-below (getD (groupsAt (bitsOf l) at left) j m000), value))
+group-read {l} {at} {left} j {s} e h below = (value, omega (arith, three-below (getD (groupsAt (bitsOf l) at left) j m000), value))
   where
     there : enough (bitsOf l) (at + 3 * j) ≡ true
     there = le-leb (at + 3 * j + 3) (length (bitsOf l)) (omega (arith, length-bitsOf l))

@@ -2,13 +2,18 @@
 use mathlib.Core.Bool.{Bool, true, false}
 use mathlib.Core.List.{List, [], _∷_}
 use mathlib.Core.Path.{_≡_}
-use Prim.Native.Nat.{ℕ, zero, suc, _+_, _<_, _≤_}
+use Prim.Native.Nat.{ℕ, zero, suc, _+_, _*_, _<_, _≤_}
 use lib.ListN.{length, getD, take}
 use Rattle.bits.specs.Bits.{number}
 use Rattle.modulation.specs.Modulation.{Three, threeNumber, rowAt, Modulated}
 use Rattle.modulation.specs.Bits.{bits, three}
 use Rattle.modulation.specs.Demodulator.{rowRead}
 use Rattle.modulator.specs.Ahead.{Fronts}
+
+-- n groups from bit p on lie inside the bytes l, at positions of 64 bits
+pub record Inside (l : List ℕ) (p n : ℕ) : Type 0 where
+  pub enough : p + 3 * n ≤ 8 * length l
+  pub positions : p + 3 * n < 18446744073709551616
 
 -- n groups of the bits b, from bit p on
 unfoldable pub groupsAt : List ℕ → ℕ → ℕ → List Three

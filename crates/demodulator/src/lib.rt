@@ -12,11 +12,11 @@ ghost use Rattle.modulation.specs.Modulation.{Three, m000, threeNumber, rowAt, 
 ghost use Rattle.modulation.specs.Demodulator.{follows, agrees, reads, demodulate};
 ghost use Rattle.modulation.specs.Pairs.{Pairs, twos, numbers};
 ghost use Rattle.demodulator.specs.Demodulated.{Demodulated};
-ghost use Rattle.demodulator.specs.Ahead.{groupsAt, frameAt, GroupsAhead, nextNumber, Reading, Compared};
+ghost use Rattle.demodulator.specs.Ahead.{Inside, groupsAt, frameAt, GroupsAhead, nextNumber, Reading, Compared};
 
 // Group j behind bit `at`, of which `left` are left; 0 past those.
 fn group_ahead(bytes: &[u8], at: usize, left: usize, j: usize) -> u16
-    requires { ⌜ (at + 3 * left ≤ 8 * length (now bytes)) × (at + 3 * left < 18446744073709551616) ⌝ }
+    requires { ⌜ Inside (now bytes) at left ⌝ }
     ensures { λ r. ⌜ (j < left → r ≡ threeNumber (getD (groupsAt (bitsOf (now (bytes .entry))) at left) j m000)) × (r < 8) ⌝ }
 {
     if j < left {
@@ -29,7 +29,7 @@ fn group_ahead(bytes: &[u8], at: usize, left: usize, j: usize) -> u16
 
 // The modulation bits of the next 0 to 5 groups; past the end a group counts as 000.
 fn groups_ahead(bytes: &[u8], at: usize, left: usize) -> [u16; 6]
-    requires { ⌜ (at + 3 * left ≤ 8 * length (now bytes)) × (at + 3 * left < 18446744073709551616) ⌝ }
+    requires { ⌜ Inside (now bytes) at left ⌝ }
     ensures { λ r. ⌜ GroupsAhead (groupsAt (bitsOf (now (bytes .entry))) at left) r ⌝ }
 {
     let one = group_ahead(bytes, at, left, 0);
@@ -109,7 +109,7 @@ fn reads_at(k: usize, ahead: [u16; 6], left: usize, before: bool, hash: bool) ->
 
 // The row of the word at bit `at`; where none of the others is read, the last.
 fn read_row(bytes: &[u8], at: usize, left: usize, before: bool, hash: bool) -> usize
-    requires { ⌜ ((at + 3 * left ≤ 8 * length (now bytes)) × (at + 3 * left < 18446744073709551616)) × (0 < left) ⌝ }
+    requires { ⌜ Inside (now bytes) at left × (0 < left) ⌝ }
     ensures { λ r. ⌜ Reading before hash (groupsAt (bitsOf (now (bytes .entry))) at left) left r ⌝ }
 {
     let ahead = groups_ahead(bytes, at, left);
@@ -138,7 +138,7 @@ fn put_pairs(k: usize, pairs: &mut [u8], i: usize)
 
 // The pairs of the words read from bit `at` on, as many as `pairs` has places.
 fn read_words(bytes: &[u8], at: usize, before: bool, hash: bool, pairs: &mut [u8])
-    requires { ⌜ (at + 3 * length (now pairs) ≤ 8 * length (now bytes)) × (at + 3 * length (now pairs) < 18446744073709551616) ⌝ }
+    requires { ⌜ Inside (now bytes) at (length (now pairs)) ⌝ }
     ensures { λ _. ⌜ now (pairs .exit) ≡ numbers (demodulate before (frameAt (bitsOf (now (bytes .entry))) at (length (now (pairs .entry))) hash)) ⌝ }
 {
     let mut b = before;
@@ -153,7 +153,7 @@ fn read_words(bytes: &[u8], at: usize, before: bool, hash: bool, pairs: &mut [u8
 
 // Whether the pairs give the groups from bit `at` on, and a next sync with # `hash`.
 fn gives(bytes: &[u8], at: usize, before: bool, hash: bool, pairs: &[u8]) -> bool
-    requires { ⌜ Pairs (now pairs) × ((at + 3 * length (now pairs) ≤ 8 * length (now bytes)) × (at + 3 * length (now pairs) < 18446744073709551616)) ⌝ }
+    requires { ⌜ Pairs (now pairs) × Inside (now bytes) at (length (now pairs)) ⌝ }
     ensures { λ r. ⌜ Compared (modulate before (twos (now (pairs .entry)))) (frameAt (bitsOf (now (bytes .entry))) at (length (now (pairs .entry))) hash) r ⌝ }
 {
     let mut b = before;
@@ -185,7 +185,7 @@ fn clear(pairs: &mut [u8])
 // The groups of a frame from bit `at` on, demodulated, as many as `pairs` has places: `before` is the bit in front of them and `hash` # of
 // the next sync. Answers whether there are data bits that give them; where there are none, `pairs` is cleared.
 pub fn demodulate(bytes: &[u8], at: usize, before: bool, hash: bool, pairs: &mut [u8]) -> bool
-    requires { ⌜ (at + 3 * length (now pairs) ≤ 8 * length (now bytes)) × (at + 3 * length (now pairs) < 18446744073709551616) ⌝ }
+    requires { ⌜ Inside (now bytes) at (length (now pairs)) ⌝ }
     ensures { λ r. ⌜ Demodulated before (take (3 * length (now (pairs .entry))) (drop at (bitsOf (now (bytes .entry))))) hash (length (now (pairs .entry))) r (now (pairs .exit)) ⌝ }
 {
     read_words(bytes, at, before, hash, pairs);

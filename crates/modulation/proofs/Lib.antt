@@ -14,3 +14,4 @@ pub mod Spacing
 pub mod Streams
 pub mod Limits
 pub mod Unique
+pub mod Theorems

@@ -8,6 +8,7 @@ use Rattle.modulation.specs.Modulation.{Two, d00, d01, d10, d11, twoNumb
 abbrev pub Pairs : List ℕ → Type 0
 Pairs l = (i : ℕ) → getD l i 0 < 4
 
+-- the pair of a number, 11 from 3 on
 abbrev pub twoOf : ℕ → Two
 twoOf zero = d00
 twoOf (suc zero) = d01

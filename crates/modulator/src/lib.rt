@@ -45,6 +45,7 @@ const ROWS: [Row; 16] = [
     Row(1, 0b00, 0b000, When::AtEnd),
 ];
 
+// Row k of the table.
 pub fn row_at(k: usize) -> Row
     requires { ⌜ k < 16 ⌝ }
     ensures { λ r. ⌜ r ≡ coded (rowAt k) ⌝ }
@@ -133,7 +134,7 @@ fn pairs_ahead(pairs: &[u8], i: usize) -> [u8; 5]
 }
 
 // Whether the pairs of row k stand first among those ahead, of which `left` are left.
-fn stands(k: usize, ahead: [u8; 5], left: usize) -> bool
+fn pairs_stand(k: usize, ahead: [u8; 5], left: usize) -> bool
     requires { ⌜ k < 16 ⌝ }
     ensures { λ r. ⌜ ((ds : List Two) → PairsAhead ds ahead → length ds ≡ left → r ≡ starts twoNumber (rowAt k .pairs) ds) ⌝ }
 {
@@ -154,7 +155,7 @@ fn standing_row(pairs: &[u8], i: usize) -> usize
     let left = pairs.len() - i;
     let mut k = 0;
     while k < 16 {
-        if stands(k, ahead, left) {
+        if pairs_stand(k, ahead, left) {
             return k;
         }
         k += 1;
@@ -194,7 +195,7 @@ fn fits_at(k: usize, ahead: [u8; 5], pairs: &[u8], i: usize, before: bool) -> bo
     requires { ⌜ ((k < 16) × Pairs (now pairs)) × ((i ≤ length (now pairs)) × PairsAhead (drop i (twos (now pairs))) ahead) ⌝ }
     ensures { λ r. ⌜ r ≡ fits (rowAt k) before (drop i (twos (now (pairs .entry)))) (modulateFrom (tail (drop i (twos (now (pairs .entry)))))) ⌝ }
 {
-    if stands(k, ahead, pairs.len() - i) {
+    if pairs_stand(k, ahead, pairs.len() - i) {
         allowed_at(k, pairs, i, before)
     } else {
         false

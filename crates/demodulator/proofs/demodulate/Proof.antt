@@ -13,9 +13,8 @@ gives-requires c κs =
     let read = c .before .before .before in
     let start = read .before .before .before .before in
     let args = start .args in
-    let n = length (args .pairs .now) in
-    let size = read-size (args .bytes .now) (args .at) n (args .before) (args .hash) (start .pre .0) (read .read-words .ensures) in
-    (read-pairs (args .bytes .now) (args .at) n (args .before) (args .hash) (start .pre .0) (read .read-words .ensures), omega (arith, size))
+    let size = read-size (args .before) (args .hash) (start .pre) (read .read-words .ensures) in
+    (read-pairs (args .before) (args .hash) (start .pre) (read .read-words .ensures), omega (arith, size))
 
 same-length : tie.Need-same-length
 same-length c = search needs
@@ -26,7 +25,7 @@ returns c =
     let read = gave .before .before .before .before in
     let start = read .before .before .before .before in
     let args = start .args in
-    answer-found (args .bytes .now) (args .at) (length (args .pairs .now)) (args .before) (args .hash) (start .pre .0) (read .read-words .ensures)
+    answer-found (args .before) (args .hash) (start .pre) (read .read-words .ensures)
     (gave .gives .ensures) (c .if1 .taken)
 
 clear-requires : tie.Need-clear-requires
@@ -43,7 +42,7 @@ returns-2 c =
     let read = gave .before .before .before .before in
     let start = read .before .before .before .before in
     let args = start .args in
-    answer-none (args .bytes .now) (args .at) (length (args .pairs .now)) (args .before) (args .hash) (start .pre .0) (read .read-words .ensures)
+    answer-none (args .before) (args .hash) (start .pre) (read .read-words .ensures)
     (gave .gives .ensures) (kept .if1 .left) (cleared .clear .ensures)
 
 pub demodulate-spec : {M : Type 1} → statement M

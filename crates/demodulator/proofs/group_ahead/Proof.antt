@@ -17,7 +17,7 @@ cast-result c = search needs
 
 returns : tie.Need-returns
 returns c = let start = c .before .before .before .before in
-    let read = group-read (start .args .bytes .now) (start .args .at) (start .args .left) (start .args .j) (c .before .read-three .ensures) (start .pre .0) (search needs) in
+    let read = group-read (start .args .j) (c .before .read-three .ensures) (start .pre) (search needs) in
     (λ h. read .0, read .1)
 
 returns-2 : tie.Need-returns-2

@@ -5,11 +5,11 @@ use Rattle.modulator.proofs.Fitting.{fits-not, fits-if, fits-within}
 use Rattle.modulator.proofs.fits_at.Statement.{statement}
 use Rattle.modulator.proofs.fits_at.Tie as tie
 
-sub-stands : tie.Need-sub-stands
-sub-stands c = search needs
+sub-pairs-stand : tie.Need-sub-pairs-stand
+sub-pairs-stand c = search needs
 
-stands-requires : tie.Need-stands-requires
-stands-requires c κs = search needs
+pairs-stand-requires : tie.Need-pairs-stand-requires
+pairs-stand-requires c κs = search needs
 
 allowed-at-requires : tie.Need-allowed-at-requires
 allowed-at-requires c κs =
@@ -18,7 +18,7 @@ allowed-at-requires c κs =
     let args = start .args in (
       start .pre .0,
       fits-within (args .k) (args .pairs .now) (args .i) (args .before)
-          (tested .stands .ensures _ (start .pre .1 .1) (pairs-left (args .pairs .now) (args .i))) (c .if1 .taken) (start .pre .1 .0),
+          (tested .pairs-stand .ensures _ (start .pre .1 .1) (pairs-left (args .pairs .now) (args .i))) (c .if1 .taken) (start .pre .1 .0),
     )
 
 returns : tie.Need-returns
@@ -27,7 +27,7 @@ returns c =
     let start = tested .before .before in
     let args = start .args in
     fits-if (args .k) (args .pairs .now) (args .i) (args .before)
-    (tested .stands .ensures _ (start .pre .1 .1) (pairs-left (args .pairs .now) (args .i))) (c .before .if1 .taken) (c .allowed-at .ensures)
+    (tested .pairs-stand .ensures _ (start .pre .1 .1) (pairs-left (args .pairs .now) (args .i))) (c .before .if1 .taken) (c .allowed-at .ensures)
 
 returns-2 : tie.Need-returns-2
 returns-2 c =
@@ -35,8 +35,8 @@ returns-2 c =
     let start = tested .before .before in
     let args = start .args in
     fits-not (args .k) (args .pairs .now) (args .i) (args .before)
-    (tested .stands .ensures _ (start .pre .1 .1) (pairs-left (args .pairs .now) (args .i))) (c .if1 .left)
+    (tested .pairs-stand .ensures _ (start .pre .1 .1) (pairs-left (args .pairs .now) (args .i))) (c .if1 .left)
 
 pub fits-at-spec : {M : Type 1} → statement M
 fits-at-spec =
-    tie.close (tie.spec sub-stands stands-requires allowed-at-requires returns returns-2)
+    tie.close (tie.spec sub-pairs-stand pairs-stand-requires allowed-at-requires returns returns-2)

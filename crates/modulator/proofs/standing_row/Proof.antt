@@ -24,15 +24,15 @@ sub-left c = search needs
 loop-holds : tie.Need-loop-holds Inv-loop μ-loop
 loop-holds c = searched-none
 
-stands-requires : tie.Need-stands-requires Inv-loop μ-loop
-stands-requires c κs = search needs
+pairs-stand-requires : tie.Need-pairs-stand-requires Inv-loop μ-loop
+pairs-stand-requires c κs = search needs
 
 returns : tie.Need-returns Inv-loop μ-loop
 returns c =
     let turn = c .before .before .before in
     let made = turn .before in
     let args = made .before .before .args in
-    searched-found (turn .loop .inv) (search needs) (c .before .stands .ensures _ (made .pairs-ahead .ensures) (pairs-left (args .pairs .now) (args .i))) (c .if1 .taken)
+    searched-found (turn .loop .inv) (search needs) (c .before .pairs-stand .ensures _ (made .pairs-ahead .ensures) (pairs-left (args .pairs .now) (args .i))) (c .if1 .taken)
 
 add-k : tie.Need-add-k Inv-loop μ-loop
 add-k c = search needs
@@ -45,7 +45,7 @@ loop-again c =
     let turn = c .before .before .before in
     let made = turn .before in
     let args = made .before .before .args in
-    searched-more (turn .loop .inv) (search needs) (c .before .stands .ensures _ (made .pairs-ahead .ensures) (pairs-left (args .pairs .now) (args .i))) (c .if1 .left)
+    searched-more (turn .loop .inv) (search needs) (c .before .pairs-stand .ensures _ (made .pairs-ahead .ensures) (pairs-left (args .pairs .now) (args .i))) (c .if1 .left)
 
 returns-2 : tie.Need-returns-2 Inv-loop μ-loop
 returns-2 c = searched-all (c .before .loop .inv) (c .loop-test .left)
@@ -59,7 +59,7 @@ standing-row-spec =
     pairs-ahead-requires
     sub-left
     loop-holds
-    stands-requires
+    pairs-stand-requires
     returns
     add-k
     loop-less

@@ -2,8 +2,8 @@ use Rattle.modulator.proofs.Ahead.{stands-not, stands-if}
 use Rattle.modulator.proofs.Rows.{code-sized}
 use native.Mathlib.Omega.{arith}
 use borrow.Author.Needs.{needs}
-use Rattle.modulator.proofs.stands.Statement.{statement}
-use Rattle.modulator.proofs.stands.Tie as tie
+use Rattle.modulator.proofs.pairs_stand.Statement.{statement}
+use Rattle.modulator.proofs.pairs_stand.Tie as tie
 
 row-at-requires : tie.Need-row-at-requires
 row-at-requires c κs = search needs
@@ -17,5 +17,5 @@ array-read-result c = omega (arith, code-sized (c .before .before .args .k) _ (s
 returns-2 : tie.Need-returns-2
 returns-2 c = λ ds ahead left. stands-if (c .before .before .before .args .k) _ (search needs) (c .before .before .row-at .ensures) ds ahead (omega arith)
 
-pub stands-spec : {M : Type 1} → statement M
-stands-spec = tie.close (tie.spec row-at-requires returns array-read-result returns-2)
+pub pairs-stand-spec : {M : Type 1} → statement M
+pairs-stand-spec = tie.close (tie.spec row-at-requires returns array-read-result returns-2)
