@@ -1,20 +1,16 @@
--- The division keeps each root of the generator, so the parity completes the message. Assumes nothing.
+-- The division keeps each root of the polynomial that it divides by. Assumes nothing.
 use mathlib.Core.Path.{_≡_, sym, ap, ap₂, _∙_}
 use mathlib.Core.List.{List, [], _∷_, _++_}
 use Prim.Native.Nat.{ℕ, suc, _<_}
 use native.Mathlib.Omega.{arith}
-use lib.ListN.{length, drop}
+use lib.ListN.{length}
 use Rattle.laws.specs.Bytes.{Bytes}
-use Rattle.laws.specs.Tabulate.{tabulate}
-use Rattle.laws.proofs.Bytes.{bytes-tabulate}
-use Rattle.laws.proofs.Tabulate.{length-tabulate}
-use Rattle.field.specs.Field.{α, sum, product, power}
+use Rattle.field.specs.Field.{sum, product}
 use Rattle.field.proofs.Sum.{sum-assoc, sum-comm, sum-zero, sum-self, sum-byte, sum-cancel}
 use Rattle.field.proofs.Product.{product-zero, zero-product, product-one}
-use Rattle.column.specs.Column.{valueFrom, value, Completes, sums, scaled, generator, pushed, remainder, parity}
+use Rattle.column.specs.Column.{valueFrom, sums, scaled, pushed, remainder}
 use Rattle.column.proofs.Sums.{length-snoc, length-sums, length-scaled, bytes-snoc, bytes-sums, bytes-scaled}
-use Rattle.column.proofs.Value.{value-append, value-sums, value-scaled, value-zeros}
-use Rattle.column.proofs.Generator.{taps-length, taps-roots}
+use Rattle.column.proofs.Value.{value-append, value-sums, value-scaled}
 
 -- ---- one byte into the register
 
@@ -65,44 +61,20 @@ pushed-keeps g (c ∷ cs) d v x e h hd root at =
 
 -- ---- the whole message
 
-length-remainder : (g cs ds : List ℕ) → length cs ≡ length g → length (remainder g cs ds) ≡ length g
+pub length-remainder : (g cs ds : List ℕ) → length cs ≡ length g → length (remainder g cs ds) ≡ length g
 unfolding remainder
 length-remainder g cs [] e = e
 length-remainder g cs (d ∷ ds) e = length-remainder g (pushed g cs d) ds (length-pushed g cs d e)
 
-bytes-remainder : (g cs ds : List ℕ) → Bytes cs → Bytes (remainder g cs ds)
+pub bytes-remainder : (g cs ds : List ℕ) → Bytes cs → Bytes (remainder g cs ds)
 unfolding remainder
 bytes-remainder g cs [] h = h
 bytes-remainder g cs (d ∷ ds) h = bytes-remainder g (pushed g cs d) ds (bytes-pushed g cs d h)
 
-remainder-keeps : (g cs ds : List ℕ) (v x : ℕ) → length cs ≡ length g → Bytes cs → Bytes ds → valueFrom 1 g x ≡ 0 → valueFrom v cs x ≡ 0
+pub remainder-keeps : (g cs ds : List ℕ) (v x : ℕ) → length cs ≡ length g → Bytes cs → Bytes ds → valueFrom 1 g x ≡ 0 → valueFrom v cs x ≡ 0
     → valueFrom (valueFrom v ds x) (remainder g cs ds) x ≡ 0
 unfolding remainder valueFrom
 remainder-keeps g cs [] v x e h hd root at = at
 remainder-keeps g cs (d ∷ ds) v x e h hd root at =
     remainder-keeps g (pushed g cs d) ds (sum (product v x) d) x (length-pushed g cs d e) (bytes-pushed g cs d h) (λ j. hd (suc j)) root
     (pushed-keeps g cs d v x e h (hd 0) root at)
-
--- the parity gives the column its roots, for every length of the message
-pub parity-completes : (r : ℕ) (message : List ℕ) → Bytes message → Completes r message (parity r message)
-unfolding parity value
-parity-completes r message h =
-    record {
-      size = length-remainder taps zeros message starts ∙ taps-length r;
-      bytes = bytes-remainder taps zeros message none;
-      roots = λ i k.
-          value-append 0 message (remainder taps zeros message) (power α i)
-          ∙ remainder-keeps taps zeros message 0 (power α i) starts none h (taps-roots r i k) (value-zeros r (power α i));
-    }
-  where
-    taps : List ℕ
-    taps = drop 1 (generator r)
-
-    zeros : List ℕ
-    zeros = tabulate r (λ _. 0)
-
-    none : Bytes zeros
-    none = bytes-tabulate r (λ _. 0) (λ k h. omega arith)
-
-    starts : length zeros ≡ length taps
-    starts = length-tabulate r (λ _. 0) ∙ sym (taps-length r)

@@ -70,25 +70,25 @@ generator-length (suc r) =
 
 -- ---- without its first coefficient, as the division takes it
 
-pub taps-length : (r : ℕ) → length (drop 1 (generator r)) ≡ r
-taps-length r = suc-inj (ap length (sym (generator-first r)) ∙ generator-length r)
+pub coefficients-length : (r : ℕ) → length (drop 1 (generator r)) ≡ r
+coefficients-length r = suc-inj (ap length (sym (generator-first r)) ∙ generator-length r)
 
-pub taps-roots : (r i : ℕ) → i < r → valueFrom 1 (drop 1 (generator r)) (power α i) ≡ 0
-taps-roots r i h =
+pub coefficients-roots : (r i : ℕ) → i < r → valueFrom 1 (drop 1 (generator r)) (power α i) ≡ 0
+coefficients-roots r i h =
     sym (value-cons 1 (drop 1 (generator r)) (power α i)) ∙ ap (λ (l : List ℕ). value l (power α i)) (sym (generator-first r)) ∙ generator-roots r i h
 
-unfoldable pub taps32 : List ℕ
-taps32 =
+unfoldable pub coefficients32 : List ℕ
+coefficients32 =
     116 ∷ 64 ∷ 52 ∷ 174 ∷ 54 ∷ 126 ∷ 16 ∷ 194 ∷ 162 ∷ 33 ∷ 33 ∷ 157 ∷ 176 ∷ 197 ∷ 225 ∷ 12 ∷
     59 ∷ 55 ∷ 253 ∷ 228 ∷ 148 ∷ 47 ∷ 179 ∷ 185 ∷ 24 ∷ 138 ∷ 253 ∷ 20 ∷ 142 ∷ 55 ∷ 172 ∷ 88 ∷ []
 
-unfoldable pub taps4 : List ℕ
-taps4 = 15 ∷ 54 ∷ 120 ∷ 64 ∷ []
+unfoldable pub coefficients4 : List ℕ
+coefficients4 = 15 ∷ 54 ∷ 120 ∷ 64 ∷ []
 
-pub generator-32 : generator 32 ≡ 1 ∷ taps32
-unfolding generator taps32 timesRoot sums scaled power product times timesα sum
+pub generator-32 : generator 32 ≡ 1 ∷ coefficients32
+unfolding generator coefficients32 timesRoot sums scaled power product times timesα sum
 generator-32 = refl
 
-pub generator-4 : generator 4 ≡ 1 ∷ taps4
-unfolding generator taps4 timesRoot sums scaled power product times timesα sum
+pub generator-4 : generator 4 ≡ 1 ∷ coefficients4
+unfolding generator coefficients4 timesRoot sums scaled power product times timesα sum
 generator-4 = refl

@@ -5,6 +5,6 @@ pub mod Generator
 pub mod Division
 pub mod Register
 pub mod Powers
-pub mod Parity
+pub mod Unique
 pub mod Roots
-pub mod Columns
+pub mod Parity

@@ -1,110 +1,77 @@
--- The parity: the only r bytes that give the message, with them behind it, the roots α^0 to α^(r - 1), for every length and r up to 255. Assumes nothing.
-use mathlib.Core.Path.{_≡_, refl, sym, ap, ap₂, _∙_}
-use mathlib.Core.List.{List, [], _∷_, _++_}
-use Prim.Native.Nat.{ℕ, suc, _<_, _≤_}
-use native.Mathlib.Nat.{suc-inj, le-refl}
+-- The laws of the parity, for every length of the message: the only r bytes that give the column its roots. Assumes nothing.
+use mathlib.Core.Path.{_≡_, sym, ap, _∙_, subst⁻¹}
+use mathlib.Core.Bool.{true}
+use mathlib.Core.List.{List, _++_}
+use Prim.Native.Nat.{ℕ, _+_, _≤_}
 use native.Mathlib.Omega.{arith}
-use lib.ListN.{length}
+use lib.ListN.{length, take, drop, length-drop, take-append-drop}
 use Rattle.laws.specs.Bytes.{Bytes}
-use Rattle.field.specs.Field.{α, sum, product, power}
-use Rattle.field.proofs.Sum.{sum-assoc, sum-zero, sum-self, sum-byte, sum-same}
-use Rattle.field.proofs.Product.{product-byte, product-assoc, sum-product, product-one}
-use Rattle.field.proofs.Power.{power-swap}
-use Rattle.column.specs.Column.{valueFrom, value, Roots, Completes, IsParity, sums, parity}
-use Rattle.column.proofs.Sums.{length-sums, bytes-sums}
-use Rattle.column.proofs.Value.{value-append, value-cons, value-sums}
-use Rattle.column.proofs.Division.{parity-completes}
-use Rattle.column.proofs.Powers.{total, Falls, Zeros, vanish}
+use Rattle.laws.specs.Tabulate.{tabulate}
+use Rattle.laws.proofs.Bytes.{bytes-take, bytes-drop, bytes-tabulate}
+use Rattle.laws.proofs.Tabulate.{length-tabulate}
+use Rattle.field.specs.Field.{α, power}
+use Rattle.column.specs.Column.{value, Roots, hasRoots, Completes, IsParity, generator, remainder, parity}
+use Rattle.column.proofs.Value.{value-append, value-zeros}
+use Rattle.column.proofs.Generator.{coefficients-length, coefficients-roots}
+use Rattle.column.proofs.Division.{length-remainder, bytes-remainder, remainder-keeps}
+use Rattle.column.proofs.Unique.{completes-once}
+use Rattle.column.proofs.Roots.{has-roots}
 
--- ---- the value at α^s is a sum of powers
+-- ---- the register starts with r zeros
 
--- the exponent of each byte's power of x
-unfoldable exponents : List ℕ → List ℕ
-exponents [] = []
-exponents (c ∷ cs) = length cs ∷ exponents cs
+zeros-bytes : (r : ℕ) → Bytes (tabulate r (λ _. 0))
+zeros-bytes r = bytes-tabulate r (λ _. 0) (λ k h. omega arith)
 
-exponents-length : (cs : List ℕ) → length (exponents cs) ≡ length cs
-unfolding exponents
-exponents-length [] = refl
-exponents-length (c ∷ cs) = ap suc (exponents-length cs)
+zeros-length : (r : ℕ) → length {A = ℕ} (tabulate r (λ _. 0)) ≡ length (drop 1 (generator r))
+zeros-length r = length-tabulate r (λ _. 0) ∙ sym (coefficients-length r)
 
-exponents-fall : (cs : List ℕ) → Falls (length cs) (exponents cs)
-unfolding exponents
-exponents-fall [] = tt
-exponents-fall (c ∷ cs) = (le-refl (suc (length cs)), exponents-fall cs)
+-- ---- r bytes, which give the column its roots
 
--- the bytes before count with their power
-value-out : (v : ℕ) (cs : List ℕ) (x : ℕ) → v < 256 → Bytes cs → valueFrom v cs x ≡ sum (product v (power x (length cs))) (value cs x)
-unfolding value valueFrom power
-value-out v [] x h b = sym (sum-zero (product v 1) ∙ product-one v h)
-value-out v (c ∷ cs) x h b =
-    value-out (sum (product v x) c) cs x (sum-byte (product-byte v x) (b 0)) (λ j. b (suc j))
-    ∙ ap (λ (u : ℕ). sum u (value cs x))
-    (sum-product (power x (length cs)) (product v x) c
-    ∙ ap (λ (u : ℕ). sum u (product c (power x (length cs)))) (product-assoc v x (power x (length cs))))
-    ∙ sum-assoc (product v (product x (power x (length cs)))) (product c (power x (length cs))) (value cs x)
-    ∙ ap (sum (product v (product x (power x (length cs))))) (sym (value-cons c cs x ∙ value-out c cs x (b 0) (λ j. b (suc j))))
+pub parity-length : (r : ℕ) (message : List ℕ) → length (parity r message) ≡ r
+unfolding parity
+parity-length r message = length-remainder (drop 1 (generator r)) (tabulate r (λ _. 0)) message (zeros-length r) ∙ coefficients-length r
 
-value-total : (cs : List ℕ) (s : ℕ) → Bytes cs → value cs (power α s) ≡ total cs (exponents cs) s
-unfolding value valueFrom total exponents
-value-total [] s b = refl
-value-total (c ∷ cs) s b =
-    value-cons c cs (power α s)
-    ∙ value-out c cs (power α s) (b 0) (λ j. b (suc j))
-    ∙ ap₂ (λ (p q : ℕ). sum (product c p) q) (power-swap α s (length cs)) (value-total cs s (λ j. b (suc j)))
+pub parity-bytes : (r : ℕ) (message : List ℕ) → Bytes (parity r message)
+unfolding parity
+parity-bytes r message = bytes-remainder (drop 1 (generator r)) (tabulate r (λ _. 0)) message (zeros-bytes r)
 
--- a column of r bytes with r roots is zero
-roots-zeros : (cs : List ℕ) → length cs ≤ 255 → Bytes cs → Roots (length cs) cs → Zeros cs
-roots-zeros cs h b roots =
-    vanish (exponents cs) (length cs) h (exponents-fall cs) cs (sym (exponents-length cs)) b
-    (λ s k. sym (value-total cs s b) ∙ roots s (omega (arith, exponents-length cs)))
+pub parity-roots : (r : ℕ) (message : List ℕ) → Bytes message → Roots r (message ++ parity r message)
+unfolding parity value
+parity-roots r message bytes i h =
+    value-append 0 message (remainder (drop 1 (generator r)) (tabulate r (λ _. 0)) message) (power α i)
+    ∙ remainder-keeps (drop 1 (generator r)) (tabulate r (λ _. 0)) message 0 (power α i) (zeros-length r) (zeros-bytes r) bytes (coefficients-roots r i h)
+    (value-zeros r (power α i))
 
--- ---- uniqueness
+pub parity-completes : (r : ℕ) (message : List ℕ) → Bytes message → Completes r message (parity r message)
+parity-completes r message bytes =
+    record { size = parity-length r message; bytes = parity-bytes r message; roots = parity-roots r message bytes }
 
-sums-zeros : (xs ys : List ℕ) → length xs ≡ length ys → Zeros (sums xs ys) → xs ≡ ys
-unfolding sums
-sums-zeros [] [] e z = refl
-sums-zeros [] (y ∷ ys) e z = absurd (omega arith)
-sums-zeros (x ∷ xs) [] e z = absurd (omega arith)
-sums-zeros (x ∷ xs) (y ∷ ys) e z =
-    ap₂ {A = ℕ} {B = List ℕ} {C = List ℕ} (λ a l. a ∷ l) (sum-same x y (z .0)) (sums-zeros xs ys (suc-inj e) (z .1))
+-- ---- and no others do
 
-completes-once : (r : ℕ) → r ≤ 255 → (message p q : List ℕ) → Completes r message p → Completes r message q → q ≡ p
-unfolding value
-completes-once r hr message p q cp cq =
-    sums-zeros q p e
-    (roots-zeros (sums q p) (omega (arith, size)) (bytes-sums q p (cq .bytes) (cp .bytes))
-    (λ i k.
-    ap (λ (u : ℕ). valueFrom u (sums q p) (power α i)) (sym (sum-self (value message (power α i))))
-    ∙ value-sums (value message (power α i)) (value message (power α i)) q p (power α i) e
-    ∙ ap₂ sum (sym (value-append 0 message q (power α i)) ∙ cq .roots i (omega (arith, size))) (sym (value-append 0 message p (power α i)) ∙ cp .roots i (omega (arith, size)))
-    ∙ sum-self 0))
-  where
-    e : length q ≡ length p
-    e = cq .size ∙ sym (cp .size)
-
-    size : length (sums q p) ≡ r
-    size = length-sums q p e ∙ cq .size
-
--- ---- the laws that other crates cite
-
-module _ (r : ℕ) (r≤255 : r ≤ 255) (message : List ℕ) (bytes : Bytes message) where
-  pub parity-only : IsParity r message (parity r message)
-  parity-only =
+module _ (r : ℕ) (few : r ≤ 255) where
+  pub parity-only : (message : List ℕ) → Bytes message → IsParity r message (parity r message)
+  parity-only message bytes =
       record {
         right = parity-completes r message bytes;
-        only = λ q cq. completes-once r r≤255 message (parity r message) q (parity-completes r message bytes) cq;
+        only = λ q other. completes-once r few message (parity r message) q (parity-completes r message bytes) other;
       }
 
-  pub parity-length : length (parity r message) ≡ r
-  parity-length = parity-completes r message bytes .size
+  -- a column that has its roots ends in the parity of what stands before
+  pub roots-parity : (message p : List ℕ) → Bytes message → Bytes p → length p ≡ r → Roots r (message ++ p) → p ≡ parity r message
+  roots-parity message p bm bp size roots = parity-only message bm .only p (record { size = size; bytes = bp; roots = roots })
 
-  pub parity-bytes : Bytes (parity r message)
-  parity-bytes = parity-completes r message bytes .bytes
+-- ---- the same, of the test
 
-  pub parity-roots : Roots r (message ++ parity r message)
-  parity-roots = parity-completes r message bytes .roots
+pub parity-test : (r : ℕ) (message : List ℕ) → Bytes message → hasRoots r (message ++ parity r message) ≡ true
+parity-test r message bytes = has-roots r (message ++ parity r message) .1 (parity-roots r message bytes)
 
-  -- a column with its roots ends in the parity of what stands before
-  pub roots-parity : (p : List ℕ) → length p ≡ r → Bytes p → Roots r (message ++ p) → p ≡ parity r message
-  roots-parity p size b roots = parity-only .only p (record { size = size; bytes = b; roots = roots })
+-- a column of n bytes and r more that passes the test
+pub test-parity : (r : ℕ) → r ≤ 255 → (n : ℕ) (column : List ℕ) → Bytes column → length column ≡ n + r → hasRoots r column ≡ true
+    → drop n column ≡ parity r (take n column)
+test-parity r few n column bytes size test =
+    roots-parity r few (take n column) (drop n column) (bytes-take n column bytes) (bytes-drop n column bytes) (omega (arith, length-drop n column))
+    (subst⁻¹ (Roots r) (take-append-drop n column) (has-roots r column .0 test))
+
+pub test-column : (r : ℕ) → r ≤ 255 → (n : ℕ) (column : List ℕ) → Bytes column → length column ≡ n + r → hasRoots r column ≡ true
+    → column ≡ take n column ++ parity r (take n column)
+test-column r few n column bytes size test = sym (take-append-drop n column) ∙ ap (_++_ (take n column)) (test-parity r few n column bytes size test)

@@ -9,7 +9,10 @@ use lib.Seq.{take-suc, take-all, getD-set-other}
 use Rattle.laws.specs.Tabulate.{tabulate}
 use Rattle.laws.proofs.Tabulate.{length-tabulate, is-tabulate}
 use Rattle.laws.proofs.Fill.{Upto, upto-none, upto-more, upto-all}
+use Rattle.laws.specs.Bytes.{Bytes}
 use Rattle.field.specs.Field.{sum, product}
+use Rattle.field.specs.Tables.{AreTables, productBy}
+use Rattle.field.proofs.Lookup.{product-table}
 use Rattle.field.proofs.Sum.{zero-sum}
 use Rattle.column.specs.Column.{scaled, generator, pushed, remainder, parity}
 use Rattle.column.proofs.Sums.{length-snoc, length-scaled, snoc-at, sums-at, scaled-at}
@@ -25,41 +28,59 @@ pushed-at g (c ∷ cs) d i e h =
     sums-at (cs ++ 0 ∷ []) (scaled (sum d c) g) i (length-snoc cs ∙ sym e ∙ sym (length-scaled (sum d c) g))
     ∙ ap₂ sum (snoc-at cs i ∙ ap (λ (k : ℕ). getD (c ∷ cs) k 0) (sym (add-one i))) (scaled-at (sum d c) g i)
 
--- f is the byte that comes out, with the one that goes in; the first j places are those after the byte, and the others as they were
-pub record Moved (g was : List ℕ) (byte f j : ℕ) (now : List ℕ) : Type 0 where
+-- p and l are the field's tables; f is the byte that comes out, with the one that goes in; the first j places are those after the byte, and the
+-- others as they were
+pub record Moved (p l g was : List ℕ) (byte f j : ℕ) (now : List ℕ) : Type 0 where
+  pub tables : AreTables p l
+  pub bytes : Bytes g
   pub same : length g ≡ length was
+  pub small : f < 256
   pub out : f ≡ sum byte (getD was 0 0)
   pub done : Upto 0 (λ k. getD (pushed g was byte) k 0) (length was) j now
   pub rest : (k : ℕ) → j ≤ k → getD now k 0 ≡ getD was k 0
 
-pub moved-none : {g was : List ℕ} {byte f : ℕ} → length g ≡ length was → f ≡ sum byte (getD was 0 0) → Moved g was byte f 0 was
-moved-none same out = record { same = same; out = out; done = upto-none refl; rest = λ k h. refl }
+pub moved-none : {p l g was : List ℕ} {byte f : ℕ} → AreTables p l → Bytes g → length g ≡ length was → f < 256 → f ≡ sum byte (getD was 0 0)
+    → Moved p l g was byte f 0 was
+moved-none tables bytes same small out =
+    record {
+      tables = tables;
+      bytes = bytes;
+      same = same;
+      small = small;
+      out = out;
+      done = upto-none refl;
+      rest = λ k h. refl;
+    }
 
--- p is the product of f and the coefficient at j
-module _ {g was now : List ℕ} {byte f j p : ℕ} (times : p ≡ product f (getD g j 0)) (moved : Moved g was byte f j now) where
-  after : j < length was → sum (getD was (j + 1) 0) p ≡ getD (pushed g was byte) j 0
+-- m is the product of f and the coefficient at j
+module _ {p l g was now : List ℕ} {byte f j m : ℕ} (times : m ≡ productBy p l f (getD g j 0)) (moved : Moved p l g was byte f j now) where
+  after : j < length was → sum (getD was (j + 1) 0) m ≡ getD (pushed g was byte) j 0
   after h =
-      ap (sum (getD was (j + 1) 0)) (times ∙ ap (λ (u : ℕ). product u (getD g j 0)) (moved .out))
+      ap (sum (getD was (j + 1) 0))
+      (product-table (moved .tables) (moved .small) (moved .bytes j) times ∙ ap (λ (u : ℕ). product u (getD g j 0)) (moved .out))
       ∙ sym (pushed-at g was byte j (moved .same) (omega arith))
 
-  pub moved-next : {next : ℕ} → j + 1 < length was → next ≡ sum (getD now (j + 1) 0) p → Moved g was byte f (j + 1) (set now j next)
+  pub moved-next : {next : ℕ} → j + 1 < length was → next ≡ sum (getD now (j + 1) 0) m → Moved p l g was byte f (j + 1) (set now j next)
   moved-next {next} h e =
       record {
+        tables = moved .tables;
+        bytes = moved .bytes;
         same = moved .same;
+        small = moved .small;
         out = moved .out;
-        done = upto-more (omega arith) (e ∙ ap (λ (u : ℕ). sum u p) (moved .rest (j + 1) (omega arith)) ∙ after (omega arith)) (moved .done);
+        done = upto-more (omega arith) (e ∙ ap (λ (u : ℕ). sum u m) (moved .rest (j + 1) (omega arith)) ∙ after (omega arith)) (moved .done);
         rest = λ k h. getD-set-other now j k next 0 (λ q. omega (arith, q)) ∙ moved .rest k (omega arith);
       }
 
   -- past the last place the register was 0
-  pub moved-last : j + 1 ≡ length was → set now j p ≡ pushed g was byte
+  pub moved-last : j + 1 ≡ length was → set now j m ≡ pushed g was byte
   moved-last h =
       upto-all (omega arith) (upto-more (omega arith) right (moved .done))
       ∙ sym (is-tabulate 0 (length was) (λ k. getD (pushed g was byte) k 0) (pushed g was byte) size (λ k h. refl))
     where
-      right : p ≡ getD (pushed g was byte) j 0
+      right : m ≡ getD (pushed g was byte) j 0
       right =
-          sym (zero-sum p) ∙ ap (λ (u : ℕ). sum u p) (sym (List·getD-eq-default was 0 {n = j + 1} (omega arith))) ∙ after (omega arith)
+          sym (zero-sum m) ∙ ap (λ (u : ℕ). sum u m) (sym (List·getD-eq-default was 0 {n = j + 1} (omega arith))) ∙ after (omega arith)
 
       size : length (pushed g was byte) ≡ length was
       size = length-pushed g was byte (sym (moved .same)) ∙ moved .same
@@ -107,8 +128,8 @@ divided-next {g} {message} {now} {next} {i} h e divided =
 
 -- ---- the parity, by a table that is the generator without its first coefficient
 
-pub divided-parity : {r n : ℕ} {taps out : List ℕ} (message : List ℕ) → generator r ≡ 1 ∷ taps → n ≡ r → out ≡ remainder taps (tabulate n (λ _. 0)) message
+pub divided-parity : {r n : ℕ} {g out : List ℕ} (message : List ℕ) → generator r ≡ 1 ∷ g → n ≡ r → out ≡ remainder g (tabulate n (λ _. 0)) message
     → out ≡ parity r message
 unfolding parity
-divided-parity {r} {n} {taps} {out} message e size right =
+divided-parity {r} {n} {g} {out} message e size right =
     right ∙ ap₂ (λ (k : ℕ) (l : List ℕ). remainder (drop 1 l) (tabulate k (λ _. 0)) message) size (sym e)

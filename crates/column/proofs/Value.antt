@@ -9,6 +9,8 @@ use lib.ListN.{length, getD, take}
 use lib.Seq.{take-suc, take-all}
 use Rattle.laws.specs.Tabulate.{tabulate}
 use Rattle.field.specs.Field.{sum, product}
+use Rattle.field.specs.Tables.{AreTables, productBy}
+use Rattle.field.proofs.Lookup.{product-table}
 use Rattle.field.proofs.Sum.{sum-zero, zero-sum, sum-swap}
 use Rattle.field.proofs.Product.{product-assoc, product-sum, sum-product, zero-product}
 use Rattle.column.specs.Column.{valueFrom, value, sums, scaled}
@@ -47,28 +49,36 @@ value-zeros (suc n) x = ap (λ (u : ℕ). valueFrom u (tabulate n (λ _. 0)) x) 
 
 -- ---- byte by byte
 
--- v is the value of the first i bytes
-pub record Valued (column : List ℕ) (x i v : ℕ) : Type 0 where
+-- p and l are the field's tables; v is the value of the first i bytes
+pub record Valued (p l column : List ℕ) (x i v : ℕ) : Type 0 where
+  pub tables : AreTables p l
+  pub point : x < 256
   pub within : i ≤ length column
+  pub small : v < 256
   pub right : v ≡ value (take i column) x
 
-pub valued-none : (column : List ℕ) (x : ℕ) → Valued column x 0 0
+pub valued-none : {p l : List ℕ} {x : ℕ} (column : List ℕ) → AreTables p l → x < 256 → Valued p l column x 0 0
 unfolding value valueFrom
-valued-none column x = record { within = omega arith; right = refl }
+valued-none column tables point =
+    record { tables = tables; point = point; within = omega arith; small = omega arith; right = refl }
 
--- p is the product with x, w the sum with the next byte
-pub valued-next : {column : List ℕ} {x i v p w : ℕ} → i < length column → p ≡ product v x → w ≡ sum p (getD column i 0) → Valued column x i v
-    → Valued column x (i + 1) w
+-- m is the product with x, w its sum with the next byte
+pub valued-next : {p l column : List ℕ} {x i v m w : ℕ} → i < length column → m ≡ productBy p l v x → w < 256 → w ≡ sum m (getD column i 0)
+    → Valued p l column x i v → Valued p l column x (i + 1) w
 unfolding value valueFrom
-valued-next {column} {x} {i} {v} {p} {w} h times plus valued =
+valued-next {p} {l} {column} {x} {i} {v} {m} {w} h times small plus valued =
     record {
+      tables = valued .tables;
+      point = valued .point;
       within = omega arith;
+      small = small;
       right =
           plus
-          ∙ ap (λ (u : ℕ). sum u (getD column i 0)) (times ∙ ap (λ (u : ℕ). product u x) (valued .right))
+          ∙ ap (λ (u : ℕ). sum u (getD column i 0))
+          (product-table (valued .tables) (valued .small) (valued .point) times ∙ ap (λ (u : ℕ). product u x) (valued .right))
           ∙ sym (value-append 0 (take i column) (getD column i 0 ∷ []) x)
-          ∙ ap (λ (l : List ℕ). valueFrom 0 l x) (sym (ap (λ (k : ℕ). take k column) (add-one i) ∙ take-suc column i 0 h));
+          ∙ ap (λ (k : List ℕ). valueFrom 0 k x) (sym (ap (λ (k : ℕ). take k column) (add-one i) ∙ take-suc column i 0 h));
     }
 
-pub valued-all : {column : List ℕ} {x i v : ℕ} → length column ≤ i → Valued column x i v → v ≡ value column x
-valued-all {column} {x} {i} {v} h valued = valued .right ∙ ap (λ (l : List ℕ). value l x) (take-all i column h)
+pub valued-all : {p l column : List ℕ} {x i v : ℕ} → length column ≤ i → Valued p l column x i v → v ≡ value column x
+valued-all {p} {l} {column} {x} {i} {v} h valued = valued .right ∙ ap (λ (k : List ℕ). value k x) (take-all i column h)

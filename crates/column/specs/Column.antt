@@ -66,6 +66,7 @@ unfoldable pub pushed : List ℕ → List ℕ → ℕ → List ℕ
 pushed g [] d = []
 pushed g (c ∷ cs) d = sums (cs ++ 0 ∷ []) (scaled (sum d c) g)
 
+-- the bytes of a message into the register, one after the other
 unfoldable pub remainder : List ℕ → List ℕ → List ℕ → List ℕ
 remainder g register [] = register
 remainder g register (d ∷ ds) = remainder g (pushed g register d) ds

@@ -4,10 +4,11 @@ ghost use mathlib.Core.Path.{_≡_};
 ghost use Prim.Native.Nat.{_<_};
 ghost use lib.ListN.{length};
 ghost use Rattle.laws.specs.Tabulate.{tabulate};
+ghost use Rattle.field.specs.Tables.{AreTables};
 ghost use Rattle.column.specs.Column.{value, hasRoots, pushed, remainder, parity};
 
 // The generator with 32 roots (formulas 30, 37), without its first coefficient, which is 1.
-const TAPS_32: [u8; 32] = [
+const GENERATOR_32: [u8; 32] = [
     116,
     64,
     52,
@@ -43,8 +44,9 @@ const TAPS_32: [u8; 32] = [
 ];
 
 // The generator with 4 roots (formula 33), likewise.
-const TAPS_4: [u8; 4] = [15, 54, 120, 64];
+const GENERATOR_4: [u8; 4] = [15, 54, 120, 64];
 
+// Zeros in every place of the register.
 fn clear(register: &mut [u8])
     ensures { λ r. ⌜ now (register .exit) ≡ tabulate (length (now (register .entry))) (λ _. 0) ⌝ }
 {
@@ -56,31 +58,34 @@ fn clear(register: &mut [u8])
 }
 
 // One byte into the register.
-fn push(taps: &[u8], register: &mut [u8], byte: u8)
-    requires { ⌜ (length (now taps) ≡ length (now register)) × (0 < length (now register)) ⌝ }
-    ensures { λ r. ⌜ now (register .exit) ≡ pushed (now (taps .entry)) (now (register .entry)) byte ⌝ }
+fn push(powers: &[u8; 256], logs: &[u8; 256], generator: &[u8], register: &mut [u8], byte: u8)
+    requires { ⌜ AreTables (now powers) (now logs) ⌝ }
+    requires { ⌜ (length (now generator) ≡ length (now register)) × (0 < length (now register)) ⌝ }
+    ensures { λ r. ⌜ now (register .exit) ≡ pushed (now (generator .entry)) (now (register .entry)) byte ⌝ }
 {
     let f = Gf(byte).sum(Gf(register[0]));
     let last = register.len() - 1;
     let mut j = 0;
     while j < last {
-        let next = Gf(register[j + 1]).sum(f.product(Gf(taps[j])));
+        let next = Gf(register[j + 1]).sum(f.product_by(Gf(generator[j]), powers, logs));
         register[j] = next.0;
         j += 1;
     }
-    let end = f.product(Gf(taps[j]));
+    let end = f.product_by(Gf(generator[j]), powers, logs);
     register[j] = end.0;
 }
 
 // The remainder of the message's bytes, by a register that starts with zeros.
-fn divide(taps: &[u8], message: &[u8], register: &mut [u8])
-    requires { ⌜ (length (now taps) ≡ length (now register)) × (0 < length (now register)) ⌝ }
-    ensures { λ r. ⌜ now (register .exit) ≡ remainder (now (taps .entry)) (tabulate (length (now (register .entry))) (λ _. 0)) (now (message .entry)) ⌝ }
+fn divide(generator: &[u8], message: &[u8], register: &mut [u8])
+    requires { ⌜ (length (now generator) ≡ length (now register)) × (0 < length (now register)) ⌝ }
+    ensures { λ r. ⌜ now (register .exit) ≡ remainder (now (generator .entry)) (tabulate (length (now (register .entry))) (λ _. 0)) (now (message .entry)) ⌝ }
 {
+    let powers = field::powers();
+    let logs = field::logs();
     clear(register);
     let mut i = 0;
     while i < message.len() {
-        push(taps, register, message[i]);
+        push(&powers, &logs, generator, register, message[i]);
         i += 1;
     }
 }
@@ -89,23 +94,25 @@ fn divide(taps: &[u8], message: &[u8], register: &mut [u8])
 pub fn parity_32(message: &[u8], out: &mut [u8; 32])
     ensures { λ r. ⌜ now (out .exit) ≡ parity 32 (now (message .entry)) ⌝ }
 {
-    divide(&TAPS_32, message, out);
+    divide(&GENERATOR_32, message, out);
 }
 
 // The parity of a primary address field.
 pub fn parity_4(message: &[u8], out: &mut [u8; 4])
     ensures { λ r. ⌜ now (out .exit) ≡ parity 4 (now (message .entry)) ⌝ }
 {
-    divide(&TAPS_4, message, out);
+    divide(&GENERATOR_4, message, out);
 }
 
-fn value_at(column: &[u8], x: Gf) -> Gf
+// The value of the column at x.
+fn value_at(powers: &[u8; 256], logs: &[u8; 256], column: &[u8], x: Gf) -> Gf
+    requires { ⌜ AreTables (now powers) (now logs) ⌝ }
     ensures { λ r. ⌜ r .0 ≡ value (now (column .entry)) (x .0) ⌝ }
 {
     let mut v = Gf::ZERO;
     let mut i = 0;
     while i < column.len() {
-        v = v.product(x).sum(Gf(column[i]));
+        v = v.product_by(x, powers, logs).sum(Gf(column[i]));
         i += 1;
     }
     v
@@ -115,9 +122,11 @@ fn value_at(column: &[u8], x: Gf) -> Gf
 pub fn has_roots(column: &[u8], count: u8) -> bool
     ensures { λ r. ⌜ r ≡ hasRoots count (now (column .entry)) ⌝ }
 {
+    let powers = field::powers();
+    let logs = field::logs();
     let mut i = 0u8;
     while i < count {
-        let v = value_at(column, Gf::ALPHA.power(i as usize));
+        let v = value_at(&powers, &logs, column, Gf::ALPHA.power(i as usize));
         if v.0 != 0 {
             return false;
         }

@@ -1,13 +1,13 @@
 -- The bytes, with the sum and the product of specs/Field.antt, are a field, and its elements other than 0 are the powers of α. Assumes nothing.
 use mathlib.Core.Path.{_≡_}
 use Prim.Native.Nat.{ℕ, _+_, _<_}
-use lib.ListN.{getD}
 use Rattle.field.specs.Field.{α, sum, product, power, inverse}
+use Rattle.field.specs.Tables.{log}
 use Rattle.field.proofs.Sum.{sum-assoc, sum-comm, sum-zero, sum-self, sum-byte}
 use Rattle.field.proofs.Product.{product-byte, product-assoc, product-comm, product-one, product-sum}
 use Rattle.field.proofs.Power.{power-add}
-use Rattle.field.proofs.Logarithm.{logs, logs-at}
-use Rattle.field.proofs.Inverse.{α-cycle, α-distinct, inverse-byte, product-inverse, no-divisor}
+use Rattle.field.proofs.Logarithm.{log-small, power-log, α-distinct, α-cycle}
+use Rattle.field.proofs.Inverse.{inverse-byte, product-inverse, no-divisor}
 
 -- the laws of a field on the numbers below 256, with zero 0 and one 1; each element is its own negative
 pub record IsField (add mul : ℕ → ℕ → ℕ) (invert : ℕ → ℕ) : Type 0 where
@@ -43,18 +43,18 @@ field =
       no-zero-divisors = no-divisor;
     }
 
--- an element generates a field if its powers below 255 are distinct, run through every element but 0, and then start again
-pub record Generates (a : ℕ) : Type 0 where
+-- a is a primitive element: its powers below 255 are distinct, reach every element but 0, and then start again
+pub record IsPrimitive (a : ℕ) : Type 0 where
   pub distinct : (i j : ℕ) → i < 255 → j < 255 → power a i ≡ power a j → i ≡ j
   pub reaches : (b : ℕ) → 0 < b → b < 256 → (k : ℕ) × (k < 255) × (power a k ≡ b)
   pub cycle : power a 255 ≡ 1
   pub add : (i j : ℕ) → power a (i + j) ≡ product (power a i) (power a j)
 
-pub α-generates : Generates α
-α-generates =
+pub primitive : IsPrimitive α
+primitive =
     record {
       distinct = α-distinct;
-      reaches = λ b h below. (getD logs b 0, logs-at b h below .small, logs-at b h below .right);
+      reaches = λ b h below. (log b, log-small b h below, power-log b h below);
       cycle = α-cycle;
       add = power-add α;
     }

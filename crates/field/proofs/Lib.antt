@@ -5,4 +5,5 @@ pub mod Product
 pub mod Power
 pub mod Logarithm
 pub mod Inverse
+pub mod Lookup
 pub mod Field

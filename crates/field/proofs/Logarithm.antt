@@ -1,18 +1,22 @@
--- The tables of the powers of α and of the logarithms: the rule of each by one test that antt computes over the whole table. Assumes nothing.
+-- The code's tables are those of the definition: the rule of each by one test that antt computes over the whole table. Assumes nothing.
 use mathlib.Core.Path.{_≡_, refl, sym, ap, _∙_}
+use mathlib.Core.Bool.{Bool}
 use mathlib.Core.List.{List, [], _∷_}
 use Prim.Native.Nat.{ℕ, zero, suc, _<_}
 use native.Mathlib.Omega.{arith}
+use lib.Dec.{T, eqb, eqb→eq, ltb, ltb→lt}
 use lib.ListN.{getD}
-use lib.Dec.{T, eqb, ltb}
-use Rattle.laws.proofs.Finite.{all, equal-below, bounded-below}
-use Rattle.field.specs.Field.{α, sum, timesα, power, IsLog}
+use borrow.Author.Tests.{eq-eqb, ne-eqb}
+use Rattle.laws.proofs.Finite.{both, both-left, both-right, all, all-at, equal-below}
+use Rattle.laws.proofs.First.{first-at}
+use Rattle.laws.proofs.Tabulate.{getD-tabulate, is-tabulate}
+use Rattle.field.specs.Field.{α, sum, timesα, power}
+use Rattle.field.specs.Tables.{log, powerTable, logTable}
 use Rattle.field.proofs.Product.{α-product}
 use Rattle.field.proofs.Power.{power-byte}
 
--- entry k is α^k
-unfoldable pub powers : List ℕ
-powers =
+unfoldable pub powerList : List ℕ
+powerList =
     1 ∷ 2 ∷ 4 ∷ 8 ∷ 16 ∷ 32 ∷ 64 ∷ 128 ∷ 29 ∷ 58 ∷ 116 ∷ 232 ∷ 205 ∷ 135 ∷ 19 ∷ 38 ∷
     76 ∷ 152 ∷ 45 ∷ 90 ∷ 180 ∷ 117 ∷ 234 ∷ 201 ∷ 143 ∷ 3 ∷ 6 ∷ 12 ∷ 24 ∷ 48 ∷ 96 ∷ 192 ∷
     157 ∷ 39 ∷ 78 ∷ 156 ∷ 37 ∷ 74 ∷ 148 ∷ 53 ∷ 106 ∷ 212 ∷ 181 ∷ 119 ∷ 238 ∷ 193 ∷ 159 ∷ 35 ∷
@@ -30,9 +34,8 @@ powers =
     18 ∷ 36 ∷ 72 ∷ 144 ∷ 61 ∷ 122 ∷ 244 ∷ 245 ∷ 247 ∷ 243 ∷ 251 ∷ 235 ∷ 203 ∷ 139 ∷ 11 ∷ 22 ∷
     44 ∷ 88 ∷ 176 ∷ 125 ∷ 250 ∷ 233 ∷ 207 ∷ 131 ∷ 27 ∷ 54 ∷ 108 ∷ 216 ∷ 173 ∷ 71 ∷ 142 ∷ 1 ∷ []
 
--- entry a is the logarithm of a; entry 0 holds 0
-unfoldable pub logs : List ℕ
-logs =
+unfoldable pub logList : List ℕ
+logList =
     0 ∷ 0 ∷ 1 ∷ 25 ∷ 2 ∷ 50 ∷ 26 ∷ 198 ∷ 3 ∷ 223 ∷ 51 ∷ 238 ∷ 27 ∷ 104 ∷ 199 ∷ 75 ∷
     4 ∷ 100 ∷ 224 ∷ 14 ∷ 52 ∷ 141 ∷ 239 ∷ 129 ∷ 28 ∷ 193 ∷ 105 ∷ 248 ∷ 200 ∷ 8 ∷ 76 ∷ 113 ∷
     5 ∷ 138 ∷ 101 ∷ 47 ∷ 225 ∷ 36 ∷ 15 ∷ 33 ∷ 53 ∷ 147 ∷ 142 ∷ 218 ∷ 240 ∷ 18 ∷ 130 ∷ 69 ∷
@@ -50,61 +53,121 @@ logs =
     203 ∷ 89 ∷ 95 ∷ 176 ∷ 156 ∷ 169 ∷ 160 ∷ 81 ∷ 11 ∷ 245 ∷ 22 ∷ 235 ∷ 122 ∷ 117 ∷ 44 ∷ 215 ∷
     79 ∷ 174 ∷ 213 ∷ 233 ∷ 230 ∷ 231 ∷ 173 ∷ 232 ∷ 116 ∷ 214 ∷ 244 ∷ 234 ∷ 168 ∷ 80 ∷ 88 ∷ 175 ∷ []
 
-powers-first : getD powers 0 0 ≡ 1
-unfolding powers
-powers-first = refl
-
-pub powers-last : getD powers 255 0 ≡ 1
-unfolding powers
-powers-last = refl
-
-pub logs-one : getD logs 1 0 ≡ 0
-unfolding logs
-logs-one = refl
-
-pub logs-zero : getD logs 0 0 ≡ 0
-unfolding logs
-logs-zero = refl
-
 -- ---- the powers: the first is 1, and each other is α times the one before
 
-powers-climb : T (all 255 (λ k. eqb (getD powers (suc k) 0) (timesα (getD powers k 0))))
-unfolding all powers timesα sum
+powers-first : getD powerList 0 0 ≡ 1
+unfolding powerList
+powers-first = refl
+
+powers-climb : T (all 255 (λ k. eqb (getD powerList (suc k) 0) (timesα (getD powerList k 0))))
+unfolding all powerList timesα sum
 powers-climb = tt
 
-pub powers-at : (k : ℕ) → k < 256 → getD powers k 0 ≡ power α k
+powers-right : (k : ℕ) → k < 256 → getD powerList k 0 ≡ power α k
 unfolding power
-powers-at zero h = powers-first
-powers-at (suc k) h =
-    equal-below 255 (λ k. getD powers (suc k) 0) (λ k. timesα (getD powers k 0)) powers-climb k (omega arith)
-    ∙ ap timesα (powers-at k (omega arith))
+powers-right zero h = powers-first
+powers-right (suc k) h =
+    equal-below 255 (λ k. getD powerList (suc k) 0) (λ k. timesα (getD powerList k 0)) powers-climb k (omega arith)
+    ∙ ap timesα (powers-right k (omega arith))
     ∙ sym (α-product (power α k) (power-byte α k))
 
--- ---- the logarithms: below 255, and the place of the element among the powers
+pub powers-table : powerList ≡ powerTable
+unfolding powerList powerTable
+powers-table = is-tabulate 0 256 (power α) powerList refl powers-right
 
-logs-small : T (all 255 (λ a. ltb (getD logs (suc a) 0) 255))
-unfolding all logs
-logs-small = tt
+pub powers-at : (k : ℕ) → k < 256 → getD powerTable k 0 ≡ power α k
+unfolding powerTable
+powers-at k h = getD-tabulate 256 (power α) k 0 h
 
-logs-right : T (all 255 (λ a. eqb (getD powers (getD logs (suc a) 0) 0) (suc a)))
-unfolding all powers logs
-logs-right = tt
+-- ---- the logarithms: that of k + 1 is below 255, and its place among the powers; and that of α^k is k, so that it has no other place
 
-pub logs-at : (a : ℕ) → 0 < a → a < 256 → IsLog a (getD logs a 0)
-logs-at zero h below = absurd (omega arith)
-logs-at (suc a) h below = record { small = small; right = sym (powers-at (getD logs (suc a) 0) (omega (arith, small))) ∙ right }
+logs-test : ℕ → Bool
+logs-test k =
+    both (ltb (getD logList (suc k) 0) 255)
+    (both (eqb (getD powerList (getD logList (suc k) 0) 0) (suc k)) (eqb (getD logList (getD powerList k 0) 0) k))
+
+logs-tested : T (all 255 logs-test)
+unfolding all logs-test powerList logList
+logs-tested = tt
+
+module _ (k : ℕ) (h : k < 255) where
+  places : T (both (eqb (getD powerList (getD logList (suc k) 0) 0) (suc k)) (eqb (getD logList (getD powerList k 0) 0) k))
+  unfolding logs-test
+  places =
+      both-right (ltb (getD logList (suc k) 0) 255)
+      (both (eqb (getD powerList (getD logList (suc k) 0) 0) (suc k)) (eqb (getD logList (getD powerList k 0) 0) k)) (all-at 255 logs-test logs-tested k h)
+
+  small : getD logList (suc k) 0 < 255
+  unfolding logs-test
+  small =
+      ltb→lt (getD logList (suc k) 0) 255
+      (both-left (ltb (getD logList (suc k) 0) 255)
+      (both (eqb (getD powerList (getD logList (suc k) 0) 0) (suc k)) (eqb (getD logList (getD powerList k 0) 0) k)) (all-at 255 logs-test logs-tested k h))
+
+  place : power α (getD logList (suc k) 0) ≡ suc k
+  place =
+      sym (powers-right (getD logList (suc k) 0) (omega (arith, small)))
+      ∙ eqb→eq (getD powerList (getD logList (suc k) 0) 0) (suc k)
+      (both-left (eqb (getD powerList (getD logList (suc k) 0) 0) (suc k)) (eqb (getD logList (getD powerList k 0) 0) k) places)
+
+  back : getD logList (power α k) 0 ≡ k
+  back =
+      ap (λ (x : ℕ). getD logList x 0) (sym (powers-right k (omega arith)))
+      ∙ eqb→eq (getD logList (getD powerList k 0) 0) k
+      (both-right (eqb (getD powerList (getD logList (suc k) 0) 0) (suc k)) (eqb (getD logList (getD powerList k 0) 0) k) places)
+
+pub α-distinct : (i j : ℕ) → i < 255 → j < 255 → power α i ≡ power α j → i ≡ j
+α-distinct i j hi hj e = sym (back i hi) ∙ ap (λ (x : ℕ). getD logList x 0) e ∙ back j hj
+
+log-first : (a : ℕ) → a < 255 → getD logList (suc a) 0 ≡ log (suc a)
+unfolding log
+log-first a h =
+    sym
+    (first-at 255 (λ k. eqb (power α k) (suc a)) (getD logList (suc a) 0) (small a h)
+    (record { fails = λ k lower. ne-eqb (power α k) (suc a) (λ e. other k lower (e ∙ sym (place a h))) })
+    (eq-eqb (power α (getD logList (suc a) 0)) (suc a) (place a h)))
   where
-    small : getD logs (suc a) 0 < 255
-    small = bounded-below 255 255 (λ a. getD logs (suc a) 0) logs-small a (omega arith)
+    other : (k : ℕ) → k < getD logList (suc a) 0 → power α k ≡ power α (getD logList (suc a) 0) → ⊥
+    other k lower e = omega (arith, α-distinct k (getD logList (suc a) 0) (omega (arith, small a h)) (small a h) e)
 
-    right : getD powers (getD logs (suc a) 0) 0 ≡ suc a
-    right = equal-below 255 (λ a. getD powers (getD logs (suc a) 0) 0) suc logs-right a (omega arith)
+log-zero : getD logList 0 0 ≡ log 0
+unfolding logList log
+log-zero = refl
 
--- and the other way round: each of the first 255 powers has its place as its logarithm
-logs-back : T (all 255 (λ k. eqb (getD logs (getD powers k 0) 0) k))
-unfolding all powers logs
-logs-back = tt
+logs-right : (a : ℕ) → a < 256 → getD logList a 0 ≡ log a
+logs-right zero h = log-zero
+logs-right (suc a) h = log-first a (omega arith)
 
-pub logs-power : (k : ℕ) → k < 255 → getD logs (power α k) 0 ≡ k
-logs-power k h =
-    ap (λ (x : ℕ). getD logs x 0) (sym (powers-at k (omega arith))) ∙ equal-below 255 (λ k. getD logs (getD powers k 0) 0) (λ k. k) logs-back k h
+pub logs-table : logList ≡ logTable
+unfolding logList logTable
+logs-table = is-tabulate 0 256 log logList refl logs-right
+
+pub logs-at : (a : ℕ) → a < 256 → getD logTable a 0 ≡ log a
+unfolding logTable
+logs-at a h = getD-tabulate 256 log a 0 h
+
+-- the logarithm of an element other than 0
+pub log-small : (a : ℕ) → 0 < a → a < 256 → log a < 255
+log-small zero h below = absurd (omega arith)
+log-small (suc a) h below = rw (← (log-first a (omega arith))) (small a (omega arith))
+
+pub power-log : (a : ℕ) → 0 < a → a < 256 → power α (log a) ≡ a
+power-log zero h below = absurd (omega arith)
+power-log (suc a) h below = ap (power α) (sym (log-first a (omega arith))) ∙ place a (omega arith)
+
+-- ---- single entries
+
+pub powers-last : getD powerTable 255 0 ≡ 1
+unfolding powerList
+powers-last = ap (λ (l : List ℕ). getD l 255 0) (sym powers-table)
+
+pub logs-one : getD logTable 1 0 ≡ 0
+unfolding logList
+logs-one = ap (λ (l : List ℕ). getD l 1 0) (sym logs-table)
+
+pub logs-zero : getD logTable 0 0 ≡ 0
+unfolding logList
+logs-zero = ap (λ (l : List ℕ). getD l 0 0) (sym logs-table)
+
+pub α-cycle : power α 255 ≡ 1
+α-cycle = sym (powers-at 255 (omega arith)) ∙ powers-last

@@ -1,6 +1,5 @@
 -- 13.7: the field of 256 elements. An element is a byte, bit i the coefficient of α^i, where α is a root of x^8 + x^4 + x^3 + x^2 + 1 (formula 29).
-use mathlib.Core.Path.{_≡_}
-use Prim.Native.Nat.{ℕ, zero, suc, _*_, _/_, _%_, _<_}
+use Prim.Native.Nat.{ℕ, zero, suc, _*_, _/_, _%_}
 use lib.Bits.{bitXor}
 
 abbrev pub α : ℕ
@@ -35,8 +34,3 @@ power a (suc k) = product a (power a k)
 -- the element that gives 1 with a; of 0 it is 0
 unfoldable pub inverse : ℕ → ℕ
 inverse a = power a 254
-
--- k is the logarithm of a
-pub record IsLog (a k : ℕ) : Type 0 where
-  pub small : k < 255
-  pub right : power α k ≡ a

@@ -1,2 +1,3 @@
--- The field of 256 elements.
+-- The field of 256 elements, and its tables.
 pub mod Field
+pub mod Tables

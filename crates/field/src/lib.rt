@@ -1,30 +1,31 @@
 // 13.7: the field of 256 elements.
 mod tables;
 
-use tables::LOGS;
-use tables::POWERS;
+pub use tables::logs;
+pub use tables::powers;
 ghost use mathlib.Core.Path.{_≡_};
 ghost use Prim.Native.Nat.{_<_};
-ghost use Rattle.field.specs.Field.{α, sum, product, power, inverse, IsLog};
+ghost use lib.ListN.{getD};
+ghost use Rattle.field.specs.Tables.{productBy};
+ghost use Rattle.field.specs.Field.{sum, product, power, inverse};
 
 // An element: the byte of its coefficients, that of α^7 in the highest bit.
 pub struct Gf(pub u8);
 
-// α^k.
-fn alpha_to(k: usize) -> u8
-    requires { ⌜ k < 256 ⌝ }
-    ensures { λ r. ⌜ r ≡ power α k ⌝ }
+// A byte as an index or a part of one.
+fn wide(a: u8) -> usize
+    ensures { λ r. ⌜ (r ≡ a) × (r < 256) ⌝ }
 {
-    POWERS[k]
+    a as usize
 }
 
-// The number k below 255 with α^k = a. Zero has none: it is not asked for.
-fn log_of(a: u8) -> usize
+// The logarithm of a, in a table of logarithms. Zero has none, and its entry is not read.
+fn log_in(logs: &[u8; 256], a: u8) -> usize
     requires { ⌜ 0 < a ⌝ }
-    ensures { λ r. ⌜ IsLog a r ⌝ }
+    ensures { λ r. ⌜ (r ≡ getD (now (logs .entry)) a 0) × (r < 256) ⌝ }
 {
     let i = a as usize;
-    LOGS[i] as usize
+    wide(logs[i])
 }
 
 impl Gf {
@@ -43,17 +44,26 @@ impl Gf {
     pub fn product(self, other: Gf) -> Gf
         ensures { λ r. ⌜ r .0 ≡ product (self .0) (other .0) ⌝ }
     {
+        let powers = powers();
+        let logs = logs();
+        self.product_by(other, &powers, &logs)
+    }
+
+    // The product by tables that are lent: those of `powers` and `logs` give the field's.
+    pub fn product_by(self, other: Gf, powers: &[u8; 256], logs: &[u8; 256]) -> Gf
+        ensures { λ r. ⌜ r .0 ≡ productBy (now (powers .entry)) (now (logs .entry)) (self .0) (other .0) ⌝ }
+    {
         if self.0 == 0 {
             return Gf::ZERO;
         }
         if other.0 == 0 {
             return Gf::ZERO;
         }
-        let k = log_of(self.0) + log_of(other.0);
+        let k = log_in(logs, self.0) + log_in(logs, other.0);
         if k < 255 {
-            Gf(alpha_to(k))
+            Gf(powers[k])
         } else {
-            Gf(alpha_to(k - 255))
+            Gf(powers[k - 255])
         }
     }
 
@@ -67,8 +77,10 @@ impl Gf {
         if self.0 == 0 {
             return Gf::ZERO;
         }
-        let e = log_of(self.0) * (k % 255) % 255;
-        Gf(alpha_to(e))
+        let powers = powers();
+        let logs = logs();
+        let e = log_in(&logs, self.0) * (k % 255) % 255;
+        Gf(powers[e])
     }
 
     // The element that gives 1 with this one; zero for zero.
@@ -78,6 +90,9 @@ impl Gf {
         if self.0 == 0 {
             return Gf::ZERO;
         }
-        Gf(alpha_to(255 - log_of(self.0)))
+        let powers = powers();
+        let logs = logs();
+        let e = 255 - log_in(&logs, self.0);
+        Gf(powers[e])
     }
 }

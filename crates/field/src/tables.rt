@@ -1,7 +1,9 @@
-// The powers of α and the logarithms to its base.
+// The tables of the powers of α and of the logarithms. A constant is copied where it is read, so that a loop takes the tables once.
+ghost use mathlib.Core.Path.{_≡_};
+ghost use Rattle.field.specs.Tables.{powerTable, logTable};
 
 // Entry k is α^k.
-pub const POWERS: [u8; 256] = [
+const POWERS: [u8; 256] = [
     1,
     2,
     4,
@@ -260,8 +262,8 @@ pub const POWERS: [u8; 256] = [
     1,
 ];
 
-// Entry a is the logarithm of a to the base α; entry 0 holds 0 and is never used.
-pub const LOGS: [u8; 256] = [
+// Entry a is the logarithm of a to the base α; entry 0 holds 0, and nothing reads it.
+const LOGS: [u8; 256] = [
     0,
     0,
     1,
@@ -519,3 +521,15 @@ pub const LOGS: [u8; 256] = [
     88,
     175,
 ];
+
+pub fn powers() -> [u8; 256]
+    ensures { λ r. ⌜ r ≡ powerTable ⌝ }
+{
+    POWERS
+}
+
+pub fn logs() -> [u8; 256]
+    ensures { λ r. ⌜ r ≡ logTable ⌝ }
+{
+    LOGS
+}

@@ -11,8 +11,7 @@ use Rattle.laws.specs.Bytes.{Bytes}
 use Rattle.laws.proofs.Bytes.{bytes-tabulate, bytes-append}
 use Rattle.laws.proofs.Tabulate.{length-tabulate, getD-tabulate, is-tabulate}
 use Rattle.column.specs.Column.{parity, hasRoots}
-use Rattle.column.proofs.Columns.{completed-roots, rooted-column}
-use Rattle.column.proofs.Parity.{parity-length, parity-bytes}
+use Rattle.column.proofs.Parity.{parity-length, parity-bytes, parity-test, test-column}
 use Rattle.ldc.specs.LdcBlock.{dataByte, information, codeWord}
 use Rattle.ldc.specs.LdcCluster.{shifted, ldcByte}
 use Rattle.ldc.specs.Places.{placeOf, at, wordIn, dataIn, frameIn}
@@ -45,17 +44,17 @@ module _ (frames : ℕ → List ℕ) (L : ℕ) (bytes : (F : ℕ) → Bytes (fra
   unfolding codeWord
   length-word =
       let message = information frames L in
-      omega (arith, length-append message (parity 32 message), length-information frames L, parity-length 32 (omega arith) message bytes-information)
+      omega (arith, length-append message (parity 32 message), length-information frames L, parity-length 32 message)
 
   pub bytes-word : Bytes (codeWord frames L)
   unfolding codeWord
   bytes-word =
       let message = information frames L in
-      bytes-append message (parity 32 message) bytes-information (parity-bytes 32 (omega arith) message bytes-information)
+      bytes-append message (parity 32 message) bytes-information (parity-bytes 32 message)
 
   pub word-roots : hasRoots 32 (codeWord frames L) ≡ true
   unfolding codeWord
-  word-roots = completed-roots 32 (omega arith) (information frames L) bytes-information
+  word-roots = parity-test 32 (information frames L) bytes-information
 
 -- ---- what a cluster was made of comes out again
 
@@ -129,7 +128,7 @@ module _ (cluster : ℕ → ℕ → ℕ) (bytes : (row column : ℕ) → row < 4
   unfolding codeWord
   made-of-words L h roots =
       ap (λ (m : List ℕ). m ++ parity 32 m) (sym (message-in L h))
-      ∙ sym (rooted-column 32 (omega arith) 216 (wordIn cluster L) (bytes-word-in L) (length-word-in L) roots)
+      ∙ sym (test-column 32 (omega arith) 216 (wordIn cluster L) (bytes-word-in L) (length-word-in L) roots)
 
   pub cluster-back : ((L : ℕ) → L < 304 → hasRoots 32 (wordIn cluster L) ≡ true) → (row column : ℕ) → row < 496 → column < 152
       → ldcByte (frameIn cluster) row column ≡ cluster row column

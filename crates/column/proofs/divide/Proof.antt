@@ -1,17 +1,23 @@
 -- `divide` meets its contract: the loop holds the remainder of the bytes passed. Assumes nothing.
 use Prim.Native.Nat.{_-_}
-use native.Mathlib.Omega.{arith}
-use borrow.Author.Needs.{needs}
 use lib.ListN.{length}
 use Rattle.column.proofs.Register.{Divided, divided-none, divided-next, divided-all}
+use borrow.Author.Needs.{needs}
+use native.Mathlib.Omega.{arith}
 use Rattle.column.proofs.divide.Statement.{statement}
 use Rattle.column.proofs.divide.Tie as tie
 
 abbrev Inv-loop : tie.InvT-loop
-Inv-loop taps message register₀ i₀ register i = Divided taps message i register
+Inv-loop generator message register₀ powers logs i₀ register i = Divided generator message i register
 
 abbrev μ-loop : tie.MeasureT-loop
-μ-loop taps message register₀ i₀ register i = length message - i
+μ-loop generator message register₀ powers logs i₀ register i = length message - i
+
+powers-requires : tie.Need-powers-requires Inv-loop μ-loop
+powers-requires c κs = search needs
+
+logs-requires : tie.Need-logs-requires Inv-loop μ-loop
+logs-requires c κs = search needs
 
 clear-requires : tie.Need-clear-requires Inv-loop μ-loop
 clear-requires c κs = search needs
@@ -33,8 +39,9 @@ loop-less c = search needs
 
 loop-again : tie.Need-loop-again Inv-loop μ-loop
 loop-again c =
-    let turn = c .before .before in
-    divided-next (search needs) (turn .push .ensures) (turn .before .before .before .before .loop .inv)
+    let called = c .before .before in
+    let turn = called .before .before .before .before .before .before in
+    divided-next (search needs) (called .push .ensures) (turn .loop .inv)
 
 same-length : tie.Need-same-length Inv-loop μ-loop
 same-length c = search needs
@@ -48,6 +55,8 @@ divide-spec =
     (tie.spec
     Inv-loop
     μ-loop
+    powers-requires
+    logs-requires
     clear-requires
     loop-holds
     shared-slice-read-push

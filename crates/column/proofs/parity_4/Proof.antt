@@ -1,6 +1,6 @@
 -- `parity_4` meets its contract: the code's table is the generator with 4 roots, without its first coefficient. Assumes nothing.
 use borrow.Author.Needs.{needs}
-use Rattle.column.proofs.Generator.{taps4, generator-4}
+use Rattle.column.proofs.Generator.{coefficients4, generator-4}
 use Rattle.column.proofs.Register.{divided-parity}
 use Rattle.column.proofs.parity_4.Statement.{statement}
 use Rattle.column.proofs.parity_4.Tie as tie
@@ -12,7 +12,7 @@ divide-requires : tie.Need-divide-requires
 divide-requires c κs = search needs
 
 returns : tie.Need-returns
-unfolding taps4
+unfolding coefficients4
 returns c = divided-parity _ generator-4 (search needs) (c .divide .ensures)
 
 pub parity-4-spec : {M : Type 1} → statement M

@@ -1,25 +1,34 @@
--- `Gf::inverse` meets its contract: of an element other than zero it is the power of α at 255 less the logarithm. Assumes nothing.
-use mathlib.Core.Path.{_∙_}
+-- `Gf::inverse` meets its contract: of an element other than zero, the power of α at 255 less the logarithm. Assumes nothing.
 use borrow.Author.Needs.{needs}
-use Rattle.field.proofs.Inverse.{inverse-zero, log-inverse}
+use Rattle.field.proofs.Inverse.{inverse-zero}
+use Rattle.field.proofs.Lookup.{inverse-table}
 use Rattle.field.proofs.Gf.inverse.Statement.{statement}
 use Rattle.field.proofs.Gf.inverse.Tie as tie
 
 returns : tie.Need-returns
 returns c = rw (c .if1 .taken, inverse-zero)
 
-log-of-requires : tie.Need-log-of-requires
-log-of-requires c κs = search needs
+powers-requires : tie.Need-powers-requires
+powers-requires c κs = search needs
 
-sub-alpha-to : tie.Need-sub-alpha-to
-sub-alpha-to c = search needs
+logs-requires : tie.Need-logs-requires
+logs-requires c κs = search needs
 
-alpha-to-requires : tie.Need-alpha-to-requires
-alpha-to-requires c κs = search needs
+log-in-requires : tie.Need-log-in-requires
+log-in-requires c κs = search needs
+
+sub-e : tie.Need-sub-e
+sub-e c = search needs
+
+array-read-t11 : tie.Need-array-read-t11
+array-read-t11 c = search needs
 
 returns-2 : tie.Need-returns-2
-returns-2 c = c .alpha-to .ensures ∙ log-inverse (search needs) (search needs) (c .before .log-of .ensures)
+returns-2 c =
+    let called = c .before .before in
+    inverse-table (record { powers = called .before .powers .ensures; logs = called .logs .ensures }) (search needs) (search needs) (c .log-in .ensures .0)
 
 pub inverse-spec : {M : Type 1} → statement M
 inverse-spec =
-    tie.close (tie.spec returns log-of-requires sub-alpha-to alpha-to-requires returns-2)
+    tie.close
+    (tie.spec returns powers-requires logs-requires log-in-requires sub-e array-read-t11 returns-2)

@@ -1,2 +1,0 @@
--- Laws of recording frames.
-pub mod FrameBits

@@ -1,0 +1,74 @@
+-- The bits of bytes put one behind the other, and the number that they make. Assumes nothing.
+use mathlib.Core.Path.{_≡_, refl, sym, ap, ap₂, subst, _∙_}
+use mathlib.Core.List.{List, [], _∷_, _++_}
+use Prim.Native.Nat.{ℕ, _+_, _*_, _-_, _/_, _%_, _^_, _<_}
+use native.Mathlib.Nat.{zero-mul, add-mul, mul-assoc}
+use native.Mathlib.Decide.{decLt}
+use native.Mathlib.Omega.{arith}
+use lib.ListN.{length, getD, length-append, List·getD-append}
+use lib.Pow.{pow-add}
+use lib.Seq.{ext-getD, getD-append-add}
+use Rattle.laws.specs.Bytes.{Bytes}
+use Rattle.laws.specs.Tabulate.{tabulate}
+use Rattle.bits.specs.Bits.{bitsOf, bitsOfNumber, number, packed}
+use Rattle.bits.proofs.Bits.{length-bits, bit-in, bits-bits}
+use Rattle.bits.proofs.Number.{number-of-bits, bits-of-number}
+use Rattle.bits.proofs.Pack.{packed-bits}
+
+pub bits-append : (a b : List ℕ) → bitsOf (a ++ b) ≡ bitsOf a ++ bitsOf b
+bits-append a b = ext-getD 0 (bitsOf (a ++ b)) (bitsOf a ++ bitsOf b) (omega (arith, size, length-append (bitsOf a) (bitsOf b), length-bits a, length-bits b)) at
+  where
+    m : ℕ
+    m = length a
+
+    size : length (bitsOf (a ++ b)) ≡ 8 * (m + length b)
+    size = length-bits (a ++ b) ∙ ap (λ (n : ℕ). 8 * n) (length-append a b)
+
+    front : (p : ℕ) → p < 8 * m → getD (bitsOf (a ++ b)) p 0 ≡ getD (bitsOf a ++ bitsOf b) p 0
+    front p h =
+        bit-in (a ++ b) p (p / 8) (p % 8) (omega arith) (omega (arith, length-append a b)) (omega arith)
+        ∙ ap (λ (x : ℕ). x / 2 ^ (7 - p % 8) % 2) (List·getD-append a b 0 (p / 8) (omega arith))
+        ∙ sym (List·getD-append (bitsOf a) (bitsOf b) 0 p (omega (arith, length-bits a)) ∙ bit-in a p (p / 8) (p % 8) (omega arith) (omega arith) (omega arith))
+
+    back : (j : ℕ) → j < 8 * length b → getD (bitsOf (a ++ b)) (length (bitsOf a) + j) 0 ≡ getD (bitsOf a ++ bitsOf b) (length (bitsOf a) + j) 0
+    back j h =
+        bit-in (a ++ b) (length (bitsOf a) + j) (m + j / 8) (j % 8) (omega (arith, length-bits a)) (omega (arith, length-append a b)) (omega arith)
+        ∙ ap (λ (x : ℕ). x / 2 ^ (7 - j % 8) % 2) (getD-append-add a b (j / 8) 0)
+        ∙ sym (getD-append-add (bitsOf a) (bitsOf b) j 0 ∙ bit-in b j (j / 8) (j % 8) (omega arith) (omega arith) (omega arith))
+
+    at : (p : ℕ) → p < length (bitsOf (a ++ b)) → getD (bitsOf (a ++ b)) p 0 ≡ getD (bitsOf a ++ bitsOf b) p 0
+    at p h =
+        elim (decLt p (8 * m)) [
+          | yes l ↦ front p l
+          | no l ↦
+              let j : ℕ = p - 8 * m in
+              let whole : length (bitsOf a) + j ≡ p = omega (arith, length-bits a) in
+              subst (λ (q : ℕ). getD (bitsOf (a ++ b)) q 0 ≡ getD (bitsOf a ++ bitsOf b) q 0) whole (back j (omega (arith, size)))
+        ]
+
+pub number-append : (a b : List ℕ) → number (a ++ b) ≡ number a * 2 ^ length b + number b
+unfolding number
+number-append [] b = omega (arith, zero-mul (2 ^ length b))
+number-append (x ∷ a) b =
+    rw (length-append a b, pow-add 2 (length a) (length b), ← mul-assoc x (2 ^ length a) (2 ^ length b), number-append a b, add-mul (x * 2 ^ length a) (number a) (2 ^ length b))
+    (omega arith)
+
+-- the number that the bits of bytes make
+pub number-bytes : (a b : List ℕ) → number (bitsOf (a ++ b)) ≡ number (bitsOf a) * 2 ^ (8 * length b) + number (bitsOf b)
+number-bytes a b = ap number (bits-append a b) ∙ number-append (bitsOf a) (bitsOf b) ∙ ap (λ (n : ℕ). number (bitsOf a) * 2 ^ n + number (bitsOf b)) (length-bits b)
+
+pub number-byte : (x : ℕ) → number (bitsOf (x ∷ [])) ≡ x % 256
+number-byte x = ap number eight ∙ number-of-bits 8 x
+  where
+    eight : bitsOf (x ∷ []) ≡ bitsOfNumber 8 x
+    eight = unfold bitsOf bitsOfNumber tabulate in refl
+
+-- as many bytes that make one number are the same
+pub bytes-equal : (a b : List ℕ) → Bytes a → Bytes b → length a ≡ length b → number (bitsOf a) ≡ number (bitsOf b) → a ≡ b
+bytes-equal a b ba bb size e = sym (packed-bits a ba) ∙ ap packed same ∙ packed-bits b bb
+  where
+    same : bitsOf a ≡ bitsOf b
+    same =
+        sym (bits-of-number (bitsOf a) (bits-bits a))
+        ∙ ap₂ bitsOfNumber (length-bits a ∙ ap (λ (n : ℕ). 8 * n) size ∙ sym (length-bits b)) e
+        ∙ bits-of-number (bitsOf b) (bits-bits b)

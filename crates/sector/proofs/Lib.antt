@@ -1,0 +1,12 @@
+-- Laws of sectors.
+pub mod Xor
+pub mod Polynomial
+pub mod Division
+pub mod Concat
+pub mod Detection
+pub mod Steps
+pub mod Quotient
+pub mod Loops
+pub mod Stream
+pub mod Frame
+pub mod Writing
