@@ -196,12 +196,12 @@ fn is_code_word(column: &[u8; 62]) -> bool
 pub fn first_wrong_column(block: Block) -> usize
     ensures { λ r. ⌜ r ≡ firstWrongColumn block ⌝ }
 {
-    let mut c: usize = 0;
-    while c < 24 {
-        if !is_code_word(&block[c]) {
-            return c;
+    let mut column: usize = 0;
+    while column < 24 {
+        if !is_code_word(&block[column]) {
+            return column;
         }
-        c += 1;
+        column += 1;
     }
     24
 }
@@ -234,13 +234,13 @@ fn primary_in(block: &Block, y: usize) -> [u8; 9]
 pub fn first_wrong_field(block: Block) -> usize
     ensures { λ r. ⌜ r ≡ firstWrongField block ⌝ }
 {
-    let mut y: usize = 0;
-    while y < 16 {
-        let primary = primary_in(&block, y);
+    let mut unit: usize = 0;
+    while unit < 16 {
+        let primary = primary_in(&block, unit);
         if !column::has_roots(&primary, 4) {
-            return y;
+            return unit;
         }
-        y += 1;
+        unit += 1;
     }
     16
 }

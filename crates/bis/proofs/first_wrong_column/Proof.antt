@@ -9,10 +9,10 @@ use Rattle.bis.proofs.first_wrong_column.Statement.{statement}
 use Rattle.bis.proofs.first_wrong_column.Tie as tie
 
 abbrev Inv-loop : tie.InvT-loop
-Inv-loop block c₀ c = Passed (wrongColumn block) c
+Inv-loop block column₀ column = Passed (wrongColumn block) column
 
 abbrev μ-loop : tie.MeasureT-loop
-μ-loop block c₀ c = 24 - c
+μ-loop block column₀ column = 24 - column
 
 loop-holds : tie.Need-loop-holds Inv-loop μ-loop
 loop-holds c = passed-none
@@ -30,8 +30,8 @@ returns : tie.Need-returns Inv-loop μ-loop
 unfolding firstWrongColumn
 returns c = search (first-here, column-judged)
 
-add-c : tie.Need-add-c Inv-loop μ-loop
-add-c c = search needs
+add-column : tie.Need-add-column Inv-loop μ-loop
+add-column c = search needs
 
 loop-less : tie.Need-loop-less Inv-loop μ-loop
 loop-less c = search needs
@@ -54,7 +54,7 @@ first-wrong-column-spec =
     index-1-is-code-word
     is-code-word-requires
     returns
-    add-c
+    add-column
     loop-less
     loop-again
     returns-2)

@@ -9,10 +9,10 @@ use Rattle.bis.proofs.first_wrong_field.Statement.{statement}
 use Rattle.bis.proofs.first_wrong_field.Tie as tie
 
 abbrev Inv-loop : tie.InvT-loop
-Inv-loop block y₀ y = Passed (wrongField block) y
+Inv-loop block unit₀ unit = Passed (wrongField block) unit
 
 abbrev μ-loop : tie.MeasureT-loop
-μ-loop block y₀ y = 16 - y
+μ-loop block unit₀ unit = 16 - unit
 
 loop-holds : tie.Need-loop-holds Inv-loop μ-loop
 loop-holds c = passed-none
@@ -30,8 +30,8 @@ returns : tie.Need-returns Inv-loop μ-loop
 unfolding firstWrongField
 returns c = search (first-here, field-judged)
 
-add-y : tie.Need-add-y Inv-loop μ-loop
-add-y c = search needs
+add-unit : tie.Need-add-unit Inv-loop μ-loop
+add-unit c = search needs
 
 loop-less : tie.Need-loop-less Inv-loop μ-loop
 loop-less c = search needs
@@ -54,7 +54,7 @@ first-wrong-field-spec =
     slice-aggregate-has-roots
     has-roots-requires
     returns
-    add-y
+    add-unit
     loop-less
     loop-again
     returns-2)
