@@ -35,9 +35,9 @@ fn print_hash(text: &[u8], h: u64) {
 fn hashed(h: u64, byte: u8) -> u64 {
     let x = h ^ wide(byte);
     let low = x % 0x1_0000_0000 * 0x1b3;
-    let high = x / 0x1_0000_0000 * 0x1b3 % 0x1_0000_0000 * 0x1_0000_0000;
+    let high = x / 0x1_0000_0000 % 0x1_0000_0000 * 0x1b3 % 0x1_0000_0000;
     let top = x % 0x100_0000 * 0x100_0000_0000;
-    std::num::wrapping_add_u64(std::num::wrapping_add_u64(low, high), top)
+    std::num::wrapping_add_u64(std::num::wrapping_add_u64(low, high * 0x1_0000_0000), top)
 }
 
 fn hash_of(bytes: &[u8]) -> u64 {
@@ -151,15 +151,25 @@ fn show(psn: Psn, side: [u8; 592]) {
 
 // The column with the parity of its first 30 bytes.
 fn recoded(column: [u8; 62]) -> [u8; 62] {
-    let mut out = column;
+    let mut message = [0u8; 30];
+    let mut n = 0;
+    while n < 30 {
+        message[n] = column[n];
+        n += 1;
+    }
     let mut parity = [0u8; 32];
-    column::parity_32(&column[..30], &mut parity);
+    column::parity_32(&message, &mut parity);
+    let mut out = column;
     let mut i = 0;
     while i < 32 {
         out[30 + i] = parity[i];
         i += 1;
     }
     out
+}
+
+fn other(byte: u8) -> u8 {
+    255 - byte
 }
 
 // The column with byte n, below 62, set.
@@ -183,17 +193,15 @@ fn with_field(block: Block, y: usize, field: [u8; 9]) -> Block {
     out
 }
 
-// The block with the AUNs from `aun` on, in steps of two.
-fn with_auns(block: Block, aun: u32) -> Block {
+// The block with the AUNs of a PSN.
+fn with_auns(block: Block, psn: u32) -> Block {
     let mut out = block;
-    let mut n = 0u32;
-    while n < 16 {
-        out = with_field(
-            out,
-            n as usize,
-            bis::address_field(Aun(aun % 0x1000_0000 + 2 * n), 0),
-        );
-        n += 1;
+    let mut unit = 0u32;
+    while unit < 16 {
+        let field = bis::address_field(Aun(psn / 32 * 32 + 2 * unit), 0);
+        let next = with_field(out, unit as usize, field);
+        out = next;
+        unit += 1;
     }
     out
 }
@@ -201,7 +209,7 @@ fn with_auns(block: Block, aun: u32) -> Block {
 fn show_wrong(block: Block) {
     io::write_all(1, b"the last byte of column 23 wrong\n");
     let mut wrong = block;
-    wrong[23] = with_byte(block[23], 61, 255 - block[23][61]);
+    wrong[23] = with_byte(block[23], 61, other(block[23][61]));
     print_reading(wrong);
     io::write_all(1, b"the flag byte of address unit 15 without its parity\n");
     let mut field = bis::address_field(Aun(0x0010_001e), 0);
