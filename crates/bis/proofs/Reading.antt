@@ -2,7 +2,7 @@
 use mathlib.Core.Path.{_≡_, refl, sym, ap, ap₂, _∙_}
 use mathlib.Core.Bool.{Bool, true, false, cond, not}
 use mathlib.Core.List.{List, []}
-use Prim.Native.Nat.{ℕ, _+_, _*_, _-_, _/_, _%_, _<_, _≤_}
+use Prim.Native.Nat.{ℕ, _*_, _-_, _/_, _%_, _<_, _≤_}
 use native.Mathlib.Omega.{arith}
 use borrow.Author.Tests.{lt-ltb, le-ltb, eq-eqb, ne-eqb}
 use lib.Dec.{eqb, ltb}
@@ -17,6 +17,7 @@ use Rattle.address.specs.Judged.{judged, ifAccepted}
 use Rattle.address.specs.Conversions.{aunOf, psnToAun, aunToPsn}
 use Rattle.bis.proofs.AddressFields.{aun-answered}
 use Rattle.bis.specs.AddressField.{flagIn}
+use Rattle.bis.specs.AccessBlock.{rowOfUC, columnOfUC}
 use Rattle.bis.specs.Reading.{wrongColumn, primaryIn, wrongField, aunAt, isAccepted, otherUnit, firstOtherUnit, foundIf, psnIn, sideByteIn, sideIn, sideOut}
 use Rattle.bis.specs.declared.PsnFound.the-variants.{Found, NotFound}
 
@@ -84,7 +85,7 @@ module _ (block : List (List ℕ)) {a : ℕ} {answer : PsnAnswer} (read : a ≡ 
 pub flag-byte : (block : List (List ℕ)) (k : ℕ) {primary : List ℕ} → k < 16 → primary ≡ primaryIn block k → getD primary 4 0 ≡ sideByteIn block k
 flag-byte block k h e = rw (lt-ltb k 16 h) (ap flagIn e)
 
-pub control-byte : (block : List (List ℕ)) (k : ℕ) → 16 ≤ k → getD (getD block ((k - 16) / 24) []) (6 + (k - 16) % 24) 0 ≡ sideByteIn block k
+pub control-byte : (block : List (List ℕ)) (k : ℕ) → 16 ≤ k → getD (getD block (columnOfUC (k - 16)) []) (rowOfUC (k - 16)) 0 ≡ sideByteIn block k
 control-byte block k h = rw (le-ltb k 16 h)
 
 -- ---- the lent slice
@@ -93,7 +94,11 @@ pub side-left : (block : List (List ℕ)) (lent : List ℕ) → (length lent ≡
 unfolding sideOut
 side-left block lent h = rw (ne-eqb (length lent) 592 h)
 
+pub side-given : (block : List (List ℕ)) (lent : List ℕ) → length lent ≡ 592 → sideOut block lent ≡ sideIn block
+unfolding sideOut
+side-given block lent size = rw (eq-eqb (length lent) 592 size)
+
 pub side-filled : (block : List (List ℕ)) (lent : List ℕ) {k : ℕ} {side : List ℕ} → length lent ≡ 592 → 592 ≤ k → Upto 0 (sideByteIn block) 592 k side
     → side ≡ sideOut block lent
-unfolding sideOut sideIn
-side-filled block lent size h upto = rw (eq-eqb (length lent) 592 size) (upto-all h upto)
+unfolding sideIn
+side-filled block lent size h upto = upto-all h upto ∙ sym (side-given block lent size)
