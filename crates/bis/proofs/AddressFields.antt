@@ -2,19 +2,19 @@
 use mathlib.Core.Path.{_≡_, refl, sym, ap, _∙_}
 use mathlib.Core.Bool.{Bool, true, false, cond}
 use mathlib.Core.List.{List, [], _∷_, _++_}
-use Prim.Native.Nat.{ℕ, _+_, _*_, _-_, _/_, _%_, _^_, _<_}
+use Prim.Native.Nat.{ℕ, zero, suc, _+_, _*_, _-_, _/_, _%_, _^_, _<_}
 use native.Mathlib.Omega.{arith}
+use borrow.Author.Tests.{le-leb}
 use lib.Arith.{digits-mod}
 use lib.ListN.{length, getD, take, length-append}
 use lib.Seq.{getD-take, length-take-le}
 use Rattle.laws.specs.Bytes.{Bytes}
 use Rattle.laws.specs.Tabulate.{tabulate}
-use Rattle.laws.proofs.Bytes.{bytes-none, bytes-cons, bytes-append, bytes-tabulate}
+use Rattle.laws.proofs.Bytes.{bytes-append, bytes-tabulate}
 use Rattle.laws.proofs.Finite.{all, equal-below, bounded-below}
 use Rattle.laws.proofs.Tabulate.{is-tabulate, getD-tabulate, length-tabulate}
 use Rattle.column.specs.Column.{hasRoots, parity}
 use Rattle.column.proofs.Parity.{parity-length, parity-bytes, parity-test, test-column}
-use borrow.Author.Tests.{le-leb}
 use Rattle.address.specs.declared.AunAnswer.{AunAnswer}
 use Rattle.address.specs.declared.Judged.{Judged}
 use Rattle.address.specs.declared.Judged.the-variants.{Accepted}
@@ -37,10 +37,6 @@ pub reordered-lt : (high : ℕ) → high < 256 → reordered high < 256
 unfolding all
 reordered-lt = bounded-below 256 256 reordered tt
 
-pub restored-lt : (paf0 : ℕ) → paf0 < 256 → restored paf0 < 256
-unfolding all
-restored-lt = bounded-below 256 256 restored tt
-
 pub restored-reordered : (high : ℕ) → high < 256 → restored (reordered high) ≡ high
 unfolding all
 restored-reordered = equal-below 256 (λ h. restored (reordered h)) (λ h. h) tt
@@ -52,11 +48,12 @@ reordered-restored = equal-below 256 (λ p. reordered (restored p)) (λ p. p) tt
 -- ---- the information bytes
 
 pub information-bytes : (aun flag : ℕ) → aun < 2 ^ 32 → flag < 256 → Bytes (information aun flag)
-information-bytes aun flag ha hf =
-    bytes-cons (reordered (aun / 2 ^ 24)) (aun / 2 ^ 16 % 256 ∷ aun / 2 ^ 8 % 256 ∷ aun % 256 ∷ flag ∷ []) (reordered-lt (aun / 2 ^ 24) (omega arith))
-    (bytes-cons (aun / 2 ^ 16 % 256) (aun / 2 ^ 8 % 256 ∷ aun % 256 ∷ flag ∷ []) (omega arith)
-    (bytes-cons (aun / 2 ^ 8 % 256) (aun % 256 ∷ flag ∷ []) (omega arith)
-    (bytes-cons (aun % 256) (flag ∷ []) (omega arith) (bytes-cons flag [] hf bytes-none))))
+information-bytes aun flag ha hf zero = reordered-lt (aun / 2 ^ 24) (omega arith)
+information-bytes aun flag ha hf (suc zero) = omega arith
+information-bytes aun flag ha hf (suc (suc zero)) = omega arith
+information-bytes aun flag ha hf (suc (suc (suc zero))) = omega arith
+information-bytes aun flag ha hf (suc (suc (suc (suc zero)))) = hf
+information-bytes aun flag ha hf (suc (suc (suc (suc (suc i))))) = omega arith
 
 four : (p : List ℕ) → length p ≡ 4 → p ≡ getD p 0 0 ∷ getD p 1 0 ∷ getD p 2 0 ∷ getD p 3 0 ∷ []
 unfolding tabulate
@@ -104,24 +101,23 @@ inverted-back f size bytes =
 
 -- ---- a number and its four bytes
 
-pub number-back : (n : ℕ) → n / 2 ^ 24 * 2 ^ 24 + n / 2 ^ 16 % 256 * 2 ^ 16 + n / 2 ^ 8 % 256 * 2 ^ 8 + n % 256 ≡ n
+number-back : (n : ℕ) → n / 2 ^ 24 * 2 ^ 24 + n / 2 ^ 16 % 256 * 2 ^ 16 + n / 2 ^ 8 % 256 * 2 ^ 8 + n % 256 ≡ n
 number-back n =
     let b : n / 2 ^ 8 / 256 ≡ n / 2 ^ 16 = omega arith in
     let a : n / 2 ^ 16 / 256 ≡ n / 2 ^ 24 = omega arith in
     omega arith
 
-module _ (a b c d : ℕ) (hb : b < 256) (hc : c < 256) (hd : d < 256) where
-  pub first-byte : (a * 2 ^ 24 + b * 2 ^ 16 + c * 2 ^ 8 + d) / 2 ^ 24 ≡ a
-  first-byte = omega arith
-
-  pub second-byte : (a * 2 ^ 24 + b * 2 ^ 16 + c * 2 ^ 8 + d) / 2 ^ 16 % 256 ≡ b
-  second-byte = let high : (a * 2 ^ 24 + b * 2 ^ 16 + c * 2 ^ 8 + d) / 2 ^ 16 ≡ a * 256 + b = omega arith in ap (λ (x : ℕ). x % 256) high ∙ digits-mod a hb
-
-  pub third-byte : (a * 2 ^ 24 + b * 2 ^ 16 + c * 2 ^ 8 + d) / 2 ^ 8 % 256 ≡ c
-  third-byte = let high : (a * 2 ^ 24 + b * 2 ^ 16 + c * 2 ^ 8 + d) / 2 ^ 8 ≡ (a * 256 + b) * 256 + c = omega arith in ap (λ (x : ℕ). x % 256) high ∙ digits-mod (a * 256 + b) hc
-
-  pub fourth-byte : (a * 2 ^ 24 + b * 2 ^ 16 + c * 2 ^ 8 + d) % 256 ≡ d
-  fourth-byte = let high : a * 2 ^ 24 + b * 2 ^ 16 + c * 2 ^ 8 + d ≡ ((a * 256 + b) * 256 + c) * 256 + d = omega arith in ap (λ (x : ℕ). x % 256) high ∙ digits-mod ((a * 256 + b) * 256 + c) hd
+bytes-back : (a b c d n : ℕ) → b < 256 → c < 256 → d < 256 → n ≡ a * 2 ^ 24 + b * 2 ^ 16 + c * 2 ^ 8 + d
+    → (n / 2 ^ 24 ≡ a) × (n / 2 ^ 16 % 256 ≡ b) × (n / 2 ^ 8 % 256 ≡ c) × (n % 256 ≡ d)
+bytes-back a b c d n hb hc hd e =
+    let two : n / 2 ^ 16 ≡ a * 256 + b = omega arith in
+    let three : n / 2 ^ 8 ≡ (a * 256 + b) * 256 + c = omega arith in
+    let four : n ≡ ((a * 256 + b) * 256 + c) * 256 + d = omega arith in (
+      omega arith,
+      ap (λ (x : ℕ). x % 256) two ∙ digits-mod a hb,
+      ap (λ (x : ℕ). x % 256) three ∙ digits-mod (a * 256 + b) hc,
+      ap (λ (x : ℕ). x % 256) four ∙ digits-mod ((a * 256 + b) * 256 + c) hd,
+    )
 
 -- ---- what is read in a primary address field
 
@@ -172,17 +168,9 @@ module _ (f : List ℕ) (size : length f ≡ 9) (bytes : Bytes f) where
   information-in : take 5 f ≡ information (aunIn f) (flagIn f)
   unfolding tabulate
   information-in =
+      let back = bytes-back (restored (getD f 0 0)) (getD f 1 0) (getD f 2 0) (getD f 3 0) (aunIn f) (bytes 1) (bytes 2) (bytes 3) refl in
       is-tabulate 0 5 (λ k. getD f k 0) (take 5 f) (length-take-le 5 f (omega arith)) (λ k h. getD-take 5 f k 0 h)
-      ∙ cc (
-        reordered-restored (getD f 0 0) (bytes 0),
-        ap reordered (first-byte high (getD f 1 0) (getD f 2 0) (getD f 3 0) (bytes 1) (bytes 2) (bytes 3)),
-        second-byte high (getD f 1 0) (getD f 2 0) (getD f 3 0) (bytes 1) (bytes 2) (bytes 3),
-        third-byte high (getD f 1 0) (getD f 2 0) (getD f 3 0) (bytes 1) (bytes 2) (bytes 3),
-        fourth-byte high (getD f 1 0) (getD f 2 0) (getD f 3 0) (bytes 1) (bytes 2) (bytes 3),
-      )
-    where
-      high : ℕ
-      high = restored (getD f 0 0)
+      ∙ cc (ap reordered (back .0) ∙ reordered-restored (getD f 0 0) (bytes 0), back .1, back .2, back .3)
 
   pub primary-only : hasRoots 4 f ≡ true → f ≡ primaryField (aunIn f) (flagIn f)
   unfolding primaryField

@@ -2,7 +2,7 @@
 use mathlib.Core.Path.{_≡_, sym, ap, ap₂, _∙_}
 use mathlib.Core.Bool.{true, not}
 use mathlib.Core.List.{List, [], _++_}
-use Prim.Native.Nat.{ℕ, _+_, _*_, _-_, _/_, _%_, _<_, _≤_}
+use Prim.Native.Nat.{ℕ, _+_, _-_, _<_, _≤_}
 use native.Mathlib.Decide.{decLt}
 use native.Mathlib.Omega.{arith}
 use borrow.Author.Tests.{lt-ltb, le-ltb, not-false}
@@ -11,20 +11,19 @@ use lib.Seq.{getD-take, length-take-le}
 use Rattle.laws.specs.Bytes.{Bytes}
 use Rattle.laws.proofs.Bytes.{bytes-append, bytes-tabulate}
 use Rattle.laws.proofs.Tabulate.{length-tabulate, getD-tabulate, is-tabulate}
-use Rattle.laws.proofs.First.{first-none}
+use Rattle.laws.proofs.First.{first-none, first-all}
 use Rattle.address.specs.declared.Judged.the-variants.{Accepted}
 use Rattle.address.specs.Judged.{judged}
 use Rattle.address.specs.Conversions.{aunOf}
 use Rattle.column.specs.Column.{parity, hasRoots}
 use Rattle.column.proofs.Parity.{parity-length, parity-bytes, parity-test, test-column}
 use Rattle.bis.specs.AddressField.{primaryField, partlyInverted, addressField, aunIn, flagIn}
-use Rattle.bis.specs.AccessBlock.{Side, fieldOf, addressFields, rowOfAF, columnOfAF, fieldAt, byteAt, accessByte}
+use Rattle.bis.specs.AccessBlock.{Side, fieldOf, addressFields, rowOfAF, columnOfAF, fieldAt, byteAt, rowOfUC, columnOfUC, controlAt, accessByte}
 use Rattle.bis.specs.BisBlock.{accessColumn, codeWord, bisBlock, Block}
 use Rattle.bis.specs.Reading.{wrongColumn, firstWrongColumn, fieldIn, primaryIn, wrongField, firstWrongField, IsPsnOf, sideByteIn, sideIn}
-use Rattle.bis.proofs.Mapping.{field-there, byte-there, field-at-lt, byte-at-lt, row-back, column-back, af-row-lt, af-column-lt}
+use Rattle.bis.proofs.Mapping.{field-place, control-place, field-at-lt, byte-at-lt, row-back, column-back, af-row-lt, af-column-lt}
 use Rattle.bis.proofs.AddressFields.{aun-back, flag-back, primary-roots, length-field, bytes-field, primary-back, field-only, bytes-inverted}
 use Rattle.bis.proofs.Psn.{aun-lt}
-use Rattle.bis.proofs.Search.{first-all}
 
 -- ---- code words
 
@@ -54,7 +53,7 @@ module _ (psn : ℕ) (side : List ℕ) (accepted : judged psn ≡ Accepted) (byt
   access-byte-lt row C h =
       elim (decLt row 6) [
         | yes l ↦ rw (lt-ltb row 6 l) (bytes-fields (fieldAt row C) (field-at-lt row C l h) (byteAt row C))
-        | no l ↦ rw (le-ltb row 6 (omega arith)) (bytes (16 + (24 * C + (row - 6))))
+        | no l ↦ rw (le-ltb row 6 (omega arith)) (bytes (16 + controlAt row C))
       ]
 
   bytes-access : (C : ℕ) → C < 24 → Bytes (accessColumn (addressFields psn side) side C)
@@ -109,9 +108,8 @@ module _ (psn : ℕ) (side : List ℕ) (accepted : judged psn ≡ Accepted) (byt
       at x hx =
           let row = af-row-lt x y hx h in
           byte-is (columnOfAF x y) (rowOfAF x y) (af-column-lt x y hx h) (omega arith)
-          ∙ rw (lt-ltb (rowOfAF x y) 6 row)
-          (ap₂ (λ (f b : ℕ). getD (getD (addressFields psn side) f []) b 0) (field-there x y hx h) (byte-there x y hx h)
-          ∙ ap (λ (f : List ℕ). getD f x 0) (getD-fields y h))
+          ∙ field-place (addressFields psn side) side x y hx h
+          ∙ ap (λ (f : List ℕ). getD f x 0) (getD-fields y h)
 
   primary-is-there : (y : ℕ) → y < 16 → primaryIn (bisBlock psn side) y ≡ primaryField (aunOf psn y) (getD side y 0)
   unfolding primaryIn
@@ -143,12 +141,11 @@ module _ (psn : ℕ) (side : List ℕ) (accepted : judged psn ≡ Accepted) (byt
           elim (decLt k 16) [
             | yes l ↦ rw (lt-ltb k 16 l) (ap flagIn (primary-is-there k l) ∙ flag-back (aunOf psn k) (getD side k 0))
             | no l ↦
-                let C = (k - 16) / 24 in
-                let row = 6 + (k - 16) % 24 in
-                let place : 16 + (24 * C + (row - 6)) ≡ k = omega arith in
+                let whole : 16 + (k - 16) ≡ k = omega arith in
                 rw (le-ltb k 16 (omega arith))
-                (byte-is C row (omega arith) (omega arith)
-                ∙ rw (le-ltb row 6 (omega arith)) (ap (λ (j : ℕ). getD side j 0) place))
+                (byte-is (columnOfUC (k - 16)) (rowOfUC (k - 16)) (omega arith) (omega arith)
+                ∙ control-place (addressFields psn side) side (k - 16)
+                ∙ ap (λ (j : ℕ). getD side j 0) whole)
           ]
 
 -- ---- the side data of any block
@@ -161,11 +158,11 @@ module _ (block : List (List ℕ)) where
   flag-is : (y : ℕ) → y < 16 → getD (sideIn block) y 0 ≡ flagIn (primaryIn block y)
   flag-is y h = getD-side y (omega arith) ∙ rw (lt-ltb y 16 h)
 
-  control-is : (C row : ℕ) → C < 24 → 6 ≤ row → row < 30 → getD (sideIn block) (16 + (24 * C + (row - 6))) 0 ≡ getD (getD block C []) row 0
+  control-is : (C row : ℕ) → C < 24 → 6 ≤ row → row < 30 → getD (sideIn block) (16 + controlAt row C) 0 ≡ getD (getD block C []) row 0
   control-is C row hC l h =
-      let k = 16 + (24 * C + (row - 6)) in
-      let column : (k - 16) / 24 ≡ C = omega arith in
-      let place : 6 + (k - 16) % 24 ≡ row = omega arith in
+      let k = 16 + controlAt row C in
+      let column : columnOfUC (k - 16) ≡ C = omega arith in
+      let place : rowOfUC (k - 16) ≡ row = omega arith in
       getD-side k (omega arith) ∙ rw (le-ltb k 16 (omega arith)) (ap₂ (λ (c r : ℕ). getD (getD block c []) r 0) column place)
 
 module _ (block : List (List ℕ)) (is : Block block) where
@@ -183,7 +180,7 @@ module _ (block : List (List ℕ)) (is : Block block) where
   side-byte-lt k h =
       elim (decLt k 16) [
         | yes l ↦ rw (lt-ltb k 16 l) (bytes-inverted (fieldIn block k) (bytes-field-in k l) 4)
-        | no l ↦ rw (le-ltb k 16 (omega arith)) (is .bytes ((k - 16) / 24) (omega arith) (6 + (k - 16) % 24))
+        | no l ↦ rw (le-ltb k 16 (omega arith)) (is .bytes (columnOfUC (k - 16)) (omega arith) (rowOfUC (k - 16)))
       ]
 
   pub side-in : Side (sideIn block)

@@ -1,7 +1,6 @@
 -- Statements.antt has what other crates cite, Figures.antt what the standard prints.
 pub mod Mapping
 pub mod AddressFields
-pub mod Search
 pub mod Writing
 pub mod Reading
 pub mod Psn

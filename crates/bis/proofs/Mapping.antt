@@ -1,7 +1,10 @@
--- The mappings of 13.10 and 13.13 move each byte to exactly one place: computed tests over all of them. Assumes nothing.
-use mathlib.Core.Path.{_≡_}
-use Prim.Native.Nat.{ℕ, _<_}
+-- The mappings of 13.10 and 13.13 move each byte to exactly one place, that of the formulas: computed tests over all of them. Assumes nothing.
+use mathlib.Core.Path.{_≡_, ap, ap₂}
+use mathlib.Core.List.{List, []}
+use Prim.Native.Nat.{ℕ, _+_, _<_}
 use native.Mathlib.Omega.{arith}
+use borrow.Author.Tests.{lt-ltb, le-ltb}
+use lib.ListN.{getD}
 use Rattle.laws.proofs.Finite.{all, all₂, equal-below₂, bounded-below₂}
 use Rattle.bis.specs.AccessBlock as Access
 use Rattle.bis.specs.BisCluster as Bis
@@ -74,3 +77,23 @@ module _ (row column : ℕ) (hr : row < 496) (hc : column < 3) where
   pub bis-column-back : Bis.columnOf (Bis.byteAt row) (Bis.wordAt row column) ≡ column
   unfolding all all₂
   bis-column-back = equal-below₂ 496 3 (λ r c. Bis.columnOf (Bis.byteAt r) (Bis.wordAt r c)) (λ r c. c) tt row column hr hc
+
+-- ---- each byte stands where the formulas put it
+
+-- byte x of address field y
+pub field-place : (fields : List (List ℕ)) (side : List ℕ) (x y : ℕ) → x < 9 → y < 16
+    → Access.accessByte fields side (Access.rowOfAF x y) (Access.columnOfAF x y) ≡ getD (getD fields y []) x 0
+field-place fields side x y hx hy =
+    rw (lt-ltb (Access.rowOfAF x y) 6 (af-row-lt x y hx hy))
+    (ap₂ (λ (f b : ℕ). getD (getD fields f []) b 0) (field-there x y hx hy) (byte-there x y hx hy))
+
+-- byte k of the user control data
+pub control-place : (fields : List (List ℕ)) (side : List ℕ) (k : ℕ)
+    → Access.accessByte fields side (Access.rowOfUC k) (Access.columnOfUC k) ≡ getD side (16 + k) 0
+control-place fields side k =
+    let place : 16 + Access.controlAt (Access.rowOfUC k) (Access.columnOfUC k) ≡ 16 + k = omega arith in
+    rw (le-ltb (Access.rowOfUC k) 6 (omega arith)) (ap (λ (j : ℕ). getD side j 0) place)
+
+-- byte N of code word C
+pub word-place : (block : List (List ℕ)) (N C : ℕ) → N < 62 → C < 24 → Bis.bisByte block (Bis.rowOf N C) (Bis.columnOf N C) ≡ getD (getD block C []) N 0
+word-place block N C hN hC = ap₂ (λ (c n : ℕ). getD (getD block c []) n 0) (bis-word-there N C hN hC) (bis-byte-there N C hN hC)

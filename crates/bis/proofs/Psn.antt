@@ -7,7 +7,7 @@ use native.Mathlib.Decide.{decLt}
 use native.Mathlib.Omega.{arith}
 use borrow.Author.Tests.{eq-eqb, eqb-true, ltb-false, not-false}
 use lib.Dec.{eqb, ltb}
-use Rattle.laws.proofs.First.{first-none}
+use Rattle.laws.proofs.First.{first-none, first-all}
 use Rattle.address.specs.declared.Judged.{Judged}
 use Rattle.address.specs.declared.Judged.the-variants.{Accepted, NoMultiple, NoZone}
 use Rattle.address.specs.declared.Psn.{Psn}
@@ -17,7 +17,6 @@ use Rattle.address.specs.Conversions.{aunOf, aunToPsn}
 use Rattle.address.proofs.Judging.{past-zones}
 use Rattle.bis.specs.declared.PsnFound.the-variants.{Found, NotFound}
 use Rattle.bis.specs.Reading.{aunAt, IsPsnOf, isAccepted, otherUnit, firstOtherUnit, foundIf, psnIn}
-use Rattle.bis.proofs.Search.{first-all}
 use Rattle.bis.proofs.Reading.{answered-accepted}
 
 -- ---- an accepted PSN

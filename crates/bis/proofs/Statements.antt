@@ -1,12 +1,12 @@
--- What is promised of address fields, mappings and BIS blocks, on their definitions. Assumes nothing.
-use mathlib.Core.Path.{_≡_, refl, sym, ap, ap₂, _∙_}
+-- What is promised of address fields and BIS blocks, on their definitions. Mapping has where each byte stands. Assumes nothing.
+use mathlib.Core.Path.{_≡_, refl, sym, ap, _∙_}
 use mathlib.Core.Logic.{_↔_}
 use mathlib.Core.Bool.{true}
-use mathlib.Core.List.{List, []}
-use Prim.Native.Nat.{ℕ, _+_, _^_, _<_}
+use mathlib.Core.List.{List}
+use Prim.Native.Nat.{ℕ, _^_, _<_}
 use native.Mathlib.Omega.{arith}
-use borrow.Author.Tests.{lt-ltb, le-ltb}
-use lib.ListN.{getD}
+use lib.ListN.{length}
+use Rattle.laws.specs.Bytes.{Bytes}
 use Rattle.address.specs.declared.Judged.the-variants.{Accepted}
 use Rattle.address.specs.declared.Psn.{Psn}
 use Rattle.address.specs.Judged.{judged}
@@ -14,16 +14,14 @@ use Rattle.column.specs.Column.{hasRoots}
 use Rattle.bis.specs.declared.PsnFound.{PsnFound}
 use Rattle.bis.specs.declared.PsnFound.the-variants.{Found, NotFound}
 use Rattle.bis.specs.AddressField.{partlyInverted, addressField, aunIn, flagIn}
-use Rattle.bis.specs.AccessBlock.{Side, rowOfAF, columnOfAF, rowOfUC, columnOfUC, controlAt, accessByte}
+use Rattle.bis.specs.AccessBlock.{Side}
 use Rattle.bis.specs.BisBlock.{bisBlock, Block}
-use Rattle.bis.specs.BisCluster.{rowOf, columnOf, bisByte}
 use Rattle.bis.specs.Reading.{IsPsnOf, psnIn, sideIn, Reads}
-use Rattle.bis.proofs.Mapping.{field-there, byte-there, af-row-lt, bis-byte-there, bis-word-there}
-use Rattle.bis.proofs.AddressFields.{aun-back, flag-back, primary-roots, primary-back}
+use Rattle.bis.proofs.AddressFields.{aun-back, flag-back, primary-roots, primary-back, field-only}
 use Rattle.bis.proofs.Psn.{found-is, is-there}
-use Rattle.bis.proofs.Blocks.{written-columns, written-fields, written-psn, written-side, side-in, block-is}
+use Rattle.bis.proofs.Blocks.{written-block, written-columns, written-fields, written-psn, written-side, side-in, block-is}
 
--- ---- 13.9.2.2: an address field, with the inversion undone, has its roots, its AUN and its flag byte (AddressFields has the converse, `field-only`)
+-- ---- 13.9.2.2: an address field, with the inversion undone, has its roots, its AUN and its flag byte; nine bytes that have them are that address field
 
 pub field-back : (aun flag : ℕ) → aun < 2 ^ 32 → flag < 256
     → (hasRoots 4 (partlyInverted (addressField aun flag)) ≡ true)
@@ -33,22 +31,9 @@ field-back aun flag ha hf =
     let back = primary-back aun flag ha hf in
     (ap (hasRoots 4) back ∙ primary-roots aun flag ha hf, ap aunIn back ∙ aun-back aun flag ha, ap flagIn back ∙ flag-back aun flag)
 
--- ---- 13.10, 13.13: each byte stands where the formulas put it
-
-pub field-place : (fields : List (List ℕ)) (side : List ℕ) (x y : ℕ) → x < 9 → y < 16
-    → accessByte fields side (rowOfAF x y) (columnOfAF x y) ≡ getD (getD fields y []) x 0
-field-place fields side x y hx hy =
-    rw (lt-ltb (rowOfAF x y) 6 (af-row-lt x y hx hy))
-    (ap₂ (λ (f b : ℕ). getD (getD fields f []) b 0) (field-there x y hx hy) (byte-there x y hx hy))
-
-pub control-place : (fields : List (List ℕ)) (side : List ℕ) (k : ℕ) → accessByte fields side (rowOfUC k) (columnOfUC k) ≡ getD side (16 + k) 0
-control-place fields side k =
-    let place : 16 + controlAt (rowOfUC k) (columnOfUC k) ≡ 16 + k = omega arith in
-    rw (le-ltb (rowOfUC k) 6 (omega arith)) (ap (λ (j : ℕ). getD side j 0) place)
-
--- byte N of code word C
-pub word-place : (block : List (List ℕ)) (N C : ℕ) → N < 62 → C < 24 → bisByte block (rowOf N C) (columnOf N C) ≡ getD (getD block C []) N 0
-word-place block N C hN hC = ap₂ (λ (c n : ℕ). getD (getD block c []) n 0) (bis-word-there N C hN hC) (bis-byte-there N C hN hC)
+pub field-determined : (field : List ℕ) → length field ≡ 9 → Bytes field → hasRoots 4 (partlyInverted field) ≡ true
+    → field ≡ addressField (aunIn (partlyInverted field)) (flagIn (partlyInverted field))
+field-determined = field-only
 
 -- ---- 14: the PSN that is found is accepted and has the sixteen AUNs, and such a PSN is found; none is found exactly where there is none
 
@@ -65,7 +50,10 @@ no-psn-found block = (none-is, by (psnIn block) refl)
     by (Found p) e none = absurd (none (p .0) (found-is block (p .0) e))
     by NotFound e none = e
 
--- ---- a block that was written is read back
+-- ---- a block that was written has 24 columns of 62 bytes, and is read back
+
+pub block-written : (psn : ℕ) (side : List ℕ) → judged psn ≡ Accepted → Side side → Block (bisBlock psn side)
+block-written psn side accepted is = written-block psn side accepted (is .bytes)
 
 pub read-back : (psn : ℕ) (side : List ℕ) → judged psn ≡ Accepted → Side side → Reads (bisBlock psn side) psn side
 read-back psn side accepted is =

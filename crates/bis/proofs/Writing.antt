@@ -1,7 +1,7 @@
 -- The steps by which the code writes a BIS block. Assumes nothing.
 use mathlib.Core.Path.{_≡_, refl, sym, ap, _∙_}
 use mathlib.Core.List.{List, [], _++_}
-use Prim.Native.Nat.{ℕ, _+_, _*_, _-_, _<_, _≤_}
+use Prim.Native.Nat.{ℕ, _+_, _-_, _<_, _≤_}
 use native.Mathlib.Omega.{arith}
 use borrow.Author.Tests.{lt-ltb, le-ltb}
 use lib.ListN.{length, getD, set, length-append, List·getD-append}
@@ -15,7 +15,7 @@ use Rattle.address.specs.Judged.{judged}
 use Rattle.address.specs.Conversions.{psnToAun}
 use Rattle.bis.proofs.AddressFields.{aun-answered}
 use Rattle.bis.specs.AddressField.{addressField}
-use Rattle.bis.specs.AccessBlock.{fieldOf, addressFields, accessByte, fieldAt, byteAt}
+use Rattle.bis.specs.AccessBlock.{fieldOf, addressFields, fieldAt, byteAt, controlAt, accessByte}
 use Rattle.bis.specs.BisBlock.{codeWord, bisBlock}
 
 -- ---- a byte of the access block
@@ -25,7 +25,7 @@ pub in-a-field : (fields : List (List ℕ)) (side : List ℕ) (row C : ℕ) → 
 in-a-field fields side row C h = rw (lt-ltb row 6 h)
 
 pub in-control-data : (fields : List (List ℕ)) (side : List ℕ) (row C : ℕ) → 6 ≤ row
-    → getD side (16 + (24 * C + (row - 6))) 0 ≡ accessByte fields side row C
+    → getD side (16 + controlAt row C) 0 ≡ accessByte fields side row C
 in-control-data fields side row C h = rw (le-ltb row 6 h)
 
 -- ---- a byte of a list and a list behind it

@@ -69,7 +69,7 @@ firstOtherUnit block psn = first 16 (otherUnit block psn)
 abbrev pub foundIf : List (List ℕ) → PsnAnswer → PsnFound
 foundIf block answer = cond (isAccepted (answer .judged)) (cond (ltb (firstOtherUnit block (answer .psn .0)) 16) NotFound (Found (answer .psn))) NotFound
 
--- no other PSN than that of the cluster with unit 0's AUN
+-- only the PSN of the cluster with unit 0's AUN can have them (proofs/Statements: psn-found, no-psn-found)
 unfoldable pub psnIn : List (List ℕ) → PsnFound
 psnIn block = foundIf block (aunToPsn (aunAt block 0))
 

@@ -6,12 +6,10 @@ ghost use mathlib.Core.Path.{_≡_};
 ghost use mathlib.Core.List.{_++_};
 ghost use Prim.Native.Nat.{_+_, _*_, _-_, _^_, _<_};
 ghost use lib.ListN.{length, getD};
-ghost use Rattle.laws.specs.Tabulate.{tabulate};
 ghost use Rattle.address.specs.declared.Judged.the-variants.{Accepted};
 ghost use Rattle.address.specs.Judged.{judged};
-ghost use Rattle.address.specs.Conversions.{aunOf};
 ghost use Rattle.column.specs.Column.{hasRoots};
-ghost use Rattle.bis.specs.AddressField.{reordered, information, primaryField, partlyInverted, addressField, restored, aunIn};
+ghost use Rattle.bis.specs.AddressField.{reordered, information, primaryField, partlyInverted, addressField, restored};
 ghost use Rattle.bis.specs.AccessBlock.{addressFields, accessByte};
 ghost use Rattle.bis.specs.BisBlock.{accessColumn, codeWord, bisBlock};
 ghost use Rattle.bis.specs.Reading.{firstWrongColumn, fieldIn, primaryIn, firstWrongField, aunAt, firstOtherUnit, psnIn, sideByteIn, sideOut};
@@ -27,6 +25,8 @@ pub enum PsnFound {
     Found(Psn),
     NotFound,
 }
+
+// ---- 13.9.2.2: address fields
 
 // PAF0 from the AUN's high byte.
 fn reordered(high: u8) -> u8
@@ -89,17 +89,14 @@ pub fn address_field(aun: Aun, flag: u8) -> [u8; 9]
     partly_inverted(primary_field(aun, flag))
 }
 
-fn no_fields() -> Fields
-    ensures { λ r. ⌜ length r ≡ 16 ⌝ }
-{
-    [[0u8; 9]; 16]
-}
+// ---- 13.10 to 13.12: the BIS block, written
 
+// The sixteen address fields of a cluster.
 fn address_fields(psn: Psn, side: &[u8]) -> Fields
     requires { ⌜ (length (now side) ≡ 592) × (judged (psn .0) ≡ Accepted) ⌝ }
     ensures { λ r. ⌜ r ≡ addressFields (psn .0) (now (side .entry)) ⌝ }
 {
-    let mut fields = no_fields();
+    let mut fields = [[0u8; 9]; 16];
     let mut y: usize = 0;
     while y < 16 {
         let unit = psn.aun(y as u32);
@@ -122,30 +119,18 @@ fn access_byte(fields: &Fields, side: &[u8], row: usize, c: usize) -> u8
     side[16 + (24 * c + (row - 6))]
 }
 
-fn no_information() -> [u8; 30]
-    ensures { λ r. ⌜ length r ≡ 30 ⌝ }
-{
-    [0u8; 30]
-}
-
 // The 30 information bytes of code word c.
 fn access_column(fields: &Fields, side: &[u8], c: usize) -> [u8; 30]
     requires { ⌜ (length (now side) ≡ 592) × (c < 24) ⌝ }
     ensures { λ r. ⌜ r ≡ accessColumn (now (fields .entry)) (now (side .entry)) c ⌝ }
 {
-    let mut column = no_information();
+    let mut column = [0u8; 30];
     let mut row: usize = 0;
     while row < 30 {
         column[row] = access_byte(fields, side, row, c);
         row += 1;
     }
     column
-}
-
-fn no_column() -> [u8; 62]
-    ensures { λ r. ⌜ length r ≡ 62 ⌝ }
-{
-    [0u8; 62]
 }
 
 // Byte n of a code word.
@@ -163,7 +148,7 @@ fn byte_of(information: &[u8], parity: &[u8], n: usize) -> u8
 fn joined(information: [u8; 30], parity: [u8; 32]) -> [u8; 62]
     ensures { λ r. ⌜ r ≡ information ++ parity ⌝ }
 {
-    let mut column = no_column();
+    let mut column = [0u8; 62];
     let mut n: usize = 0;
     while n < 62 {
         column[n] = byte_of(&information, &parity, n);
@@ -172,6 +157,7 @@ fn joined(information: [u8; 30], parity: [u8; 32]) -> [u8; 62]
     column
 }
 
+// Code word c: information and parity.
 fn code_word(fields: &Fields, side: &[u8], c: usize) -> [u8; 62]
     requires { ⌜ (length (now side) ≡ 592) × (c < 24) ⌝ }
     ensures { λ r. ⌜ r ≡ codeWord (now (fields .entry)) (now (side .entry)) c ⌝ }
@@ -182,19 +168,13 @@ fn code_word(fields: &Fields, side: &[u8], c: usize) -> [u8; 62]
     joined(information, parity)
 }
 
-fn no_block() -> Block
-    ensures { λ r. ⌜ length r ≡ 24 ⌝ }
-{
-    [[0u8; 62]; 24]
-}
-
 // The BIS block of the cluster at an accepted PSN, with 592 bytes of side data. For the crates above, which test both.
 pub fn block(psn: Psn, side: &[u8]) -> Block
     requires { ⌜ (length (now side) ≡ 592) × (judged (psn .0) ≡ Accepted) ⌝ }
     ensures { λ r. ⌜ r ≡ bisBlock (psn .0) (now (side .entry)) ⌝ }
 {
     let fields = address_fields(psn, side);
-    let mut block = no_block();
+    let mut block = [[0u8; 62]; 24];
     let mut c: usize = 0;
     while c < 24 {
         block[c] = code_word(&fields, side, c);
@@ -202,6 +182,8 @@ pub fn block(psn: Psn, side: &[u8]) -> Block
     }
     block
 }
+
+// ---- the BIS block, read
 
 // Whether a BIS column has its 32 roots.
 fn is_code_word(column: &[u8; 62]) -> bool
@@ -214,20 +196,14 @@ fn is_code_word(column: &[u8; 62]) -> bool
 pub fn first_wrong_column(block: Block) -> usize
     ensures { λ r. ⌜ r ≡ firstWrongColumn block ⌝ }
 {
-    let mut c: usize = 0;
-    while c < 24 {
-        if !is_code_word(&block[c]) {
-            return c;
+    let mut column: usize = 0;
+    while column < 24 {
+        if !is_code_word(&block[column]) {
+            return column;
         }
-        c += 1;
+        column += 1;
     }
     24
-}
-
-fn no_field() -> [u8; 9]
-    ensures { λ r. ⌜ length r ≡ 9 ⌝ }
-{
-    [0u8; 9]
 }
 
 // Address field y as it stands in the block.
@@ -235,7 +211,7 @@ fn field_in(block: &Block, y: usize) -> [u8; 9]
     requires { ⌜ y < 16 ⌝ }
     ensures { λ r. ⌜ r ≡ fieldIn (now (block .entry)) y ⌝ }
 {
-    let mut field = no_field();
+    let mut field = [0u8; 9];
     let mut x: usize = 0;
     while x < 9 {
         let row = 2 * (x / 3) + y / 8;
@@ -246,6 +222,7 @@ fn field_in(block: &Block, y: usize) -> [u8; 9]
     field
 }
 
+// The same with the inversion undone.
 fn primary_in(block: &Block, y: usize) -> [u8; 9]
     requires { ⌜ y < 16 ⌝ }
     ensures { λ r. ⌜ r ≡ primaryIn (now (block .entry)) y ⌝ }
@@ -257,13 +234,13 @@ fn primary_in(block: &Block, y: usize) -> [u8; 9]
 pub fn first_wrong_field(block: Block) -> usize
     ensures { λ r. ⌜ r ≡ firstWrongField block ⌝ }
 {
-    let mut y: usize = 0;
-    while y < 16 {
-        let primary = primary_in(&block, y);
+    let mut unit: usize = 0;
+    while unit < 16 {
+        let primary = primary_in(&block, unit);
         if !column::has_roots(&primary, 4) {
-            return y;
+            return unit;
         }
-        y += 1;
+        unit += 1;
     }
     16
 }

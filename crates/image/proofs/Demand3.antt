@@ -10,7 +10,8 @@ use lib.Seq.{ext-getD}
 use Rattle.laws.specs.Bytes.{Bytes}
 use Rattle.modulation.specs.Gaps.{LongGaps, Spaced, NoSeven}
 use Rattle.modulation.proofs.Bits.{pairs-injective}
-use Rattle.modulation.proofs.Limits.{length-stream, long-gaps, spaced, no-seven}
+use Rattle.modulation.proofs.Streams.{length-stream}
+use Rattle.modulation.proofs.Limits.{long-gaps, spaced, no-seven}
 use Rattle.modulation.proofs.Unique.{unique}
 use Rattle.frame.specs.FrameBits.{frameBits}
 use Rattle.frame.specs.Frame.{framePairs}

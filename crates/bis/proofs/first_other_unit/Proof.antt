@@ -1,15 +1,11 @@
+-- `first_other_unit` meets its contract: the AUNs of the units passed are the PSN's (Search, Reading).
 use borrow.Author.Needs.{needs}
 use Prim.Native.Nat.{_-_}
-use Rattle.laws.proofs.First.{Passed, passed-none, passed-more}
+use Rattle.laws.proofs.First.{Passed, passed-none, passed-more, first-here, first-past}
 use Rattle.bis.specs.Reading.{otherUnit, firstOtherUnit}
-use Rattle.bis.proofs.Search.{first-here, first-past}
 use Rattle.bis.proofs.Reading.{unit-differs, unit-agrees}
 use Rattle.bis.proofs.first_other_unit.Statement.{statement}
 use Rattle.bis.proofs.first_other_unit.Tie as tie
-use Rattle.bis.proofs.first_other_unit.Reads as reads
-use Rattle.bis.proofs.first_other_unit.Lts as lts
-use Rattle.address.proofs.Psn.aun.Reads as aun-reads
-use Rattle.bis.proofs.aun_in.Reads as aun-in-reads
 
 abbrev Inv-loop : tie.InvT-loop
 Inv-loop block psn y₀ y = Passed (otherUnit block (psn .0)) y
@@ -17,40 +13,31 @@ Inv-loop block psn y₀ y = Passed (otherUnit block (psn .0)) y
 abbrev μ-loop : tie.MeasureT-loop
 μ-loop block psn y₀ y = 16 - y
 
--- src/lib.rt:292:5
 loop-holds : tie.Need-loop-holds Inv-loop μ-loop
 loop-holds c = passed-none
 
--- src/lib.rt:293:28
 cast-aun : tie.Need-cast-aun Inv-loop μ-loop
 cast-aun c = search needs
 
--- src/lib.rt:293:13
 aun-requires : tie.Need-aun-requires Inv-loop μ-loop
 aun-requires c κs = search needs
 
--- src/lib.rt:294:13
 aun-in-requires : tie.Need-aun-in-requires Inv-loop μ-loop
 aun-in-requires c κs = search needs
 
--- src/lib.rt:296:13
 returns : tie.Need-returns Inv-loop μ-loop
 unfolding firstOtherUnit
 returns c = search (first-here, unit-differs, c .if1 .taken)
 
--- src/lib.rt:298:9
 add-y : tie.Need-add-y Inv-loop μ-loop
 add-y c = search needs
 
--- src/lib.rt:292:5
 loop-less : tie.Need-loop-less Inv-loop μ-loop
 loop-less c = search needs
 
--- src/lib.rt:292:5
 loop-again : tie.Need-loop-again Inv-loop μ-loop
 loop-again c = search (passed-more, unit-agrees)
 
--- src/lib.rt:287:1
 returns-2 : tie.Need-returns-2 Inv-loop μ-loop
 unfolding firstOtherUnit
 returns-2 c = search (first-past)

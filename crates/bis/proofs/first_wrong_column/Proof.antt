@@ -1,56 +1,43 @@
+-- `first_wrong_column` meets its contract: the columns passed have their roots (Search, Reading).
 use borrow.Author.Needs.{needs}
 use Prim.Native.Nat.{_-_}
-use native.Mathlib.Omega.{arith}
-use Rattle.laws.proofs.First.{Passed, passed-none, passed-more}
+use Rattle.laws.proofs.First.{Passed, passed-none, passed-more, first-here, first-past}
 use Rattle.bis.specs.Reading.{wrongColumn, firstWrongColumn}
-use Rattle.bis.proofs.Search.{first-here, first-past}
 use Rattle.bis.proofs.Reading.{column-judged}
 use Rattle.bis.proofs.first_wrong_column.Statement.{statement}
 use Rattle.bis.proofs.first_wrong_column.Tie as tie
-use Rattle.bis.proofs.first_wrong_column.Reads as reads
-use Rattle.bis.proofs.first_wrong_column.Lts as lts
-use Rattle.bis.proofs.is_code_word.Reads as is-code-word-reads
 
 abbrev Inv-loop : tie.InvT-loop
-Inv-loop block c₀ c = Passed (wrongColumn block) c
+Inv-loop block column₀ column = Passed (wrongColumn block) column
 
 abbrev μ-loop : tie.MeasureT-loop
-μ-loop block c₀ c = 24 - c
+μ-loop block column₀ column = 24 - column
 
--- src/lib.rt:218:5
 loop-holds : tie.Need-loop-holds Inv-loop μ-loop
 loop-holds c = passed-none
 
--- src/lib.rt:219:26
 mul-is-code-word : tie.Need-mul-is-code-word Inv-loop μ-loop
 mul-is-code-word c = search needs
 
--- src/lib.rt:219:26
 index-1-is-code-word : tie.Need-index-1-is-code-word Inv-loop μ-loop
 index-1-is-code-word c = search needs
 
--- src/lib.rt:219:13
 is-code-word-requires : tie.Need-is-code-word-requires Inv-loop μ-loop
 is-code-word-requires c κs = search needs
 
--- src/lib.rt:220:13
 returns : tie.Need-returns Inv-loop μ-loop
 unfolding firstWrongColumn
 returns c = search (first-here, column-judged)
 
--- src/lib.rt:222:9
-add-c : tie.Need-add-c Inv-loop μ-loop
-add-c c = search needs
+add-column : tie.Need-add-column Inv-loop μ-loop
+add-column c = search needs
 
--- src/lib.rt:218:5
 loop-less : tie.Need-loop-less Inv-loop μ-loop
 loop-less c = search needs
 
--- src/lib.rt:218:5
 loop-again : tie.Need-loop-again Inv-loop μ-loop
 loop-again c = search (passed-more, column-judged)
 
--- src/lib.rt:214:1
 returns-2 : tie.Need-returns-2 Inv-loop μ-loop
 unfolding firstWrongColumn
 returns-2 c = search (first-past)
@@ -66,7 +53,7 @@ first-wrong-column-spec =
     index-1-is-code-word
     is-code-word-requires
     returns
-    add-c
+    add-column
     loop-less
     loop-again
     returns-2)

@@ -1,64 +1,48 @@
+-- `partly_inverted` meets its contract, byte by byte (AddressFields).
 use Rattle.bis.proofs.AddressFields.{inverted-is}
 use borrow.Author.Needs.{needs}
 use Rattle.bis.proofs.partly_inverted.Statement.{statement}
 use Rattle.bis.proofs.partly_inverted.Tie as tie
-use Rattle.bis.proofs.partly_inverted.Reads as reads
-use Rattle.bis.proofs.partly_inverted.Lts as lts
-use Rattle.bis.proofs.inverted.Reads as inverted-reads
 
--- src/lib.rt:72:9
 array-read-t5 : tie.Need-array-read-t5
 array-read-t5 c = search needs
 
--- src/lib.rt:73:9
 array-read-t8 : tie.Need-array-read-t8
 array-read-t8 c = search needs
 
--- src/lib.rt:74:18
 array-read-inverted : tie.Need-array-read-inverted
 array-read-inverted c = search needs
 
--- src/lib.rt:74:9
 inverted-requires : tie.Need-inverted-requires
 inverted-requires c κs = search needs
 
--- src/lib.rt:75:18
 array-read-inverted-2 : tie.Need-array-read-inverted-2
 array-read-inverted-2 c = search needs
 
--- src/lib.rt:75:9
 inverted-requires-2 : tie.Need-inverted-requires-2
 inverted-requires-2 c κs = search needs
 
--- src/lib.rt:76:9
 array-read-t19 : tie.Need-array-read-t19
 array-read-t19 c = search needs
 
--- src/lib.rt:77:18
 array-read-inverted-3 : tie.Need-array-read-inverted-3
 array-read-inverted-3 c = search needs
 
--- src/lib.rt:77:9
 inverted-requires-3 : tie.Need-inverted-requires-3
 inverted-requires-3 c κs = search needs
 
--- src/lib.rt:78:18
 array-read-inverted-4 : tie.Need-array-read-inverted-4
 array-read-inverted-4 c = search needs
 
--- src/lib.rt:78:9
 inverted-requires-4 : tie.Need-inverted-requires-4
 inverted-requires-4 c κs = search needs
 
--- src/lib.rt:79:9
 array-read-t30 : tie.Need-array-read-t30
 array-read-t30 c = search needs
 
--- src/lib.rt:80:9
 array-read-t33 : tie.Need-array-read-t33
 array-read-t33 c = search needs
 
--- src/lib.rt:68:1
 returns : tie.Need-returns
 returns c = search (inverted-is)
 

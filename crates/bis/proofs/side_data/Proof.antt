@@ -1,14 +1,12 @@
+-- `side_data` meets its contract: the loop fills the slice, and one of another length is left (Reading).
 use borrow.Author.Needs.{needs}
 use Prim.Native.Nat.{_-_}
 use native.Mathlib.Omega.{arith}
-use Rattle.laws.proofs.Fill.{Upto, upto-none, upto-more, upto-all}
+use Rattle.laws.proofs.Fill.{Upto, upto-none, upto-more}
 use Rattle.bis.specs.Reading.{sideByteIn}
 use Rattle.bis.proofs.Reading.{side-left, side-filled}
 use Rattle.bis.proofs.side_data.Statement.{statement}
 use Rattle.bis.proofs.side_data.Tie as tie
-use Rattle.bis.proofs.side_data.Reads as reads
-use Rattle.bis.proofs.side_data.Lts as lts
-use Rattle.bis.proofs.side_byte.Reads as side-byte-reads
 
 abbrev Inv-loop : tie.InvT-loop
 Inv-loop side₀ block k₀ side k = Upto 0 (sideByteIn block) 592 k side
@@ -16,39 +14,30 @@ Inv-loop side₀ block k₀ side k = Upto 0 (sideByteIn block) 592 k side
 abbrev μ-loop : tie.MeasureT-loop
 μ-loop side₀ block k₀ side k = 592 - k
 
--- src/lib.rt:343:9
 returns : tie.Need-returns Inv-loop μ-loop
 returns c = search (side-left)
 
--- src/lib.rt:346:5
 loop-holds : tie.Need-loop-holds Inv-loop μ-loop
 loop-holds c = search (upto-none)
 
--- src/lib.rt:347:19
 side-byte-requires : tie.Need-side-byte-requires Inv-loop μ-loop
 side-byte-requires c κs = search needs
 
--- src/lib.rt:347:9
 slice-write-side : tie.Need-slice-write-side Inv-loop μ-loop
 slice-write-side c = search needs
 
--- src/lib.rt:348:9
 add-k : tie.Need-add-k Inv-loop μ-loop
 add-k c = search needs
 
--- src/lib.rt:346:5
 loop-less : tie.Need-loop-less Inv-loop μ-loop
 loop-less c = search needs
 
--- src/lib.rt:346:5
 loop-again : tie.Need-loop-again Inv-loop μ-loop
 loop-again c = search (upto-more, arith)
 
--- src/lib.rt:339:1
 same-length : tie.Need-same-length Inv-loop μ-loop
 same-length c = search needs
 
--- src/lib.rt:339:1
 returns-2 : tie.Need-returns-2 Inv-loop μ-loop
 returns-2 c = search (side-filled)
 
