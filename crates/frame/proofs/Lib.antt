@@ -1,6 +1,7 @@
 -- Laws of recording frames.
 pub mod FrameBits
 pub mod Pairs
+pub mod Unweaving
 pub mod Frame
 pub mod Counting
 pub mod TallyCases

@@ -3,4 +3,5 @@ pub mod Sync
 pub mod FrameBits
 pub mod Frame
 pub mod Written
+pub mod Reading
 pub mod Tally

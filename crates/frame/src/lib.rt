@@ -15,6 +15,12 @@ pub use tally::TallyAnswer;
 pub use tally::frame_counts;
 pub use tally::tally_input;
 
+// What the strict reader finds: the dc word, or that no 1,268 bits give the frame and # of the next sync.
+pub enum FrameRead {
+    Found(u32),
+    NoFrame,
+}
+
 // 634 pairs, all 0.
 fn no_pairs() -> [u8; 634]
     ensures { λ r. ⌜ length r ≡ 634 ⌝ }

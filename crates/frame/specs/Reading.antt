@@ -1,0 +1,46 @@
+-- A frame read back: the row and the dc word, if any, that give 1,902 modulation bits behind a frame sync and # of the next one.
+use mathlib.Core.Bool.{Bool, false}
+use mathlib.Core.List.{List}
+use mathlib.Core.Path.{_≡_}
+use Prim.Native.Nat.{ℕ, _^_, _<_}
+use lib.ListN.{length}
+use Rattle.laws.specs.Bytes.{Bytes}
+use Rattle.bits.specs.Bits.{Bits}
+use Rattle.modulation.specs.Modulation.{lastBit}
+use Rattle.modulation.specs.Bits.{pairs, dataBits, bits}
+use Rattle.modulation.specs.Sync.{FS, syncId}
+use Rattle.modulation.specs.Stream.{modulated}
+use Rattle.modulation.specs.Code.{Pairs, twos, Gives}
+use Rattle.frame.specs.Frame.{framePairs, nextHash}
+use Rattle.frame.specs.declared.FrameRead.{FrameRead}
+use Rattle.frame.specs.declared.FrameRead.the-variants.{Found, NoFrame}
+
+-- the 1,268 bits b give the modulation bits m behind sync n, and # of the next sync
+pub record BitsGive (n : FS) (b m : List ℕ) (hash : Bool) : Type 0 where
+  pub size : length b ≡ 1268
+  pub are-bits : Bits b
+  pub gives : Gives (lastBit false (syncId n)) (pairs b) m hash
+
+-- row and dc word do
+pub record RowGives (n : FS) (row : List ℕ) (dc : ℕ) (m : List ℕ) (hash : Bool) : Type 0 where
+  pub size : length row ≡ 155
+  pub bytes : Bytes row
+  pub small : dc < 2 ^ 28
+  pub bits-are : bits (modulated n (framePairs row dc) .groups) ≡ m
+  pub next-is : nextHash n row dc ≡ hash
+
+-- the strict reader's answer on m: a dc word, with its row in the slice, or that no 1,268 bits give m, with the slice as it was
+pub record Reads (n : FS) (m : List ℕ) (hash : Bool) (before : List ℕ) (answer : FrameRead) (after : List ℕ) : Type 0 where
+  pub found : (dc : ℕ) → answer ≡ Found dc → RowGives n after dc m hash
+  pub none : answer ≡ NoFrame → (after ≡ before) × ((b : List ℕ) → BitsGive n b m hash → ⊥)
+
+-- ---- a frame's pairs in a slice
+
+-- 634 pairs as numbers
+pub record Whole (l : List ℕ) : Type 0 where
+  pub size : length l ≡ 634
+  pub are-pairs : Pairs l
+
+-- their data bits
+unfoldable pub bitsIn : List ℕ → List ℕ
+bitsIn l = dataBits (twos l)
