@@ -2,6 +2,8 @@
 pub mod FrameBits
 pub mod Pairs
 pub mod Unweaving
+pub mod Same
+pub mod Reading
 pub mod Frame
 pub mod Counting
 pub mod TallyCases

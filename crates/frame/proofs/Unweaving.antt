@@ -14,7 +14,7 @@ use Rattle.laws.proofs.Tabulate.{length-tabulate, getD-tabulate, is-tabulate, t
 use Rattle.laws.proofs.Fill.{Upto, upto-none, upto-more, upto-all}
 use Rattle.bits.specs.Bits.{Bits, number}
 use Rattle.bits.proofs.Pack.{length-packed, getD-packed}
-use Rattle.modulation.specs.Modulation.{Two, d00, twoNumber}
+use Rattle.modulation.specs.Modulation.{Two, d00, d01, d10, d11, twoNumber}
 use Rattle.modulation.specs.Bits.{dataBits}
 use Rattle.modulation.specs.Code.{Pairs, twoOf, twos}
 use Rattle.modulation.proofs.Bits.{length-dataBits}
@@ -35,6 +35,22 @@ odd-bit [] k = refl
 odd-bit (d ∷ ds) zero = refl
 odd-bit (d ∷ ds) (suc k) = let on : 2 * suc k + 1 ≡ suc (suc (2 * k + 1)) = omega arith in ap (λ (j : ℕ). getD (dataBits (d ∷ ds)) j 0) on ∙ odd-bit ds k
 
+two-high : (d : Two) → twoNumber d / 2 < 2
+two-high d00 = omega arith
+two-high d01 = omega arith
+two-high d10 = omega arith
+two-high d11 = omega arith
+
+pub data-bits : (ds : List Two) → Bits (dataBits ds)
+data-bits [] j = omega arith
+data-bits (d ∷ ds) zero = two-high d
+data-bits (d ∷ ds) (suc zero) = mod-lt (twoNumber d) (zero-lt-suc 1)
+data-bits (d ∷ ds) (suc (suc j)) = data-bits ds j
+
+pub bits-in : (l : List ℕ) → Bits (bitsIn l)
+unfolding bitsIn
+bits-in l = data-bits (twos l)
+
 module _ {l : List ℕ} (w : Whole l) where
   pair-in : (k : ℕ) → twoNumber (getD (twos l) k d00) ≡ getD l k 0
   pair-in k = ap twoNumber (List·getD-map twoOf l k 0) ∙ two-of-number (getD l k 0) (w .are-pairs k)
@@ -50,13 +66,6 @@ module _ {l : List ℕ} (w : Whole l) where
   odd-in j e =
       let whole : 2 * (j / 2) + 1 ≡ j = omega arith in
       (ap (λ (x : ℕ). x % 2) (sym (pair-in (j / 2))) ∙ sym (odd-bit (twos l) (j / 2)) ∙ ap (λ (i : ℕ). getD (dataBits (twos l)) i 0) whole, omega arith)
-
-  pub bits-in : Bits (bitsIn l)
-  bits-in j =
-      elim (ℕ-discrete (j % 2) 0) [
-        | yes e ↦ omega (arith, even-in j e .0, even-in j e .1)
-        | no e ↦ omega (arith, odd-in j e .0, odd-in j e .1)
-      ]
 
   pub length-bits-in : length (bitsIn l) ≡ 1268
   unfolding bitsIn
@@ -146,4 +155,4 @@ module _ {b : List ℕ} where
 pub row-all : {l : List ℕ} {k : ℕ} {row : List ℕ} → Whole l → 155 ≤ k → RowUpto (bitsIn l) k row → row ≡ rowOf (bitsIn l)
 row-all {l} w h u =
     upto-all h (u .upto)
-    ∙ sym (is-tabulate 0 155 (λ k. getD (rowOf (bitsIn l)) k 0) (rowOf (bitsIn l)) (length-row (bitsIn l) (bits-in w)) (λ k _. refl))
+    ∙ sym (is-tabulate 0 155 (λ k. getD (rowOf (bitsIn l)) k 0) (rowOf (bitsIn l)) (length-row (bitsIn l) (bits-in l)) (λ k _. refl))

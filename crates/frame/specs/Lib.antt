@@ -2,6 +2,7 @@
 pub mod Sync
 pub mod FrameBits
 pub mod Frame
+pub mod Same
 pub mod Written
 pub mod Reading
 pub mod Tally

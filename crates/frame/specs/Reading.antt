@@ -1,16 +1,20 @@
 -- A frame read back: the row and the dc word, if any, that give 1,902 modulation bits behind a frame sync and # of the next one.
-use mathlib.Core.Bool.{Bool, false}
+use mathlib.Core.Bool.{Bool, false, _&&_, Bool·beq, cond}
 use mathlib.Core.List.{List}
 use mathlib.Core.Path.{_≡_}
 use Prim.Native.Nat.{ℕ, _^_, _<_}
+use lib.Dec.{eqb}
 use lib.ListN.{length}
 use Rattle.laws.specs.Bytes.{Bytes}
 use Rattle.bits.specs.Bits.{Bits}
 use Rattle.modulation.specs.Modulation.{lastBit}
-use Rattle.modulation.specs.Bits.{pairs, dataBits, bits}
+use Rattle.modulation.specs.Bits.{pairs, dataBits, groups, bits}
 use Rattle.modulation.specs.Sync.{FS, syncId}
 use Rattle.modulation.specs.Stream.{modulated}
+use Rattle.modulation.specs.Demodulator.{demodulate}
 use Rattle.modulation.specs.Code.{Pairs, twos, Gives}
+use Rattle.frame.specs.Same.{same}
+use Rattle.frame.specs.FrameBits.{rowOf, dcOf}
 use Rattle.frame.specs.Frame.{framePairs, nextHash}
 use Rattle.frame.specs.declared.FrameRead.{FrameRead}
 use Rattle.frame.specs.declared.FrameRead.the-variants.{Found, NoFrame}
@@ -33,6 +37,25 @@ pub record RowGives (n : FS) (row : List ℕ) (dc : ℕ) (m : List ℕ) (hash : 
 pub record Reads (n : FS) (m : List ℕ) (hash : Bool) (before : List ℕ) (answer : FrameRead) (after : List ℕ) : Type 0 where
   pub found : (dc : ℕ) → answer ≡ Found dc → RowGives n after dc m hash
   pub none : answer ≡ NoFrame → (after ≡ before) × ((b : List ℕ) → BitsGive n b m hash → ⊥)
+
+-- ---- the same, computed
+
+-- the data bits that the demodulator finds
+unfoldable pub bitsRead : FS → List ℕ → Bool → List ℕ
+bitsRead n m hash = dataBits (demodulate (lastBit false (syncId n)) (record { groups = groups m; terminated = hash }))
+
+-- they give m and #; if they do not, no 1,268 bits do (proofs/Reading: readable-iff)
+unfoldable pub readable : FS → List ℕ → Bool → Bool
+readable n m hash =
+    let f = modulated n (pairs (bitsRead n m hash)) in
+    eqb (length m) 1902 && (same (bits (f .groups)) m && Bool·beq (f .terminated) hash)
+
+-- the reader's answer, and the row's slice behind it
+unfoldable pub frameRead : FS → List ℕ → Bool → FrameRead
+frameRead n m hash = cond (readable n m hash) (Found (dcOf (bitsRead n m hash))) NoFrame
+
+unfoldable pub rowRead : FS → List ℕ → Bool → List ℕ → List ℕ
+rowRead n m hash before = cond (readable n m hash) (rowOf (bitsRead n m hash)) before
 
 -- ---- a frame's pairs in a slice
 
