@@ -1,9 +1,10 @@
 -- Laws of bits, pairs and groups: lengths, and that each is had back from the other. Assumes nothing.
 use mathlib.Core.List.{List, [], _∷_, _++_}
 use mathlib.Core.Path.{_≡_, refl, sym, ap, ap₂, _∙_}
-use Prim.Native.Nat.{ℕ, zero, suc, _+_, _*_, _<_, _/_, _%_}
+use Prim.Native.Nat.{ℕ, suc, _+_, _*_, _<_, _/_, _%_}
 use native.Mathlib.Omega.{arith}
 use lib.ListN.{length}
+use Rattle.laws.proofs.Finite.{all, all₂, equal-below₂}
 use Rattle.bits.specs.Bits.{Bits, threeOf}
 use Rattle.modulation.specs.Modulation.{Two, d00, d01, d10, d11, twoNumber, Three, m000, m001, m010, m011, m100, m101, m110, m111, threeNumber}
 use Rattle.modulation.specs.Bits.{two, pairs, dataBits, groups, bits, ones}
@@ -54,13 +55,8 @@ pairs-dataBits [] = refl
 pairs-dataBits (d ∷ ds) = ap₂ _∷_ (two-dataBits d) (pairs-dataBits ds)
 
 pub two-number : (x y : ℕ) → x < 2 → y < 2 → twoNumber (two x y) ≡ 2 * x + y
-two-number zero zero hx hy = refl
-two-number zero (suc zero) hx hy = refl
-two-number zero (suc (suc y)) hx hy = absurd (omega arith)
-two-number (suc zero) zero hx hy = refl
-two-number (suc zero) (suc zero) hx hy = refl
-two-number (suc zero) (suc (suc y)) hx hy = absurd (omega arith)
-two-number (suc (suc x)) y hx hy = absurd (omega arith)
+unfolding all all₂
+two-number x y hx hy = equal-below₂ 2 2 (λ x y. twoNumber (two x y)) (λ x y. 2 * x + y) tt x y hx hy
 
 -- an even number of bits comes back from its pairs
 pub dataBits-pairs : (l : List ℕ) → length l % 2 ≡ 0 → Bits l → dataBits (pairs l) ≡ l

@@ -23,7 +23,7 @@ skip hash (g ∷ gs) zero b = refl
 skip hash (g ∷ gs) (suc k) b = skip hash gs k b
 
 -- the word of row r in front
-word-front : (b hash : Bool) (gs : List Three) (r : Row) → rowAt (rowRead b hash gs) ≡ r → 1 ≤ length gs → 1 ≤ length (r .groups)
+pub word-front : (b hash : Bool) (gs : List Three) (r : Row) → rowAt (rowRead b hash gs) ≡ r → 1 ≤ length gs → 1 ≤ length (r .groups)
     → demodulateFrom hash gs 0 b ≡ r .pairs ++ demodulateFrom hash (drop (length (r .groups)) gs) 0 (nextBit r)
 unfolding demodulateFrom
 word-front b hash [] r e hg hr = absurd (not-suc-le-zero hg)

@@ -40,6 +40,16 @@ three-back m111 = refl
 pub three-injective : (l m : Three) → threeNumber l ≡ threeNumber m → l ≡ m
 three-injective l m e = sym (three-back l) ∙ ap (λ (n : ℕ). three (n / 4 % 2) (n / 2 % 2) (n % 2)) e ∙ three-back m
 
+pub three-below : (m : Three) → threeNumber m < 8
+three-below m000 = omega arith
+three-below m001 = omega arith
+three-below m010 = omega arith
+three-below m011 = omega arith
+three-below m100 = omega arith
+three-below m101 = omega arith
+three-below m110 = omega arith
+three-below m111 = omega arith
+
 -- ---- element by element
 
 module _ {A : Type 0} (n : A → ℕ) (injective : (x y : A) → n x ≡ n y → x ≡ y) where
@@ -50,7 +60,7 @@ module _ {A : Type 0} (n : A → ℕ) (injective : (x y : A) → n x ≡ n y →
       ap₂ _∷_ (sym (injective x y (eqb-true (n x) (n y) (and-left (eqb (n x) (n y)) (starts n xs l) e))))
       (starts-split xs l (and-right (eqb (n x) (n y)) (starts n xs l) e))
 
-  starts-append : (xs t : List A) → starts n xs (xs ++ t) ≡ true
+  pub starts-append : (xs t : List A) → starts n xs (xs ++ t) ≡ true
   starts-append [] t = refl
   starts-append (x ∷ xs) t = rw (eq-eqb (n x) (n x) refl, starts-append xs t)
 

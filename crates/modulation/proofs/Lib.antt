@@ -1,14 +1,9 @@
 -- The theorems are in Theorems; the other files lead there, and to the proofs of the functions.
 pub mod Tests
 pub mod Bits
+pub mod Pairs
 pub mod Fronts
 pub mod Words
-pub mod Rows
-pub mod Ahead
-pub mod Next
-pub mod Fitting
-pub mod Writing
-pub mod Modulating
 pub mod Size
 pub mod Machine
 pub mod Reading
@@ -19,3 +14,4 @@ pub mod Spacing
 pub mod Streams
 pub mod Limits
 pub mod Unique
+pub mod Theorems

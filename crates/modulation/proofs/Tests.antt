@@ -42,3 +42,7 @@ beq-same true true t = refl
 beq-same true false t = absurd t
 beq-same false true t = absurd t
 beq-same false false t = refl
+
+pub beq-refl : (a : Bool) → Bool·beq a a ≡ true
+beq-refl true = refl
+beq-refl false = refl

@@ -132,6 +132,11 @@ module _ (b : Bool) (d : Two) (ds : List Two) where
       let f = some-fits b d ds (modulateFrom ds) in
       choose-first passes rows (f .index) (ltb→lt (f .index) 16 (f .below)) (f .fit)
 
+  -- the row that is taken
+  pub some-row : First (λ r. fits r b (d ∷ ds) (modulateFrom ds)) rows (choose (λ r. fits r b (d ∷ ds) (modulateFrom ds)) rows)
+  unfolding passes
+  some-row = chosen
+
   pub word-at : Word b (d ∷ ds)
   unfolding passes modulateFrom
   word-at =

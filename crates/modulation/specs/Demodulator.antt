@@ -1,5 +1,5 @@
--- How the demodulator reads a frame, word by word. What it promises is in Code and stands without this; here is only what its loops are
--- held to. A word is the first of the rows whose groups stand there, whose condition agrees, and behind which the frame can go on so.
+-- A demodulator, word by word: a word is the first of the rows whose groups stand there, whose condition agrees, and behind which the
+-- frame can go on so. No promise rests on it: that it gives the data bits back, and when there are none, are theorems.
 use mathlib.Core.Bool.{Bool, true, false, not, _&&_, Bool·beq}
 use mathlib.Core.List.{List, [], _∷_, _++_}
 use Prim.Native.Nat.{ℕ, zero, suc, _-_}
@@ -27,11 +27,11 @@ abbrev pub reads : Bool → Bool → List Three → Row → Bool
 reads b hash gs r =
     starts threeNumber (r .groups) gs && (follows (r .when) hash (drop (length (r .groups)) gs) && agrees (r .when) b (drop (length (r .groups)) gs))
 
--- the row of the word at the front of gs. Where none of the others is read it is the last; if that is wrong, modulating again shows it
+-- the row of the word at the front of gs; where no other is read it is the last, and if that is wrong modulating again shows it
 unfoldable pub rowRead : Bool → Bool → List Three → ℕ
 rowRead b hash gs = first 15 (λ k. reads b hash gs (rowAt k))
 
--- the groups from some place to the frame's end, of which the first k belong to the word before; b is the bit before
+-- the groups that are left of a frame, of which the first k belong to the word before; b is the bit before
 unfoldable pub demodulateFrom : Bool → List Three → ℕ → Bool → List Two
 demodulateFrom hash [] k b = []
 demodulateFrom hash (g ∷ gs) (suc k) b = demodulateFrom hash gs k b

@@ -25,6 +25,7 @@ EndsLong j = (j % 1932 ≡ 13) ⊎ (j % 1932 ≡ 22)
 abbrev pub Gap : ℕ → ℕ → Type 0
 Gap i j = (EndsLong j × (j ≡ i + 9)) ⊎ ((i + 2 ≤ j) × (j ≤ i + 8))
 
+-- every gap is one of these
 abbrev pub Spaced : List ℕ → Type 0
 Spaced l = (i j : ℕ) → Neighbours l i j → Gap i j
 

@@ -64,7 +64,7 @@ ofLength n (r ∷ rs) = cond (eqb (length (r .pairs)) n) (r ∷ ofLength n rs) (
 abbrev pub longestFirst : List Row → List Row
 longestFirst rs = ofLength 4 rs ++ (ofLength 3 rs ++ (ofLength 2 rs ++ ofLength 1 rs))
 
--- the rows in the order in which they are tried
+-- the rows in the order in which they are tried: the longest first, and the terminating ones where none of those fits
 abbrev pub rows : List Row
 rows = longestFirst (conversion ++ substitution) ++ termination
 
@@ -105,7 +105,7 @@ pub record Modulated : Type 0 where
   pub groups : List Three
   pub terminated : Bool
 
--- what a frame's pairs behind the first give, of which k more belong to the first one's word; b is the word's last bit
+-- what the pairs behind a word's first give, of which k more belong to the word; b is the word's last bit
 abbrev pub Rest : Type 0
 Rest = (k : ℕ) (b : Bool) → Modulated
 
@@ -113,7 +113,7 @@ Rest = (k : ℕ) (b : Bool) → Modulated
 abbrev pub behind : Row → Rest → Modulated
 behind r rest = rest (length (r .pairs) - 1) (lastBit false (r .groups))
 
--- the row's condition holds, after the bit b and at the pairs ds, up to the frame's end
+-- the row's condition holds after the bit b, at the pairs ds that are left of the frame
 abbrev pub allowed : Row → When → Bool → List Two → Rest → Bool
 allowed r always b ds rest = true
 allowed r after-one b ds rest = b
@@ -146,7 +146,7 @@ terminates at-end = true
 abbrev pub word : Row → Rest → Modulated
 word r rest = record { groups = r .groups ++ behind r rest .groups; terminated = terminates (r .when) || behind r rest .terminated }
 
--- the pairs of a frame from some place to its end, of which the first k belong to the word before; b is the bit before
+-- the pairs that are left of a frame, of which the first k belong to the word before; b is the bit before
 unfoldable pub modulateFrom : List Two → ℕ → Bool → Modulated
 modulateFrom [] k b = record { groups = []; terminated = false }
 modulateFrom (d ∷ ds) (suc k) b = modulateFrom ds k b

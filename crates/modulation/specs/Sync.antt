@@ -5,8 +5,13 @@ use Prim.Native.Nat.{ℕ, _%_}
 use lib.ListN.{getD}
 use Rattle.modulation.specs.Modulation.{Three, m000, m001, m010, m100, m101}
 
+-- the sync numbers
 pub data FS : Type 0 where
   FS0 FS1 FS2 FS3 FS4 FS5 FS6 : FS
+
+-- the sync of number 0 to 6
+abbrev pub fs : ℕ → FS
+fs n = getD (FS0 ∷ FS1 ∷ FS2 ∷ FS3 ∷ FS4 ∷ FS5 ∷ FS6 ∷ []) n FS0
 
 -- Figure 39: the 24-bit sync body, with # first; # is ONE where the frame before ended by a terminating row
 abbrev pub syncBody : Bool → List Three

@@ -1,0 +1,86 @@
+-- Groups read from bits: how many they are, each of them, those behind the first, and their bits. Assumes nothing.
+use mathlib.Core.List.{List, [], _∷_, _++_}
+use mathlib.Core.Path.{_≡_, refl, sym, ap, ap₂, _∙_}
+use Prim.Native.Nat.{ℕ, zero, suc, _+_, _*_, _-_, _<_, _≤_}
+use native.Mathlib.Nat.{not-suc-le-zero, le-of-suc-le-suc}
+use native.Mathlib.Numerals.{add-one, add-two, add-three}
+use native.Mathlib.Omega.{arith}
+use lib.Dec.{eqb, eqb→eq}
+use lib.ListN.{length, getD, take, drop}
+use lib.Seq.{drop-cons}
+use Rattle.laws.proofs.Finite.{all, all₂, all₃, all₃-at}
+use Rattle.bits.specs.Bits.{Bits, threeAt, threeOf}
+use Rattle.modulation.specs.Modulation.{m000, threeNumber}
+use Rattle.modulation.specs.Bits.{three, bits}
+use Rattle.demodulator.specs.Ahead.{groupsAt}
+
+pub length-groupsAt : (b : List ℕ) (p n : ℕ) → length (groupsAt b p n) ≡ n
+unfolding groupsAt
+length-groupsAt b p zero = refl
+length-groupsAt b p (suc n) = ap suc (length-groupsAt b (p + 3) n)
+
+pub groupsAt-drop : (b : List ℕ) (p n j : ℕ) → j ≤ n → drop j (groupsAt b p n) ≡ groupsAt b (p + 3 * j) (n - j)
+unfolding groupsAt
+groupsAt-drop b p n zero h = ap₂ (groupsAt b) (here p) (all n)
+  where
+    here : (p : ℕ) → p ≡ p + 3 * 0
+    here p = omega arith
+
+    all : (n : ℕ) → n ≡ n - 0
+    all n = omega arith
+groupsAt-drop b p zero (suc j) h = absurd (not-suc-le-zero h)
+groupsAt-drop b p (suc n) (suc j) h = groupsAt-drop b (p + 3) n j (le-of-suc-le-suc h) ∙ ap₂ (groupsAt b) (on p j) (less n j)
+  where
+    on : (p j : ℕ) → p + 3 + 3 * j ≡ p + 3 * suc j
+    on p j = omega arith
+
+    less : (n j : ℕ) → n - j ≡ suc n - suc j
+    less n j = omega arith
+
+three-number : (x y z : ℕ) → x < 2 → y < 2 → z < 2 → threeNumber (three x y z) ≡ 4 * x + 2 * y + z
+unfolding all all₂ all₃
+three-number x y z hx hy hz =
+    eqb→eq (threeNumber (three x y z)) (4 * x + 2 * y + z)
+    (all₃-at 2 2 2 (λ x y z. eqb (threeNumber (three x y z)) (4 * x + 2 * y + z)) tt x y z hx hy hz)
+
+-- group j as a number
+pub group-at : (b : List ℕ) (p n j : ℕ) → Bits b → j < n → threeAt b (p + 3 * j) ≡ threeNumber (getD (groupsAt b p n) j m000)
+unfolding groupsAt
+group-at b p zero j h l = absurd (not-suc-le-zero l)
+group-at b p (suc n) zero h l =
+    ap (threeAt b) (here p) ∙ sym (three-number (getD b p 0) (getD b (p + 1) 0) (getD b (p + 2) 0) (h p) (h (p + 1)) (h (p + 2)))
+  where
+    here : (p : ℕ) → p + 3 * 0 ≡ p
+    here p = omega arith
+group-at b p (suc n) (suc j) h l = ap (threeAt b) (on p j) ∙ group-at b (p + 3) n j h (le-of-suc-le-suc l)
+  where
+    on : (p j : ℕ) → p + 3 * suc j ≡ p + 3 + 3 * j
+    on p j = omega arith
+
+three-bits : (x y z : ℕ) → x < 2 → y < 2 → z < 2 → threeOf (threeNumber (three x y z)) ≡ x ∷ y ∷ z ∷ []
+three-bits x y z hx hy hz =
+    let v = three-number x y z hx hy hz in
+    ap₂ _∷_ (omega arith) (ap₂ _∷_ (omega arith) (ap (λ (a : ℕ). a ∷ []) (omega arith)))
+
+-- three bits in front
+take-three : (b : List ℕ) (p n : ℕ) → p + 3 ≤ length b
+    → take (3 * suc n) (drop p b) ≡ (getD b p 0 ∷ getD b (p + 1) 0 ∷ getD b (p + 2) 0 ∷ []) ++ take (3 * n) (drop (p + 3) b)
+take-three b p n h =
+    ap (λ (k : ℕ). take k (drop p b)) (three-more n)
+    ∙ rw (add-one, add-two, add-three) (ap (take (suc (suc (suc (3 * n))))) front)
+  where
+    three-more : (n : ℕ) → 3 * suc n ≡ suc (suc (suc (3 * n)))
+    three-more n = omega arith
+
+    front : drop p b ≡ getD b p 0 ∷ getD b (suc p) 0 ∷ getD b (suc (suc p)) 0 ∷ drop (suc (suc (suc p))) b
+    front =
+        drop-cons b p 0 (omega arith)
+        ∙ ap (λ (l : List ℕ). getD b p 0 ∷ l) (drop-cons b (suc p) 0 (omega arith) ∙ ap (λ (l : List ℕ). getD b (suc p) 0 ∷ l) (drop-cons b (suc (suc p)) 0 (omega arith)))
+
+-- the bits of the groups are those that were read
+pub bits-groupsAt : (b : List ℕ) (p n : ℕ) → Bits b → p + 3 * n ≤ length b → bits (groupsAt b p n) ≡ take (3 * n) (drop p b)
+unfolding groupsAt
+bits-groupsAt b p zero h l = refl
+bits-groupsAt b p (suc n) h l =
+    ap₂ (λ (k m : List ℕ). k ++ m) (three-bits (getD b p 0) (getD b (p + 1) 0) (getD b (p + 2) 0) (h p) (h (p + 1)) (h (p + 2))) (bits-groupsAt b (p + 3) n h (omega arith))
+    ∙ sym (take-three b p n (omega arith))

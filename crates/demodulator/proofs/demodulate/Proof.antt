@@ -1,0 +1,58 @@
+use native.Mathlib.Omega.{arith}
+use lib.ListN.{length}
+use Rattle.demodulator.proofs.Answer.{read-pairs, read-size, answer-found, answer-none}
+use borrow.Author.Needs.{needs}
+use Rattle.demodulator.proofs.demodulate.Statement.{statement}
+use Rattle.demodulator.proofs.demodulate.Tie as tie
+
+read-words-requires : tie.Need-read-words-requires
+read-words-requires c κs = search needs
+
+gives-requires : tie.Need-gives-requires
+gives-requires c κs =
+    let read = c .before .before .before in
+    let start = read .before .before .before .before in
+    let args = start .args in
+    let size = read-size (args .before) (args .hash) (start .pre) (read .read-words .ensures) in
+    (read-pairs (args .before) (args .hash) (start .pre) (read .read-words .ensures), omega (arith, size))
+
+same-length : tie.Need-same-length
+same-length c = search needs
+
+returns : tie.Need-returns
+returns c =
+    let gave = c .before in
+    let read = gave .before .before .before .before in
+    let start = read .before .before .before .before in
+    let args = start .args in
+    answer-found (args .before) (args .hash) (start .pre) (read .read-words .ensures)
+    (gave .gives .ensures) (c .if1 .taken)
+
+clear-requires : tie.Need-clear-requires
+clear-requires c κs = search needs
+
+same-length-2 : tie.Need-same-length-2
+same-length-2 c = search needs
+
+returns-2 : tie.Need-returns-2
+returns-2 c =
+    let cleared = c .before .before in
+    let kept = cleared .before .before in
+    let gave = kept .before in
+    let read = gave .before .before .before .before in
+    let start = read .before .before .before .before in
+    let args = start .args in
+    answer-none (args .before) (args .hash) (start .pre) (read .read-words .ensures)
+    (gave .gives .ensures) (kept .if1 .left) (cleared .clear .ensures)
+
+pub demodulate-spec : {M : Type 1} → statement M
+demodulate-spec =
+    tie.close
+    (tie.spec
+    read-words-requires
+    gives-requires
+    same-length
+    returns
+    clear-requires
+    same-length-2
+    returns-2)

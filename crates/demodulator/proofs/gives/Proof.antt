@@ -1,0 +1,102 @@
+use mathlib.Core.Bool.{Bool, _||_}
+use mathlib.Core.Path.{ap}
+use Prim.Native.Nat.{_+_, _*_, _-_}
+use borrow.Author.Tests.{not-true, not-false}
+use Rattle.demodulator.proofs.Groups.{length-groupsAt}
+use borrow.Author.Needs.{needs}
+use lib.ListN.{length}
+use Rattle.bits.specs.Bits.{bitsOf}
+use Rattle.demodulator.proofs.Comparing.{Comparing, comparing-none, comparing-not, comparing-more, comparing-all}
+use Rattle.demodulator.proofs.gives.Statement.{statement}
+use Rattle.demodulator.proofs.gives.Tie as tie
+
+abbrev Inv-loop : tie.InvT-loop
+Inv-loop bytes at before hash pairs b₀ terminated₀ i₀ b terminated i = Comparing (bitsOf bytes) at pairs before b terminated i
+
+abbrev μ-loop : tie.MeasureT-loop
+μ-loop bytes at before hash pairs b₀ terminated₀ i₀ b terminated i = length pairs - i
+
+loop-holds : tie.Need-loop-holds Inv-loop μ-loop
+loop-holds c = comparing-none
+
+fitting-row-requires : tie.Need-fitting-row-requires Inv-loop μ-loop
+fitting-row-requires c κs = search needs
+
+sub-left : tie.Need-sub-left Inv-loop μ-loop
+sub-left c = search needs
+
+mul-groups-ahead : tie.Need-mul-groups-ahead Inv-loop μ-loop
+mul-groups-ahead c = search needs
+
+add-groups-ahead : tie.Need-add-groups-ahead Inv-loop μ-loop
+add-groups-ahead c = search needs
+
+groups-ahead-requires : tie.Need-groups-ahead-requires Inv-loop μ-loop
+groups-ahead-requires c κs = search needs
+
+groups-stand-requires : tie.Need-groups-stand-requires Inv-loop μ-loop
+groups-stand-requires c κs = search needs
+
+returns : tie.Need-returns Inv-loop μ-loop
+returns c =
+    let stood = c .before in
+    let made = stood .before in
+    let found = made .before in
+    let turn = found .before .before in
+    let args = turn .before .before .before .args in
+    let size = length-groupsAt (bitsOf (args .bytes .now)) (args .at + 3 * turn .loop .i) (length (args .pairs .now) - turn .loop .i) in
+    comparing-not (turn .loop .inv) (search needs) (found .fitting-row .ensures)
+    (stood .groups-stand .ensures _ (made .groups-ahead .ensures) size) (not-true (stood .groups-stand .result) (c .if1 .taken))
+
+is-terminating-requires : tie.Need-is-terminating-requires Inv-loop μ-loop
+is-terminating-requires c κs = search needs
+
+ends-in-one-requires : tie.Need-ends-in-one-requires Inv-loop μ-loop
+ends-in-one-requires c κs = search needs
+
+row-len-requires : tie.Need-row-len-requires Inv-loop μ-loop
+row-len-requires c κs = search needs
+
+add-i : tie.Need-add-i Inv-loop μ-loop
+add-i c = search needs
+
+loop-less : tie.Need-loop-less Inv-loop μ-loop
+loop-less c = search needs
+
+loop-again : tie.Need-loop-again Inv-loop μ-loop
+loop-again c =
+    let ended = c .before .before in
+    let stood = ended .before .before in
+    let made = stood .before in
+    let found = made .before in
+    let turn = found .before .before in
+    let args = turn .before .before .before .args in
+    let size = length-groupsAt (bitsOf (args .bytes .now)) (args .at + 3 * turn .loop .i) (length (args .pairs .now) - turn .loop .i) in
+    comparing-more (turn .loop .inv) (search needs) (found .fitting-row .ensures)
+    (stood .groups-stand .ensures _ (made .groups-ahead .ensures) size) (not-false (stood .groups-stand .result) (ended .before .if1 .left))
+    (c .row-len .ensures) (c .before .ends-in-one .ensures) (ap (λ (x : Bool). turn .loop .terminated || x) (ended .is-terminating .ensures))
+
+returns-2 : tie.Need-returns-2 Inv-loop μ-loop
+returns-2 c = comparing-all (c .before .loop .inv) (c .loop-test .left)
+
+pub gives-spec : {M : Type 1} → statement M
+gives-spec =
+    tie.close
+    (tie.spec
+    Inv-loop
+    μ-loop
+    loop-holds
+    fitting-row-requires
+    sub-left
+    mul-groups-ahead
+    add-groups-ahead
+    groups-ahead-requires
+    groups-stand-requires
+    returns
+    is-terminating-requires
+    ends-in-one-requires
+    row-len-requires
+    add-i
+    loop-less
+    loop-again
+    returns-2)

@@ -1,0 +1,67 @@
+use Prim.Native.Nat.{_-_}
+use borrow.Author.Needs.{needs}
+use Rattle.bits.specs.Bits.{bitsOf}
+use Rattle.modulation.specs.Modulation.{rowAt}
+use Rattle.modulation.specs.Demodulator.{reads}
+use Rattle.demodulator.specs.Ahead.{groupsAt}
+use Rattle.demodulator.proofs.Groups.{length-groupsAt}
+use Rattle.modulator.proofs.Search.{Searched, searched-none, searched-more, searched-found, searched-all}
+use Rattle.demodulator.proofs.Follow.{reading-found, reading-last}
+use Rattle.demodulator.proofs.read_row.Statement.{statement}
+use Rattle.demodulator.proofs.read_row.Tie as tie
+use Rattle.demodulator.proofs.read_row.Reads as reads
+
+abbrev Inv-loop : tie.InvT-loop
+Inv-loop bytes at left before hash ahead k₀ k = Searched (λ k. reads before hash (groupsAt (bitsOf bytes) at left) (rowAt k)) 15 k
+
+abbrev μ-loop : tie.MeasureT-loop
+μ-loop bytes at left before hash ahead k₀ k = 15 - k
+
+groups-ahead-requires : tie.Need-groups-ahead-requires Inv-loop μ-loop
+groups-ahead-requires c κs = search needs
+
+loop-holds : tie.Need-loop-holds Inv-loop μ-loop
+loop-holds c = searched-none
+
+reads-at-requires : tie.Need-reads-at-requires Inv-loop μ-loop
+reads-at-requires c κs = search needs
+
+returns : tie.Need-returns Inv-loop μ-loop
+returns c = let turn = c .before .before .before in
+    let made = turn .before in
+    let args = made .before .before .args in
+    let size = length-groupsAt (bitsOf (args .bytes .now)) (args .at) (args .left) in
+    let reads-it = c .before .reads-at .ensures _ (made .groups-ahead .ensures) size in
+    reading-found size (search needs) reads-it (c .if1 .taken) (searched-found (turn .loop .inv) (search needs) reads-it (c .if1 .taken))
+
+add-k : tie.Need-add-k Inv-loop μ-loop
+add-k c = search needs
+
+loop-less : tie.Need-loop-less Inv-loop μ-loop
+loop-less c = search needs
+
+loop-again : tie.Need-loop-again Inv-loop μ-loop
+loop-again c = let turn = c .before .before .before in
+    let made = turn .before in
+    let args = made .before .before .args in
+    searched-more (turn .loop .inv) (search needs) (c .before .reads-at .ensures _ (made .groups-ahead .ensures) (length-groupsAt (bitsOf (args .bytes .now)) (args .at) (args .left))) (c .if1 .left)
+
+returns-2 : tie.Need-returns-2 Inv-loop μ-loop
+returns-2 c = let turn = c .before in
+    let args = turn .before .before .before .args in
+    reading-last (length-groupsAt (bitsOf (args .bytes .now)) (args .at) (args .left)) (search needs) (c .loop-test .left) (turn .loop .inv .within) (searched-all (turn .loop .inv) (c .loop-test .left))
+
+pub read-row-spec : {M : Type 1} → statement M
+read-row-spec =
+    tie.close
+    (tie.spec
+    Inv-loop
+    μ-loop
+    groups-ahead-requires
+    loop-holds
+    reads-at-requires
+    returns
+    add-k
+    loop-less
+    loop-again
+    returns-2)

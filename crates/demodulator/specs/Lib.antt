@@ -1,0 +1,3 @@
+-- What the demodulator promises, and what its functions answer.
+pub mod Demodulated
+pub mod Ahead

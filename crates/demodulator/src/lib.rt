@@ -1,0 +1,197 @@
+// The 17PP demodulator: strict, by modulating again what was read.
+// Functions with a `requires` are called by the crates of this repository only.
+use modulator::When;
+ghost use mathlib.Core.List.{List};
+ghost use mathlib.Core.Path.{_≡_};
+ghost use Prim.Native.Nat.{_+_, _*_, _<_, _≤_};
+ghost use lib.ListN.{length, getD, take, drop};
+ghost use lib.Seq.{sets};
+ghost use Rattle.laws.specs.Tabulate.{tabulate};
+ghost use Rattle.bits.specs.Bits.{bitsOf};
+ghost use Rattle.modulation.specs.Modulation.{Three, m000, threeNumber, rowAt, starts, modulate};
+ghost use Rattle.modulation.specs.Demodulator.{follows, agrees, reads, demodulate};
+ghost use Rattle.modulation.specs.Pairs.{Pairs, twos, numbers};
+ghost use Rattle.demodulator.specs.Demodulated.{Demodulated};
+ghost use Rattle.demodulator.specs.Ahead.{Inside, groupsAt, frameAt, GroupsAhead, nextNumber, Reading, Compared};
+
+// Group j behind bit `at`, of which `left` are left; 0 past those.
+fn group_ahead(bytes: &[u8], at: usize, left: usize, j: usize) -> u16
+    requires { ⌜ Inside (now bytes) at left ⌝ }
+    ensures { λ r. ⌜ (j < left → r ≡ threeNumber (getD (groupsAt (bitsOf (now (bytes .entry))) at left) j m000)) × (r < 8) ⌝ }
+{
+    if j < left {
+        let step = bits::read_three(bytes, at + 3 * j);
+        step.value as u16
+    } else {
+        0
+    }
+}
+
+// The modulation bits of the next 0 to 5 groups; past the end a group counts as 000.
+fn groups_ahead(bytes: &[u8], at: usize, left: usize) -> [u16; 6]
+    requires { ⌜ Inside (now bytes) at left ⌝ }
+    ensures { λ r. ⌜ GroupsAhead (groupsAt (bitsOf (now (bytes .entry))) at left) r ⌝ }
+{
+    let one = group_ahead(bytes, at, left, 0);
+    let two = 8 * one + group_ahead(bytes, at, left, 1);
+    let three = 8 * two + group_ahead(bytes, at, left, 2);
+    let four = 8 * three + group_ahead(bytes, at, left, 3);
+    let five = 8 * four + group_ahead(bytes, at, left, 4);
+    [0, one, two, three, four, five]
+}
+
+// Whether the groups of row k stand first among those ahead, of which `left` are left.
+fn groups_stand(k: usize, ahead: [u16; 6], left: usize) -> bool
+    requires { ⌜ k < 16 ⌝ }
+    ensures { λ r. ⌜ ((gs : List Three) → GroupsAhead gs ahead → length gs ≡ left → r ≡ starts threeNumber (rowAt k .groups) gs) ⌝ }
+{
+    let r = modulator::row_at(k);
+    let len = r.0;
+    if left < len {
+        return false;
+    }
+    ahead[len] == r.2
+}
+
+// The group behind the first `len` of those ahead, or 8 where the frame ends.
+fn group_behind(ahead: [u16; 6], len: usize, left: usize) -> u8
+    requires { ⌜ len < 5 ⌝ }
+    ensures { λ r. ⌜ ((gs : List Three) → GroupsAhead gs ahead → length gs ≡ left → r ≡ nextNumber (drop len gs)) ⌝ }
+{
+    if len < left {
+        (ahead[len + 1] % 8) as u8
+    } else {
+        8
+    }
+}
+
+// Whether the word of row k can be followed by the group `next`, or end a frame whose next sync has # `hash`.
+fn may_follow(k: usize, next: u8, hash: bool) -> bool
+    requires { ⌜ k < 16 ⌝ }
+    ensures { λ r. ⌜ ((gs : List Three) → next ≡ nextNumber gs → r ≡ follows (rowAt k .when) hash gs) ⌝ }
+{
+    if next == 8 {
+        return modulator::is_terminating(k) == hash;
+    }
+    next != 0b100
+}
+
+// Whether the condition of row k holds after the bit before and in front of the group `next`.
+fn agrees_at(k: usize, next: u8, before: bool) -> bool
+    requires { ⌜ k < 16 ⌝ }
+    ensures { λ r. ⌜ ((gs : List Three) → next ≡ nextNumber gs → r ≡ agrees (rowAt k .when) before gs) ⌝ }
+{
+    let r = modulator::row_at(k);
+    let when = r.3;
+    match when {
+        When::Always => true,
+        When::AfterOne => before,
+        When::AfterZero => !before,
+        When::Before010 => next == 0b010,
+        When::AtEnd => next == 8,
+    }
+}
+
+// Whether the word of row k stands first among the groups ahead.
+fn reads_at(k: usize, ahead: [u16; 6], left: usize, before: bool, hash: bool) -> bool
+    requires { ⌜ k < 16 ⌝ }
+    ensures { λ r. ⌜ ((gs : List Three) → GroupsAhead gs ahead → length gs ≡ left → r ≡ reads before hash gs (rowAt k)) ⌝ }
+{
+    if !groups_stand(k, ahead, left) {
+        return false;
+    }
+    let next = group_behind(ahead, modulator::row_len(k), left);
+    if !may_follow(k, next, hash) {
+        return false;
+    }
+    agrees_at(k, next, before)
+}
+
+// The row of the word at bit `at`; where none of the others is read, the last.
+fn read_row(bytes: &[u8], at: usize, left: usize, before: bool, hash: bool) -> usize
+    requires { ⌜ Inside (now bytes) at left × (0 < left) ⌝ }
+    ensures { λ r. ⌜ Reading before hash (groupsAt (bitsOf (now (bytes .entry))) at left) left r ⌝ }
+{
+    let ahead = groups_ahead(bytes, at, left);
+    let mut k = 0;
+    while k < 15 {
+        if reads_at(k, ahead, left, before, hash) {
+            return k;
+        }
+        k += 1;
+    }
+    k
+}
+
+// The pairs of row k, from place i on.
+fn put_pairs(k: usize, pairs: &mut [u8], i: usize)
+    requires { ⌜ (k < 16) × (i + length (rowAt k .pairs) ≤ length (now pairs)) ⌝ }
+    ensures { λ _. ⌜ now (pairs .exit) ≡ sets (now (pairs .entry)) i (numbers (rowAt k .pairs)) ⌝ }
+{
+    let len = modulator::row_len(k);
+    let mut j = 0;
+    while j < len {
+        pairs[i + j] = modulator::pair_of(k, j);
+        j += 1;
+    }
+}
+
+// The pairs of the words read from bit `at` on, as many as `pairs` has places.
+fn read_words(bytes: &[u8], at: usize, before: bool, hash: bool, pairs: &mut [u8])
+    requires { ⌜ Inside (now bytes) at (length (now pairs)) ⌝ }
+    ensures { λ _. ⌜ now (pairs .exit) ≡ numbers (demodulate before (frameAt (bitsOf (now (bytes .entry))) at (length (now (pairs .entry))) hash)) ⌝ }
+{
+    let mut b = before;
+    let mut i = 0;
+    while i < pairs.len() {
+        let k = read_row(bytes, at + 3 * i, pairs.len() - i, b, hash);
+        put_pairs(k, pairs, i);
+        b = modulator::ends_in_one(k);
+        i += modulator::row_len(k);
+    }
+}
+
+// Whether the pairs give the groups from bit `at` on, and a next sync with # `hash`.
+fn gives(bytes: &[u8], at: usize, before: bool, hash: bool, pairs: &[u8]) -> bool
+    requires { ⌜ Pairs (now pairs) × Inside (now bytes) at (length (now pairs)) ⌝ }
+    ensures { λ r. ⌜ Compared (modulate before (twos (now (pairs .entry)))) (frameAt (bitsOf (now (bytes .entry))) at (length (now (pairs .entry))) hash) r ⌝ }
+{
+    let mut b = before;
+    let mut terminated = false;
+    let mut i = 0;
+    while i < pairs.len() {
+        let k = modulator::fitting_row(pairs, i, b);
+        let left = pairs.len() - i;
+        if !groups_stand(k, groups_ahead(bytes, at + 3 * i, left), left) {
+            return false;
+        }
+        terminated |= modulator::is_terminating(k);
+        b = modulator::ends_in_one(k);
+        i += modulator::row_len(k);
+    }
+    terminated == hash
+}
+
+fn clear(pairs: &mut [u8])
+    ensures { λ _. ⌜ now (pairs .exit) ≡ tabulate (length (now (pairs .entry))) (λ _. 0) ⌝ }
+{
+    let mut i = 0;
+    while i < pairs.len() {
+        pairs[i] = 0;
+        i += 1;
+    }
+}
+
+// The groups of a frame from bit `at` on, demodulated, as many as `pairs` has places: `before` is the bit in front of them and `hash` # of
+// the next sync. Answers whether there are data bits that give them; where there are none, `pairs` is cleared.
+pub fn demodulate(bytes: &[u8], at: usize, before: bool, hash: bool, pairs: &mut [u8]) -> bool
+    requires { ⌜ Inside (now bytes) at (length (now pairs)) ⌝ }
+    ensures { λ r. ⌜ Demodulated before (take (3 * length (now (pairs .entry))) (drop at (bitsOf (now (bytes .entry))))) hash (length (now (pairs .entry))) r (now (pairs .exit)) ⌝ }
+{
+    read_words(bytes, at, before, hash, pairs);
+    if gives(bytes, at, before, hash, pairs) {
+        return true;
+    }
+    clear(pairs);
+    false
+}

@@ -1,0 +1,72 @@
+-- Values written one after the other: those still to be written, over what stands there, give the whole. Assumes nothing.
+use mathlib.Core.List.{List, [], _∷_, _++_}
+use mathlib.Core.Path.{_≡_, sym, ap, ap₂, subst, _∙_}
+use Prim.Native.Nat.{ℕ, suc, _+_, _*_, _<_, _≤_}
+use native.Mathlib.Omega.{arith}
+use native.Mathlib.Numerals.{add-one}
+use lib.ListN.{length, getD, set, drop, drop-of-length-le}
+use lib.Seq.{sets, length-sets, drop-cons}
+use Rattle.bits.specs.Bits.{bitsOf, threeOf}
+use Rattle.bits.proofs.Bits.{length-bits as length-bitsOf}
+use Rattle.modulation.specs.Modulation.{Three, m000, threeNumber}
+use Rattle.modulation.specs.Bits.{bits}
+
+sets-append : (vs ws l : List ℕ) (i : ℕ) → sets l i (vs ++ ws) ≡ sets (sets l i vs) (i + length vs) ws
+sets-append [] ws l i = ap (λ (k : ℕ). sets l k ws) (none i)
+  where
+    none : (i : ℕ) → i ≡ i + 0
+    none i = omega arith
+sets-append (v ∷ vs) ws l i = sets-append vs ws (set l i v) (suc i) ∙ ap (λ (k : ℕ). sets (sets (set l i v) (suc i) vs) k ws) (one-on i (length vs))
+  where
+    one-on : (i n : ℕ) → suc i + n ≡ i + suc n
+    one-on i n = omega arith
+
+-- of `all`, to be written over `first` from `at` on, vs are still to be written over l, from p on
+pub record Left (first : List ℕ) (at : ℕ) (all l : List ℕ) (p : ℕ) (vs : List ℕ) : Type 0 where
+  pub written : sets l p vs ≡ sets first at all
+
+module _ {first : List ℕ} {at : ℕ} {all : List ℕ} where
+  pub left-none : {p : ℕ} → p ≡ at → Left first at all first p all
+  left-none e = record { written = ap (λ (k : ℕ). sets first k all) e }
+
+  pub left-more : {l after : List ℕ} {p q : ℕ} (a : List ℕ) {vs : List ℕ} → after ≡ sets l p a → q ≡ p + length a → Left first at all l p (a ++ vs)
+      → Left first at all after q vs
+  left-more {l} {after} {p} {q} a {vs} e eq r =
+      record { written = ap₂ (λ (k : List ℕ) (j : ℕ). sets k j vs) e eq ∙ sym (sets-append a vs l p) ∙ r .written }
+
+  pub left-all : {l : List ℕ} {p : ℕ} → Left first at all l p [] → l ≡ sets first at all
+  left-all r = r .written
+
+  pub left-length : {l : List ℕ} {p : ℕ} {vs : List ℕ} → Left first at all l p vs → length l ≡ length first
+  left-length {l} {p} {vs} r = sym (length-sets l p vs) ∙ ap length (r .written) ∙ length-sets first at all
+
+-- a slice whose bits keep their number keeps its length
+pub same-slice : (out first : List ℕ) → length (bitsOf out) ≡ length (bitsOf first) → length out ≡ length first
+same-slice out first e = omega (arith, length-bitsOf out, length-bitsOf first)
+
+-- ---- a row, element by element: its groups as bits, its pairs as numbers
+
+-- j of the groups ms are written
+pub record GroupsWritten (first : List ℕ) (at : ℕ) (ms : List Three) (out : List ℕ) (j : ℕ) : Type 0 where
+  pub within : j ≤ length ms
+  pub left : Left (bitsOf first) at (bits ms) (bitsOf out) (at + 3 * j) (bits (drop j ms))
+
+module _ {first : List ℕ} {at : ℕ} {ms : List Three} where
+  pub groups-none : GroupsWritten first at ms first 0
+  groups-none = record { within = omega arith; left = left-none (omega arith) }
+
+  module _ {j : ℕ} {out : List ℕ} (r : GroupsWritten first at ms out j) where
+    pub groups-more : {after : List ℕ} {v : ℕ} → j < length ms → v ≡ threeNumber (getD ms j m000) → bitsOf after ≡ sets (bitsOf out) (at + 3 * j) (threeOf v)
+        → GroupsWritten first at ms after (j + 1)
+    groups-more {after} {v} h e w =
+        record {
+          within = omega arith;
+          left = left-more (threeOf v) w (omega arith) (subst (Left (bitsOf first) at (bits ms) (bitsOf out) (at + 3 * j)) front (r .left));
+        }
+      where
+        front : bits (drop j ms) ≡ threeOf v ++ bits (drop (j + 1) ms)
+        front = rw (add-one, drop-cons ms j m000) (ap (λ (x : ℕ). threeOf x ++ bits (drop (suc j) ms)) (sym e))
+
+    pub groups-all : length ms ≤ j → bitsOf out ≡ sets (bitsOf first) at (bits ms)
+    groups-all h =
+        left-all (subst (λ (l : List Three). Left (bitsOf first) at (bits ms) (bitsOf out) (at + 3 * j) (bits l)) (drop-of-length-le ms h) (r .left))

@@ -1,0 +1,3 @@
+-- The rows in the code's table, and what the modulator's functions answer.
+pub mod Rows
+pub mod Ahead

@@ -1,0 +1,28 @@
+-- A row of Figure 38 as the code's table has it.
+use Prim.Native.Nat.{ℕ, _<_, _≤_}
+use mathlib.Core.Path.{_≡_}
+use lib.ListN.{length}
+use Rattle.bits.specs.Bits.{number}
+use Rattle.modulator.specs.declared.Row.{Row as CodeRow}
+use Rattle.modulator.specs.declared.When.{When as CodeWhen}
+use Rattle.modulator.specs.declared.When.the-variants.{Always, AfterOne, AfterZero, Before010, AtEnd}
+use Rattle.modulation.specs.Modulation.{Row, When, always, after-one, after-zero, before-010, at-end, rowAt}
+use Rattle.modulation.specs.Bits.{dataBits, bits}
+
+abbrev pub codedWhen : When → CodeWhen
+codedWhen always = Always
+codedWhen after-one = AfterOne
+codedWhen after-zero = AfterZero
+codedWhen before-010 = Before010
+codedWhen at-end = AtEnd
+
+-- how many pairs, the data bits and the modulation bits as numbers, and the condition
+abbrev pub coded : Row → CodeRow
+coded r = record { 0 = length (r .pairs); 1 = number (dataBits (r .pairs)); 2 = number (bits (r .groups)); 3 = codedWhen (r .when) }
+
+-- row k has n pairs and as many groups, 1 to 4
+pub record Sized (k n : ℕ) : Type 0 where
+  pub pairs-are : n ≡ length (rowAt k .pairs)
+  pub groups-are : n ≡ length (rowAt k .groups)
+  pub some : 1 ≤ n
+  pub most : n < 5
