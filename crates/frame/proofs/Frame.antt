@@ -13,8 +13,9 @@ use Rattle.modulation.specs.Modulation.{Three, threeNumber, lastBit}
 use Rattle.modulation.specs.Bits.{bits}
 use Rattle.modulation.specs.Sync.{FS, sync, syncId}
 use Rattle.modulation.specs.Stream.{modulated}
-use Rattle.modulation.proofs.Bits.{length-bits as length-groups, length-pairs}
-use Rattle.modulation.proofs.Size.{size}
+use Rattle.modulation.proofs.Bits.{bits-append, length-bits as length-groups}
+use Rattle.modulation.proofs.Fronts.{bits-groups}
+use Rattle.modulation.proofs.Theorems.{size-of-a-frame}
 use Rattle.modulation.proofs.Streams.{length-sync}
 use Rattle.frame.specs.FrameBits.{frameBits}
 use Rattle.frame.specs.Frame.{framePairs, frameGroups, frame}
@@ -22,41 +23,24 @@ use Rattle.frame.specs.Written.{FrameWritten}
 use Rattle.frame.specs.Tally.{gapCounts}
 use Rattle.frame.proofs.FrameBits.{length-frame-bits}
 
-pub length-frame-pairs : (row : List ℕ) (dc : ℕ) → length (framePairs row dc) ≡ 634
-length-frame-pairs row dc = omega (arith, length-pairs (frameBits row dc), length-frame-bits row dc)
-
 pub length-modulated : (n : FS) (row : List ℕ) (dc : ℕ) → length (bits (modulated n (framePairs row dc) .groups)) ≡ 1902
-length-modulated n row dc =
-    omega (
-      arith,
-      length-groups (modulated n (framePairs row dc) .groups),
-      size (lastBit false (syncId n)) (framePairs row dc),
-      length-frame-pairs row dc,
-    )
+length-modulated n row dc = size-of-a-frame (lastBit false (syncId n)) (frameBits row dc) (length-frame-bits row dc)
 
 pub length-frame : (hash : Bool) (n : FS) (row : List ℕ) (dc : ℕ) → length (frame hash n row dc) ≡ 1932
 unfolding frame
 length-frame hash n row dc =
     omega (
       arith,
-      length-groups (frameGroups hash n row dc),
-      length-append (sync hash n) (modulated n (framePairs row dc) .groups),
+      ap length (bits-append (sync hash n) (modulated n (framePairs row dc) .groups)),
+      length-append (bits (sync hash n)) (bits (modulated n (framePairs row dc) .groups)),
+      length-groups (sync hash n),
       length-sync hash n,
-      size (lastBit false (syncId n)) (framePairs row dc),
-      length-frame-pairs row dc,
+      length-modulated n row dc,
     )
-
--- the bits of groups are bits
-pub groups-bits : (ms : List Three) → Bits (bits ms)
-groups-bits [] i = omega arith
-groups-bits (m ∷ ms) zero = mod-lt (threeNumber m / 4) (zero-lt-suc 1)
-groups-bits (m ∷ ms) (suc zero) = mod-lt (threeNumber m / 2) (zero-lt-suc 1)
-groups-bits (m ∷ ms) (suc (suc zero)) = mod-lt (threeNumber m) (zero-lt-suc 1)
-groups-bits (m ∷ ms) (suc (suc (suc i))) = groups-bits ms i
 
 pub frame-bits : (hash : Bool) (n : FS) (row : List ℕ) (dc : ℕ) → Bits (frame hash n row dc)
 unfolding frame
-frame-bits hash n row dc = groups-bits (frameGroups hash n row dc)
+frame-bits hash n row dc = bits-groups (frameGroups hash n row dc)
 
 -- ---- counts
 

@@ -1,5 +1,5 @@
 -- The row and the dc word, bit by bit out of a frame's pairs. Assumes nothing.
-use mathlib.Core.Path.{_≡_, refl, sym, ap, ap₂, _∙_}
+use mathlib.Core.Path.{_≡_, refl, sym, ap, ap₂, subst, _∙_}
 use mathlib.Core.List.{List, [], _∷_, _++_}
 use Prim.Native.Nat.{ℕ, zero, suc, _+_, _*_, _-_, _/_, _%_, _^_, _<_, _≤_}
 use native.Mathlib.Nat.{mod-lt, zero-lt-suc, mul-assoc, pow-suc}
@@ -14,62 +14,43 @@ use Rattle.laws.proofs.Tabulate.{length-tabulate, getD-tabulate, is-tabulate, t
 use Rattle.laws.proofs.Fill.{Upto, upto-none, upto-more, upto-all}
 use Rattle.bits.specs.Bits.{Bits, number}
 use Rattle.bits.proofs.Pack.{length-packed, getD-packed}
-use Rattle.modulation.specs.Modulation.{Two, d00, d01, d10, d11, twoNumber}
 use Rattle.modulation.specs.Bits.{dataBits}
-use Rattle.modulation.specs.Code.{Pairs, twoOf, twos}
+use Rattle.modulation.specs.Modulation.{Two}
+use Rattle.modulation.specs.Pairs.{Pairs, twos, numbers}
 use Rattle.modulation.proofs.Bits.{length-dataBits}
-use Rattle.modulation.proofs.Ahead.{two-of-number, length-twos}
+use Rattle.modulation.proofs.Pairs.{length-twos, pairs-numbers, twos-numbers, slice-bits}
 use Rattle.frame.specs.FrameBits.{dataPlace, dcPlace, rowOf, dcOf}
 use Rattle.frame.specs.Reading.{Whole, bitsIn}
 use Rattle.frame.proofs.FrameBits.{length-row}
 
 -- ---- a bit of the pairs
 
-even-bit : (ds : List Two) (k : ℕ) → getD (dataBits ds) (2 * k) 0 ≡ twoNumber (getD ds k d00) / 2
-even-bit [] k = refl
-even-bit (d ∷ ds) zero = refl
-even-bit (d ∷ ds) (suc k) = let on : 2 * suc k ≡ suc (suc (2 * k)) = omega arith in ap (λ (j : ℕ). getD (dataBits (d ∷ ds)) j 0) on ∙ even-bit ds k
-
-odd-bit : (ds : List Two) (k : ℕ) → getD (dataBits ds) (2 * k + 1) 0 ≡ twoNumber (getD ds k d00) % 2
-odd-bit [] k = refl
-odd-bit (d ∷ ds) zero = refl
-odd-bit (d ∷ ds) (suc k) = let on : 2 * suc k + 1 ≡ suc (suc (2 * k + 1)) = omega arith in ap (λ (j : ℕ). getD (dataBits (d ∷ ds)) j 0) on ∙ odd-bit ds k
-
-two-high : (d : Two) → twoNumber d / 2 < 2
-two-high d00 = omega arith
-two-high d01 = omega arith
-two-high d10 = omega arith
-two-high d11 = omega arith
-
-pub data-bits : (ds : List Two) → Bits (dataBits ds)
-data-bits [] j = omega arith
-data-bits (d ∷ ds) zero = two-high d
-data-bits (d ∷ ds) (suc zero) = mod-lt (twoNumber d) (zero-lt-suc 1)
-data-bits (d ∷ ds) (suc (suc j)) = data-bits ds j
-
-pub bits-in : (l : List ℕ) → Bits (bitsIn l)
-unfolding bitsIn
-bits-in l = data-bits (twos l)
-
-module _ {l : List ℕ} (w : Whole l) where
-  pair-in : (k : ℕ) → twoNumber (getD (twos l) k d00) ≡ getD l k 0
-  pair-in k = ap twoNumber (List·getD-map twoOf l k 0) ∙ two-of-number (getD l k 0) (w .are-pairs k)
-
+module _ (l : List ℕ) (h : Pairs l) where
   pub even-in : (j : ℕ) → j % 2 ≡ 0 → (getD l (j / 2) 0 / 2 ≡ getD (bitsIn l) j 0) × (getD l (j / 2) 0 / 2 < 2)
   unfolding bitsIn
   even-in j e =
       let whole : 2 * (j / 2) ≡ j = omega arith in
-      (ap (λ (x : ℕ). x / 2) (sym (pair-in (j / 2))) ∙ sym (even-bit (twos l) (j / 2)) ∙ ap (λ (i : ℕ). getD (dataBits (twos l)) i 0) whole, omega (arith, w .are-pairs (j / 2)))
+      (sym (slice-bits l (j / 2) h .0) ∙ ap (λ (i : ℕ). getD (dataBits (twos l)) i 0) whole, omega (arith, h (j / 2)))
 
   pub odd-in : (j : ℕ) → (j % 2 ≡ 0 → ⊥) → (getD l (j / 2) 0 % 2 ≡ getD (bitsIn l) j 0) × (getD l (j / 2) 0 % 2 < 2)
   unfolding bitsIn
   odd-in j e =
       let whole : 2 * (j / 2) + 1 ≡ j = omega arith in
-      (ap (λ (x : ℕ). x % 2) (sym (pair-in (j / 2))) ∙ sym (odd-bit (twos l) (j / 2)) ∙ ap (λ (i : ℕ). getD (dataBits (twos l)) i 0) whole, omega arith)
+      (sym (slice-bits l (j / 2) h .1) ∙ ap (λ (i : ℕ). getD (dataBits (twos l)) i 0) whole, omega arith)
 
-  pub length-bits-in : length (bitsIn l) ≡ 1268
-  unfolding bitsIn
-  length-bits-in = omega (arith, length-dataBits (twos l), length-twos l, w .size)
+  pub bits-in : Bits (bitsIn l)
+  bits-in j =
+      elim (ℕ-discrete (j % 2) 0) [
+        | yes e ↦ omega (arith, even-in j e .0, even-in j e .1)
+        | no e ↦ omega (arith, odd-in j e .0, odd-in j e .1)
+      ]
+
+pub data-bits : (ds : List Two) → Bits (dataBits ds)
+data-bits ds = subst (λ (l : List Two). Bits (dataBits l)) (twos-numbers ds) (unfold bitsIn in bits-in (numbers ds) (pairs-numbers ds))
+
+pub length-bits-in : {l : List ℕ} → Whole l → length (bitsIn l) ≡ 1268
+unfolding bitsIn
+length-bits-in {l} w = omega (arith, length-dataBits (twos l), length-twos l, w .size)
 
 -- ---- numbers made of bits, one by one
 
@@ -155,4 +136,4 @@ module _ {b : List ℕ} where
 pub row-all : {l : List ℕ} {k : ℕ} {row : List ℕ} → Whole l → 155 ≤ k → RowUpto (bitsIn l) k row → row ≡ rowOf (bitsIn l)
 row-all {l} w h u =
     upto-all h (u .upto)
-    ∙ sym (is-tabulate 0 155 (λ k. getD (rowOf (bitsIn l)) k 0) (rowOf (bitsIn l)) (length-row (bitsIn l) (bits-in l)) (λ k _. refl))
+    ∙ sym (is-tabulate 0 155 (λ k. getD (rowOf (bitsIn l)) k 0) (rowOf (bitsIn l)) (length-row (bitsIn l) (bits-in l (w .are-pairs))) (λ k _. refl))

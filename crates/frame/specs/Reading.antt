@@ -8,11 +8,11 @@ use lib.ListN.{length}
 use Rattle.laws.specs.Bytes.{Bytes}
 use Rattle.bits.specs.Bits.{Bits}
 use Rattle.modulation.specs.Modulation.{lastBit}
-use Rattle.modulation.specs.Bits.{pairs, dataBits, groups, bits}
+use Rattle.modulation.specs.Bits.{pairs, dataBits, groups, bits, Gives}
 use Rattle.modulation.specs.Sync.{FS, syncId}
 use Rattle.modulation.specs.Stream.{modulated}
 use Rattle.modulation.specs.Demodulator.{demodulate}
-use Rattle.modulation.specs.Code.{Pairs, twos, Gives}
+use Rattle.modulation.specs.Pairs.{Pairs, twos}
 use Rattle.frame.specs.Same.{same}
 use Rattle.frame.specs.FrameBits.{rowOf, dcOf}
 use Rattle.frame.specs.Frame.{framePairs, nextHash}

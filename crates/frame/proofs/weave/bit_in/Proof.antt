@@ -11,11 +11,11 @@ shared-slice-read-pair c = search needs
 
 -- src/weave.rt:42:1
 returns : tie.Need-returns
-returns c = even-in (c .before .before .pre .0) (c .before .before .args .j) (c .if1 .taken)
+returns c = let start = c .before .before in even-in (start .args .pairs .now) (start .pre .0 .are-pairs) (start .args .j) (c .if1 .taken)
 
 -- src/weave.rt:42:1
 returns-2 : tie.Need-returns-2
-returns-2 c = odd-in (c .before .before .pre .0) (c .before .before .args .j) (c .if1 .left)
+returns-2 c = let start = c .before .before in odd-in (start .args .pairs .now) (start .pre .0 .are-pairs) (start .args .j) (c .if1 .left)
 
 pub bit-in-spec : {M : Type 1} → statement M
 bit-in-spec = tie.close (tie.spec shared-slice-read-pair returns returns-2)
