@@ -4,6 +4,7 @@ pub mod Pairs
 pub mod Unweaving
 pub mod Same
 pub mod Reading
+pub mod SyncRight
 pub mod Frame
 pub mod Counting
 pub mod TallyCases

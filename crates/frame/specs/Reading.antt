@@ -1,15 +1,15 @@
--- A frame read back: the row and the dc word, if any, that give 1,902 modulation bits behind a frame sync and # of the next one.
+-- A frame read back: its sync, and the row and the dc word, if any, that give the 1,902 modulation bits behind it and # of the next sync.
 use mathlib.Core.Bool.{Bool, false, _&&_, Bool·beq, cond}
 use mathlib.Core.List.{List}
 use mathlib.Core.Path.{_≡_}
 use Prim.Native.Nat.{ℕ, _^_, _<_}
 use lib.Dec.{eqb}
-use lib.ListN.{length}
+use lib.ListN.{length, getD, take, drop}
 use Rattle.laws.specs.Bytes.{Bytes}
 use Rattle.bits.specs.Bits.{Bits}
 use Rattle.modulation.specs.Modulation.{lastBit}
 use Rattle.modulation.specs.Bits.{pairs, dataBits, groups, bits, Gives}
-use Rattle.modulation.specs.Sync.{FS, syncId}
+use Rattle.modulation.specs.Sync.{FS, sync, syncId}
 use Rattle.modulation.specs.Stream.{modulated}
 use Rattle.modulation.specs.Demodulator.{demodulate}
 use Rattle.modulation.specs.Pairs.{Pairs, twos}
@@ -18,6 +18,18 @@ use Rattle.frame.specs.FrameBits.{rowOf, dcOf}
 use Rattle.frame.specs.Frame.{framePairs, nextHash}
 use Rattle.frame.specs.declared.FrameRead.{FrameRead}
 use Rattle.frame.specs.declared.FrameRead.the-variants.{Found, NoFrame}
+
+-- ---- the sync
+
+-- # of the sync from bit `at` on
+abbrev pub hashAt : List ℕ → ℕ → Bool
+hashAt b at = eqb (getD b at 0) 1
+
+-- the 30 bits from `at` on are sync n, with its # as it stands there
+unfoldable pub syncRight : FS → List ℕ → ℕ → Bool
+syncRight n b at = same (take 30 (drop at b)) (bits (sync (hashAt b at) n))
+
+-- ---- the frame
 
 -- the 1,268 bits b give the modulation bits m behind sync n, and # of the next sync
 pub record BitsGive (n : FS) (b m : List ℕ) (hash : Bool) : Type 0 where
