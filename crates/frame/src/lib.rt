@@ -10,8 +10,8 @@ ghost use Rattle.bits.specs.Bits.{bitsOf};
 ghost use Rattle.frame.specs.Sync.{fs};
 ghost use Rattle.frame.specs.Written.{FrameWritten};
 ghost use Rattle.frame.specs.Reading.{Reads};
-pub use sync::sync_end;
 pub use sync::hash_at;
+pub use sync::sync_end;
 pub use sync::sync_number;
 pub use sync::sync_right;
 pub use sync::write_sync;
@@ -54,9 +54,7 @@ pub fn write_frame(
 // The frame whose sync stands at bit `at`, read strictly; `hash` is # of the next sync. A frame found leaves its row in the slice.
 // For the crates of this repository.
 pub fn read_frame(image: &[u8], at: usize, number: usize, hash: bool, row: &mut [u8]) -> FrameRead
-    requires {
-        ⌜ ((number < 7) × (length (now row) ≡ 155)) × ((at + 1932 ≤ 8 * length (now image)) × (at + 1932 < 18446744073709551616)) ⌝
-    }
+    requires { ⌜ ((number < 7) × (length (now row) ≡ 155)) × ((at + 1932 ≤ 8 * length (now image)) × (at + 1932 < 18446744073709551616)) ⌝ }
     ensures { λ r. ⌜ Reads (fs number) (take 1902 (drop (at + 30) (bitsOf (now (image .entry))))) hash (now (row .entry)) r (now (row .exit)) ⌝ }
 {
     let mut pairs = no_pairs();

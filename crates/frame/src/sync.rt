@@ -1,10 +1,9 @@
 // Frame syncs: the constants of Figures 39 and 41.
 ghost use mathlib.Core.Path.{_≡_};
 ghost use mathlib.Core.Bool.{Bool, false};
-ghost use Prim.Native.Nat.{_+_, _%_, _<_};
+ghost use Prim.Native.Nat.{_+_, _*_, _%_, _<_, _≤_};
 ghost use lib.ListN.{length, getD};
 ghost use Rattle.bits.specs.Bits.{bitsOf};
-ghost use Rattle.demodulator.specs.Ahead.{Inside};
 ghost use Rattle.modulation.specs.Modulation.{m000, threeNumber, lastBit};
 ghost use Rattle.modulation.specs.Sync.{sync, syncId, syncNumber};
 ghost use Rattle.frame.specs.Sync.{fs, fsNumber, syncGroup};
@@ -109,7 +108,7 @@ pub fn hash_at(image: &[u8], at: usize) -> bool
 
 // Whether the 30 bits from `at` on are the frame sync of a number; its # is not judged.
 pub fn sync_right(image: &[u8], at: usize, number: usize) -> bool
-    requires { ⌜ (number < 7) × Inside (now image) at 10 ⌝ }
+    requires { ⌜ (number < 7) × ((at + 30 ≤ 8 * length (now image)) × (at + 30 < 18446744073709551616)) ⌝ }
     ensures { λ r. ⌜ r ≡ syncRight (fs number) (bitsOf (now (image .entry))) at ⌝ }
 {
     let hash = hash_at(image, at);

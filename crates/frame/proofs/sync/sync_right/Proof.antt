@@ -23,7 +23,7 @@ hash-at-requires c κs = search needs
 
 -- src/sync.rt:117:5
 loop-holds : tie.Need-loop-holds Inv-loop μ-loop
-loop-holds c = search (agrees-none)
+loop-holds c = search (agrees-none, needs)
 
 -- src/sync.rt:118:49
 mul-read-three : tie.Need-mul-read-three Inv-loop μ-loop
