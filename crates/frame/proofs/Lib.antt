@@ -6,7 +6,5 @@ pub mod Same
 pub mod Reading
 pub mod SyncRight
 pub mod Frame
-pub mod Counting
-pub mod TallyCases
 pub mod SyncTables
 pub mod Writing

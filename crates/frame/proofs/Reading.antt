@@ -2,22 +2,21 @@
 use mathlib.Core.Bool.{Bool, true, false, _&&_, Bool·beq, cond, true≢false}
 use mathlib.Core.List.{List}
 use mathlib.Core.Logic.{_↔_}
-use mathlib.Core.Path.{_≡_, refl, sym, ap, ap₂, subst, _∙_}
-use Prim.Native.Nat.{ℕ, _+_, _*_, _^_, _<_}
+use mathlib.Core.Path.{_≡_, refl, sym, ap, subst, _∙_}
+use Prim.Native.Nat.{ℕ, _*_, _^_, _<_}
 use native.Mathlib.Omega.{arith}
 use borrow.Author.Tests.{eq-eqb, eqb-true}
 use lib.Dec.{eqb}
 use lib.ListN.{length, take, drop}
 use Rattle.laws.specs.Bytes.{Bytes}
-use Rattle.bits.specs.Bits.{Bits}
-use Rattle.modulation.specs.Modulation.{Two, Three, lastBit, Modulated, modulate}
+use Rattle.modulation.specs.Modulation.{Two, lastBit, Modulated, modulate}
 use Rattle.modulation.specs.Bits.{pairs, dataBits, groups, bits, Gives}
 use Rattle.modulation.specs.Sync.{FS, syncId}
 use Rattle.modulation.specs.Stream.{modulated}
 use Rattle.modulation.specs.Demodulator.{demodulate}
 use Rattle.modulation.specs.Pairs.{twos}
 use Rattle.demodulator.specs.Demodulated.{Demodulated}
-use Rattle.modulation.proofs.Bits.{length-bits, groups-bits, bits-injective, length-pairs, length-dataBits, pairs-dataBits, dataBits-pairs, pairs-injective}
+use Rattle.modulation.proofs.Bits.{length-bits, groups-bits, length-pairs, length-dataBits, pairs-dataBits}
 use Rattle.modulation.proofs.Size.{size}
 use Rattle.modulation.proofs.Tests.{and-left, and-right, and-true, true-T, beq-same, beq-refl}
 use Rattle.modulation.proofs.Theorems.{comes-back, injective}
@@ -26,7 +25,7 @@ use Rattle.frame.specs.Frame.{framePairs, nextHash}
 use Rattle.frame.specs.Same.{same}
 use Rattle.frame.specs.declared.FrameRead.{FrameRead}
 use Rattle.frame.specs.declared.FrameRead.the-variants.{Found, NoFrame}
-use Rattle.frame.specs.Reading.{BitsGive, RowGives, Reads, bitsRead, readable, frameRead, rowRead, Whole, bitsIn}
+use Rattle.frame.specs.Reading.{BitsGive, RowGives, Reads, bitsRead, readable, frameRead, rowRead, bitsIn}
 use Rattle.frame.proofs.Same.{same-true, same-refl}
 use Rattle.frame.proofs.FrameBits.{length-frame-bits, frame-bits-bits, frame-bits-back, frame-bits-inj, length-row, bytes-row, dc-word-lt}
 use Rattle.frame.proofs.Unweaving.{data-bits, bits-in, length-bits-in}

@@ -8,7 +8,7 @@ use native.Mathlib.Nat.{not-suc-le-zero, add-zero}
 use native.Mathlib.Omega.{arith}
 use borrow.Author.Count.{below-more}
 use lib.Dec.{eqb}
-use lib.ListN.{length, getD, take, drop}
+use lib.ListN.{getD, take, drop}
 use lib.Seq.{ext-getD, getD-take, getD-drop}
 use Rattle.bits.specs.Bits.{bitsOf}
 use Rattle.bits.specs.Step.{stepAt}

@@ -1,19 +1,19 @@
 -- The row and the dc word, bit by bit out of a frame's pairs. Assumes nothing.
 use mathlib.Core.Path.{_≡_, refl, sym, ap, ap₂, subst, _∙_}
 use mathlib.Core.List.{List, [], _∷_, _++_}
-use Prim.Native.Nat.{ℕ, zero, suc, _+_, _*_, _-_, _/_, _%_, _^_, _<_, _≤_}
-use native.Mathlib.Nat.{mod-lt, zero-lt-suc, mul-assoc, pow-suc}
+use Prim.Native.Nat.{ℕ, zero, suc, _+_, _*_, _/_, _%_, _^_, _<_, _≤_}
+use native.Mathlib.Nat.{mul-assoc, pow-suc}
 use native.Mathlib.Decide.{ℕ-discrete}
 use native.Mathlib.Numerals.{add-one}
 use native.Mathlib.Omega.{arith}
-use lib.ListN.{length, getD, set, take, drop, length-append, length-drop, List·getD-map}
+use lib.ListN.{length, getD, set, take, drop, length-append, length-drop}
 use lib.Seq.{getD-take, getD-drop, length-take-le}
 use lib.Pow.{pow-mono}
 use Rattle.laws.specs.Tabulate.{tabulate}
-use Rattle.laws.proofs.Tabulate.{length-tabulate, getD-tabulate, is-tabulate, tabulate-ext}
+use Rattle.laws.proofs.Tabulate.{length-tabulate, getD-tabulate, is-tabulate}
 use Rattle.laws.proofs.Fill.{Upto, upto-none, upto-more, upto-all}
 use Rattle.bits.specs.Bits.{Bits, number}
-use Rattle.bits.proofs.Pack.{length-packed, getD-packed}
+use Rattle.bits.proofs.Pack.{getD-packed}
 use Rattle.modulation.specs.Bits.{dataBits}
 use Rattle.modulation.specs.Modulation.{Two}
 use Rattle.modulation.specs.Pairs.{Pairs, twos, numbers}

@@ -4,7 +4,7 @@ use mathlib.Core.List.{List, _++_}
 use mathlib.Core.Path.{_≡_, refl, ap, ap₂, subst, _∙_}
 use Prim.Native.Nat.{ℕ, _+_, _*_, _<_, _≤_}
 use native.Mathlib.Omega.{arith}
-use lib.ListN.{length, getD}
+use lib.ListN.{length}
 use lib.Seq.{sets}
 use Rattle.bits.specs.Bits.{bitsOf, threeOf}
 use Rattle.modulation.specs.Modulation.{lastBit, Modulated, modulate}
@@ -15,7 +15,7 @@ use Rattle.modulation.specs.Pairs.{twos}
 use Rattle.modulator.proofs.Writing.{Left, left-none, left-more, left-length, same-slice, GroupsWritten, groups-none, groups-more, groups-all}
 use Rattle.modulation.proofs.Bits.{bits-append, length-bits}
 use Rattle.modulation.proofs.Streams.{length-sync}
-use Rattle.frame.specs.Sync.{fs, syncGroup}
+use Rattle.frame.specs.Sync.{syncGroup}
 use Rattle.frame.specs.Frame.{framePairs, frame, frameGroups}
 use Rattle.frame.specs.Written.{SyncWritten, PairsOf, FrameWritten}
 

@@ -1,6 +1,5 @@
 // Recording frames (13.15, 13.17.4): a row of 155 bytes and a dc word to 1,932 modulation bits, and back.
 mod sync;
-mod tally;
 mod weave;
 
 ghost use Prim.Native.Nat.{_+_, _*_, _<_, _≤_};
@@ -15,9 +14,6 @@ pub use sync::sync_end;
 pub use sync::sync_number;
 pub use sync::sync_right;
 pub use sync::write_sync;
-pub use tally::TallyAnswer;
-pub use tally::frame_counts;
-pub use tally::tally_input;
 
 // What the strict reader finds: the dc word, or that no 1,268 bits give the frame and # of the next sync.
 pub enum FrameRead {

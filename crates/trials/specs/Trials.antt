@@ -6,7 +6,7 @@ use Prim.Native.Nat.{ℕ}
 use Rattle.field.specs.Field.{product}
 use Rattle.modulation.specs.Modulation.{Two, d00, d01, d10, d11, Three, m000, m001, m010, m100, m101, modulate}
 use Rattle.modulation.specs.Bits.{bits}
-use Rattle.frame.specs.Tally.{gaps}
+use Rattle.gaps.specs.Gaps.{gaps}
 
 -- the bit in front of the data bits: given, or either
 pub data Before : Type 0 where
