@@ -1,20 +1,18 @@
 -- Row and dc word, and the frame's bits, determine each other. Assumes nothing.
-use mathlib.Core.Path.{_≡_, refl, sym, ap, ap₂, _∙_, subst}
-use mathlib.Core.Bool.{Bool, true, false, cond}
+use mathlib.Core.Path.{_≡_, sym, ap, _∙_, subst}
 use mathlib.Core.List.{List}
-use Prim.Native.Nat.{ℕ, _+_, _*_, _-_, _/_, _%_, _^_, _<_, _≤_}
+use Prim.Native.Nat.{ℕ, _-_, _/_, _%_, _^_, _<_}
 use native.Mathlib.Nat.{mod-eq-of-lt, mod-lt, zero-lt-suc}
 use native.Mathlib.Decide.{decLt, ℕ-discrete}
 use native.Mathlib.Omega.{arith}
 use borrow.Author.Tests.{eq-eqb, ne-eqb}
-use lib.Dec.{eqb}
 use lib.ListN.{length, getD, List·getD-eq-default}
 use Rattle.laws.specs.Bytes.{Bytes}
 use Rattle.laws.specs.Tabulate.{tabulate}
-use Rattle.laws.proofs.Tabulate.{length-tabulate, getD-tabulate, is-tabulate, tabulate-ext}
+use Rattle.laws.proofs.Tabulate.{length-tabulate, getD-tabulate, is-tabulate}
 use Rattle.bits.specs.Bits.{Bits, bitsOf, bitsOfNumber, number, packed}
 use Rattle.bits.proofs.Bits.{length-bits, bits-bits}
-use Rattle.bits.proofs.Number.{number-of-bits, number-lt, bits-of-number, length-bits-of, getD-bits-of, number-bit}
+use Rattle.bits.proofs.Number.{number-of-bits, number-lt, length-bits-of, getD-bits-of, number-bit}
 use Rattle.bits.proofs.Pack.{packed-bits, bits-packed, length-packed, bytes-packed}
 use Rattle.frame.specs.FrameBits.{group, position, frameBit, frameBits, dataPlace, dcPlace, rowOf, dcOf}
 

@@ -1,8 +1,10 @@
 -- Laws of recording frames.
 pub mod FrameBits
 pub mod Pairs
+pub mod Unweaving
+pub mod Same
+pub mod Reading
+pub mod SyncRight
 pub mod Frame
-pub mod Counting
-pub mod TallyCases
 pub mod SyncTables
 pub mod Writing

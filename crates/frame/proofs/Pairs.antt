@@ -1,43 +1,14 @@
--- The pairs of a frame, one by one, from its bits and back. Assumes nothing.
-use mathlib.Core.Path.{_≡_, refl, sym, ap, ap₂, _∙_}
-use mathlib.Core.List.{List, [], _∷_, map}
-use Prim.Native.Nat.{ℕ, zero, suc, _+_, _*_, _/_, _%_, _<_, _≤_}
-use native.Mathlib.Decide.{decLt}
+-- A slice filled with the pairs of a frame, one by one. Assumes nothing.
+use mathlib.Core.Path.{_≡_, sym, ap₂, _∙_}
+use mathlib.Core.List.{List}
+use Prim.Native.Nat.{ℕ, _+_, _*_, _<_, _≤_}
 use native.Mathlib.Omega.{arith}
-use lib.ListN.{length, getD, set, length-map, List·getD-map, List·getD-eq-default}
-use lib.Seq.{ext-getD}
+use lib.ListN.{length, getD, set}
 use Rattle.laws.proofs.Fill.{Upto, upto-none, upto-more}
-use Rattle.modulation.specs.Modulation.{Two, d00}
-use Rattle.modulation.specs.Bits.{two, pairs}
-use Rattle.modulation.specs.Code.{Pairs, twoOf, twos}
-use Rattle.modulation.proofs.Bits.{length-pairs}
+use Rattle.modulation.proofs.Pairs.{filled-pairs, filled-twos}
 use Rattle.frame.specs.FrameBits.{frameBit, frameBits}
-use Rattle.frame.specs.Frame.{framePairs}
 use Rattle.frame.specs.Written.{PairsOf}
-use Rattle.frame.proofs.FrameBits.{length-frame-bits, getD-frame-bits, frame-bit-lt}
-
--- ---- pairs of a list of bits
-
-pub getD-pairs : (l : List ℕ) (k : ℕ) → 2 * k + 1 < length l → getD (pairs l) k d00 ≡ two (getD l (2 * k) 0) (getD l (2 * k + 1) 0)
-getD-pairs [] k h = absurd (omega arith)
-getD-pairs (x ∷ []) k h = absurd (omega arith)
-getD-pairs (x ∷ y ∷ l) zero h = refl
-getD-pairs (x ∷ y ∷ l) (suc k) h =
-    let even : 2 * suc k ≡ suc (suc (2 * k)) = omega arith in
-    let odd : 2 * suc k + 1 ≡ suc (suc (2 * k + 1)) = omega arith in
-    getD-pairs l k (omega arith)
-    ∙ sym (ap₂ (λ (i j : ℕ). two (getD (x ∷ y ∷ l) i 0) (getD (x ∷ y ∷ l) j 0)) even odd)
-
-two-of : (x y : ℕ) → x < 2 → y < 2 → twoOf (2 * x + y) ≡ two x y
-two-of zero zero hx hy = refl
-two-of zero (suc zero) hx hy = refl
-two-of zero (suc (suc y)) hx hy = absurd (omega arith)
-two-of (suc zero) zero hx hy = refl
-two-of (suc zero) (suc zero) hx hy = refl
-two-of (suc zero) (suc (suc y)) hx hy = absurd (omega arith)
-two-of (suc (suc x)) y hx hy = absurd (omega arith)
-
--- ---- a loop that fills a slice with the pairs of a frame
+use Rattle.frame.proofs.FrameBits.{length-frame-bits, getD-frame-bits, frame-bits-bits}
 
 -- the number of pair k
 abbrev pairNumber : List ℕ → ℕ → ℕ → ℕ
@@ -59,21 +30,11 @@ module _ {row : List ℕ} {dc : ℕ} where
   pairs-all {k} {l} h u =
       record {
         size = u .upto .size;
-        pairs = small;
-        are = ext-getD d00 (twos l) (framePairs row dc) (omega (arith, length-map l twoOf, u .upto .size, length-pairs (frameBits row dc), length-frame-bits row dc)) (λ i below. at i (omega (arith, length-map l twoOf, u .upto .size)));
+        pairs = filled-pairs 634 (frameBits row dc) l (length-frame-bits row dc) (u .upto .size) (frame-bits-bits row dc) filled;
+        are = filled-twos 634 (frameBits row dc) l (length-frame-bits row dc) (u .upto .size) (frame-bits-bits row dc) filled;
       }
     where
-      small : Pairs l
-      small i =
-          elim (decLt i 634) [
-            | yes hi ↦ omega (arith, u .upto .below i (omega arith), frame-bit-lt row dc (2 * i), frame-bit-lt row dc (2 * i + 1))
-            | no hi ↦ omega (arith, List·getD-eq-default l 0 {n = i} (omega (arith, u .upto .size)))
-          ]
-
-      at : (i : ℕ) → i < 634 → getD (twos l) i d00 ≡ getD (framePairs row dc) i d00
-      at i hi =
-          List·getD-map twoOf l i 0
-          ∙ ap twoOf (u .upto .below i (omega arith))
-          ∙ two-of (frameBit row dc (2 * i)) (frameBit row dc (2 * i + 1)) (frame-bit-lt row dc (2 * i)) (frame-bit-lt row dc (2 * i + 1))
-          ∙ sym (getD-pairs (frameBits row dc) i (omega (arith, length-frame-bits row dc))
-          ∙ ap₂ two (getD-frame-bits row dc (2 * i) (omega arith)) (getD-frame-bits row dc (2 * i + 1) (omega arith)))
+      filled : (i : ℕ) → i < 634 → getD l i 0 ≡ 2 * getD (frameBits row dc) (2 * i) 0 + getD (frameBits row dc) (2 * i + 1) 0
+      filled i hi =
+          u .upto .below i (omega arith)
+          ∙ sym (ap₂ (λ (x y : ℕ). 2 * x + y) (getD-frame-bits row dc (2 * i) (omega arith)) (getD-frame-bits row dc (2 * i + 1) (omega arith)))

@@ -1,8 +1,8 @@
 -- 13.17: a modulated recording frame, 30 bits of frame sync and 1,902 modulation bits.
-use mathlib.Core.Bool.{Bool, false}
+use mathlib.Core.Bool.{Bool}
 use mathlib.Core.List.{List, _++_}
 use Prim.Native.Nat.{ℕ}
-use Rattle.modulation.specs.Modulation.{Two, Three, Modulated}
+use Rattle.modulation.specs.Modulation.{Two, Three}
 use Rattle.modulation.specs.Bits.{pairs, bits}
 use Rattle.modulation.specs.Sync.{FS, sync}
 use Rattle.modulation.specs.Stream.{modulated}

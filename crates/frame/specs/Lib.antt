@@ -1,6 +1,7 @@
--- Recording frames: data bits and dc-control bits, frame sync and modulation bits, gaps.
+-- Recording frames: data bits and dc-control bits, frame sync and modulation bits.
 pub mod Sync
 pub mod FrameBits
 pub mod Frame
+pub mod Same
 pub mod Written
-pub mod Tally
+pub mod Reading

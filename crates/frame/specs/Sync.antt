@@ -1,6 +1,6 @@
 -- Frame syncs by number (13.17.4, Figures 39 and 41), and group by group.
 use mathlib.Core.Bool.{Bool}
-use mathlib.Core.List.{List, [], _∷_}
+use mathlib.Core.List.{[], _∷_}
 use Prim.Native.Nat.{ℕ}
 use lib.ListN.{getD}
 use Rattle.modulation.specs.Modulation.{m000, threeNumber}

@@ -8,7 +8,7 @@ use lib.Seq.{sets}
 use Rattle.bits.specs.Bits.{bitsOf}
 use Rattle.modulation.specs.Bits.{bits}
 use Rattle.modulation.specs.Sync.{FS, sync}
-use Rattle.modulation.specs.Code.{Pairs, twos}
+use Rattle.modulation.specs.Pairs.{Pairs, twos}
 use Rattle.frame.specs.Frame.{framePairs, frame, nextHash}
 
 -- sync n stands from bit `at` on, and all else is as it was

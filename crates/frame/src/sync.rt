@@ -1,12 +1,14 @@
 // Frame syncs: the constants of Figures 39 and 41.
 ghost use mathlib.Core.Path.{_≡_};
 ghost use mathlib.Core.Bool.{Bool, false};
-ghost use Prim.Native.Nat.{_+_, _%_, _<_};
+ghost use Prim.Native.Nat.{_+_, _*_, _%_, _<_, _≤_};
 ghost use lib.ListN.{length, getD};
+ghost use Rattle.bits.specs.Bits.{bitsOf};
 ghost use Rattle.modulation.specs.Modulation.{m000, threeNumber, lastBit};
 ghost use Rattle.modulation.specs.Sync.{sync, syncId, syncNumber};
 ghost use Rattle.frame.specs.Sync.{fs, fsNumber, syncGroup};
 ghost use Rattle.frame.specs.Written.{SyncWritten};
+ghost use Rattle.frame.specs.Reading.{hashAt, syncRight};
 
 // The sync numbers of recording frames 0 to 30 of an address unit.
 const SYNC_NUMBERS: [usize; 31] = [
@@ -95,4 +97,28 @@ pub fn write_sync(hash: bool, number: usize, image: &mut [u8], at: usize)
         bits::write_three(image, at + 3 * j, sync_group(hash, number, j));
         j += 1;
     }
+}
+
+// # of the frame sync at bit `at`.
+pub fn hash_at(image: &[u8], at: usize) -> bool
+    ensures { λ r. ⌜ r ≡ hashAt (bitsOf (now (image .entry))) at ⌝ }
+{
+    bits::read_bit(image, at) == 1
+}
+
+// Whether the 30 bits from `at` on are the frame sync of a number; its # is not judged.
+pub fn sync_right(image: &[u8], at: usize, number: usize) -> bool
+    requires { ⌜ (number < 7) × ((at + 30 ≤ 8 * length (now image)) × (at + 30 < 18446744073709551616)) ⌝ }
+    ensures { λ r. ⌜ r ≡ syncRight (fs number) (bitsOf (now (image .entry))) at ⌝ }
+{
+    let hash = hash_at(image, at);
+    let mut j = 0;
+    while j < 10 {
+        let step = bits::read_three(image, at + 3 * j);
+        if step.value != sync_group(hash, number, j) {
+            return false;
+        }
+        j += 1;
+    }
+    true
 }

@@ -1,5 +1,5 @@
 // The tally of document 01: how often each gap length occurs in the frame that standard input gives.
-use frame::TallyAnswer;
+use gaps::Tally;
 use libc::STDIN_FILENO;
 use libc::STDOUT_FILENO;
 
@@ -23,7 +23,7 @@ fn print_table(counts: [u32; 8]) {
 fn main() {
     let mut input = [0u8; 162];
     let n = io::read_full(STDIN_FILENO, &mut input);
-    let answer: TallyAnswer = frame::tally_input(&input[..n]);
+    let answer: Tally = gaps::tally_of(&input[..n]);
     if answer.accepted {
         let counts = answer.counts;
         print_table(counts);

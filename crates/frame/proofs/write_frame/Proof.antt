@@ -9,7 +9,7 @@ use Rattle.frame.proofs.no_pairs.Reads as no-pairs-reads
 use Rattle.frame.proofs.sync.sync_end.Reads as sync-end-reads
 use Rattle.frame.proofs.sync.write_sync.Reads as write-sync-reads
 use Rattle.frame.proofs.weave.frame_pairs.Reads as frame-pairs-reads
-use Rattle.modulation.proofs.modulate.Reads as modulate-reads
+use Rattle.modulator.proofs.modulate.Reads as modulate-reads
 
 -- src/lib.rt:26:5
 write-sync-requires : tie.Need-write-sync-requires

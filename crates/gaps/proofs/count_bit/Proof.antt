@@ -1,11 +1,11 @@
 use native.Mathlib.Omega.{arith}
 use Prim.Native.Nat.{_-_}
-use Rattle.frame.proofs.Counting.{zero-counted, empty-counted, long-counted, gap-counted}
+use Rattle.gaps.proofs.Counting.{zero-counted, empty-counted, long-counted, gap-counted}
 use borrow.Author.Needs.{needs}
-use Rattle.frame.proofs.tally.count_bit.Statement.{statement}
-use Rattle.frame.proofs.tally.count_bit.Tie as tie
-use Rattle.frame.proofs.tally.count_bit.Reads as reads
-use Rattle.frame.proofs.tally.count_bit.Lts as lts
+use Rattle.gaps.proofs.count_bit.Statement.{statement}
+use Rattle.gaps.proofs.count_bit.Tie as tie
+use Rattle.gaps.proofs.count_bit.Reads as reads
+use Rattle.gaps.proofs.count_bit.Lts as lts
 
 -- src/tally.rt:22:16
 add-result : tie.Need-add-result

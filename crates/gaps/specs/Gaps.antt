@@ -1,14 +1,11 @@
--- Document 01, the tally: how often each gap length occurs between the first and the last one of a frame's bits.
-use mathlib.Core.Bool.{Bool, true, false, _&&_, cond}
+-- Document 01, the tally: how often each gap length occurs between the first and the last one of a list of bits.
+use mathlib.Core.Bool.{cond}
 use mathlib.Core.List.{List, [], _∷_}
 use mathlib.Core.Path.{_≡_}
-use Prim.Native.Nat.{ℕ, zero, suc, _+_, _*_, _^_, _<_, _≤_}
-use lib.Dec.{eqb, ltb}
-use lib.ListN.{length, getD, drop, replicate}
+use Prim.Native.Nat.{ℕ, zero, suc, _+_, _<_, _≤_}
+use lib.Dec.{eqb}
+use lib.ListN.{length, getD}
 use Rattle.laws.specs.Tabulate.{tabulate}
-use Rattle.frame.specs.Sync.{fs}
-use Rattle.frame.specs.Frame.{frame}
-use Rattle.frame.specs.declared.tally.TallyAnswer.{TallyAnswer}
 
 -- the lengths of the gaps up to the last one, of which the first has z zeros already
 abbrev pub gapsAfter : ℕ → List ℕ → List ℕ
@@ -30,24 +27,6 @@ count n (x ∷ l) = cond (eqb x n) (suc (count n l)) (count n l)
 -- how often the gap lengths 1 to 8 occur
 unfoldable pub gapCounts : List ℕ → List ℕ
 gapCounts l = tabulate 8 (λ k. count (suc k) (gaps l))
-
--- ---- the program's input: #, sync number, dc word in four bytes, 155 frame bytes
-
-abbrev pub dcIn : List ℕ → ℕ
-dcIn input = ((getD input 2 0 * 256 + getD input 3 0) * 256 + getD input 4 0) * 256 + getD input 5 0
-
-abbrev pub accepted : List ℕ → Bool
-accepted input = eqb (length input) 161 && (ltb (getD input 0 0) 2 && (ltb (getD input 1 0) 7 && ltb (dcIn input) (2 ^ 28)))
-
-abbrev pub refusal : TallyAnswer
-refusal = record { accepted = false; counts = replicate 8 0 }
-
--- the gap counts of the frame that the input gives, or a refusal
-unfoldable pub tallied : List ℕ → TallyAnswer
-tallied input =
-    cond (accepted input)
-    (record { accepted = true; counts = gapCounts (frame (eqb (getD input 0 0) 1) (fs (getD input 1 0)) (drop 6 input) (dcIn input)) })
-    refusal
 
 -- ---- what a step of counting leaves
 

@@ -1,13 +1,13 @@
 use native.Mathlib.Omega.{arith}
 use Prim.Native.Nat.{_-_}
 use borrow.Author.Needs.{needs}
-use Rattle.frame.proofs.Counting.{Counting, counting-none, counting-few, counting-more, counting-all}
-use Rattle.frame.proofs.tally.gap_counts.Statement.{statement}
-use Rattle.frame.proofs.tally.gap_counts.Tie as tie
-use Rattle.frame.proofs.tally.gap_counts.Reads as reads
-use Rattle.frame.proofs.tally.gap_counts.Lts as lts
+use Rattle.gaps.proofs.Counting.{Counting, counting-none, counting-few, counting-more, counting-all}
+use Rattle.gaps.proofs.gap_counts.Statement.{statement}
+use Rattle.gaps.proofs.gap_counts.Tie as tie
+use Rattle.gaps.proofs.gap_counts.Reads as reads
+use Rattle.gaps.proofs.gap_counts.Lts as lts
 use Rattle.bits.proofs.read_bit.Reads as read-bit-reads
-use Rattle.frame.proofs.tally.count_bit.Reads as count-bit-reads
+use Rattle.gaps.proofs.count_bit.Reads as count-bit-reads
 
 abbrev Inv-loop : tie.InvT-loop
 Inv-loop bytes n counts₀ zeros₀ i₀ counts zeros i = Counting bytes n i counts zeros

@@ -1,23 +1,24 @@
 -- The tally's answer, case by case of its definition. Assumes nothing.
-use mathlib.Core.Bool.{Bool, true, false, _&&_, cond}
+use mathlib.Core.Bool.{Bool, true, false, _&&_}
 use mathlib.Core.List.{List}
-use mathlib.Core.Path.{_≡_, refl, sym, ap, _∙_}
-use Prim.Native.Nat.{ℕ, _+_, _*_, _-_, _<_, _≤_, _^_}
+use mathlib.Core.Path.{_≡_, refl, _∙_}
+use Prim.Native.Nat.{ℕ, _-_, _<_, _≤_, _^_}
 use native.Mathlib.Omega.{arith}
 use borrow.Author.Tests.{eq-eqb, ne-eqb, lt-ltb, le-ltb}
 use lib.Dec.{eqb, ltb}
 use lib.ListN.{length, getD, take, drop, length-drop}
 use lib.Seq.{take-all}
 use Rattle.frame.specs.Sync.{fs}
 use Rattle.frame.specs.Frame.{frame}
-use Rattle.frame.specs.declared.tally.TallyAnswer.{TallyAnswer}
-use Rattle.frame.specs.Tally.{gapCounts, dcIn, accepted, refusal, tallied}
+use Rattle.gaps.specs.declared.Tally.{Tally}
+use Rattle.gaps.specs.Gaps.{gapCounts}
+use Rattle.gaps.specs.Tally.{dcIn, accepted, refusal, tallied}
 
 and-false : (a b : Bool) → b ≡ false → (a && b) ≡ false
 and-false true b e = e
 and-false false b e = refl
 
-module _ (input : List ℕ) {a : TallyAnswer} (r : a ≡ refusal) where
+module _ (input : List ℕ) {a : Tally} (r : a ≡ refusal) where
   refused : accepted input ≡ false → a ≡ tallied input
   unfolding tallied
   refused e = r ∙ rw e

@@ -1,12 +1,12 @@
-use Rattle.frame.proofs.TallyCases.{refused-length, refused-hash, refused-number, refused-dc, tallied-counts}
+use Rattle.gaps.proofs.TallyCases.{refused-length, refused-hash, refused-number, refused-dc, tallied-counts}
 use borrow.Author.Needs.{needs}
-use Rattle.frame.proofs.tally.tally_input.Statement.{statement}
-use Rattle.frame.proofs.tally.tally_input.Tie as tie
-use Rattle.frame.proofs.tally.tally_input.Reads as reads
-use Rattle.frame.proofs.tally.tally_input.Lts as lts
-use Rattle.frame.proofs.tally.dc_in.Reads as dc-in-reads
-use Rattle.frame.proofs.tally.frame_counts.Reads as frame-counts-reads
-use Rattle.frame.proofs.tally.refused.Reads as refused-reads
+use Rattle.gaps.proofs.tally_of.Statement.{statement}
+use Rattle.gaps.proofs.tally_of.Tie as tie
+use Rattle.gaps.proofs.tally_of.Reads as reads
+use Rattle.gaps.proofs.tally_of.Lts as lts
+use Rattle.gaps.proofs.dc_in.Reads as dc-in-reads
+use Rattle.gaps.proofs.frame_counts.Reads as frame-counts-reads
+use Rattle.gaps.proofs.refused.Reads as refused-reads
 
 -- src/tally.rt:93:9
 refused-requires : tie.Need-refused-requires
@@ -76,8 +76,8 @@ frame-counts-requires c κs = search needs
 returns-5 : tie.Need-returns-5
 returns-5 c = search (tallied-counts)
 
-pub tally-input-spec : {M : Type 1} → statement M
-tally-input-spec =
+pub tally-of-spec : {M : Type 1} → statement M
+tally-of-spec =
     tie.close
     (tie.spec
     refused-requires

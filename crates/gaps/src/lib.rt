@@ -1,14 +1,15 @@
-// How often each gap length occurs (document 01, the tally).
+// How often each gap length occurs in a frame, and the answer of the tally program (document 01).
 ghost use mathlib.Core.Path.{_≡_};
 ghost use Prim.Native.Nat.{_*_, _<_, _≤_};
 ghost use lib.ListN.{length, take, drop};
 ghost use Rattle.bits.specs.Bits.{bitsOf};
 ghost use Rattle.frame.specs.Sync.{fs};
 ghost use Rattle.frame.specs.Frame.{frame};
-ghost use Rattle.frame.specs.Tally.{gapCounts, dcIn, refusal, tallied, BitCounted, Counts};
+ghost use Rattle.gaps.specs.Gaps.{gapCounts, BitCounted, Counts};
+ghost use Rattle.gaps.specs.Tally.{dcIn, refusal, tallied};
 
 // The answer to the tally's input: refused, or the counts of the gap lengths 1 to 8.
-pub struct TallyAnswer {
+pub struct Tally {
     pub accepted: bool,
     pub counts: [u32; 8],
 }
@@ -58,14 +59,14 @@ pub fn frame_counts(row: &[u8], dc: u32, number: usize, hash: bool) -> [u32; 8]
     ensures { λ r. ⌜ r ≡ gapCounts (frame hash (fs number) (now (row .entry)) dc) ⌝ }
 {
     let mut image = blank();
-    crate::write_frame(row, dc, number, hash, &mut image, 0);
+    frame::write_frame(row, dc, number, hash, &mut image, 0);
     gap_counts(&image, 1932)
 }
 
-fn refused() -> TallyAnswer
+fn refused() -> Tally
     ensures { λ r. ⌜ r ≡ refusal ⌝ }
 {
-    TallyAnswer {
+    Tally {
         accepted: false,
         counts: [0u32; 8],
     }
@@ -86,7 +87,7 @@ fn dc_in(input: &[u8]) -> u32
 }
 
 // The tally's answer to its input: # (0 or 1), sync number, dc word in four bytes, 155 frame bytes.
-pub fn tally_input(input: &[u8]) -> TallyAnswer
+pub fn tally_of(input: &[u8]) -> Tally
     ensures { λ r. ⌜ r ≡ tallied (now (input .entry)) ⌝ }
 {
     if input.len() != 161 {
@@ -104,7 +105,7 @@ pub fn tally_input(input: &[u8]) -> TallyAnswer
     if 0x0fff_ffff < dc {
         return refused();
     }
-    TallyAnswer {
+    Tally {
         accepted: true,
         counts: frame_counts(&input[6..], dc, number as usize, hash == 1),
     }

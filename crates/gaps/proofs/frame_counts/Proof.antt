@@ -1,12 +1,12 @@
-use Rattle.frame.proofs.Frame.{frame-counted}
+use Rattle.gaps.proofs.FrameCounted.{frame-counted}
 use borrow.Author.Needs.{needs}
-use Rattle.frame.proofs.tally.frame_counts.Statement.{statement}
-use Rattle.frame.proofs.tally.frame_counts.Tie as tie
-use Rattle.frame.proofs.tally.frame_counts.Reads as reads
-use Rattle.frame.proofs.tally.frame_counts.Lts as lts
-use Rattle.frame.proofs.tally.blank.Reads as blank-reads
-use Rattle.frame.proofs.tally.gap_counts.Reads as gap-counts-reads
+use Rattle.gaps.proofs.frame_counts.Statement.{statement}
+use Rattle.gaps.proofs.frame_counts.Tie as tie
+use Rattle.gaps.proofs.frame_counts.Reads as reads
+use Rattle.gaps.proofs.frame_counts.Lts as lts
+use Rattle.gaps.proofs.blank.Reads as blank-reads
+use Rattle.gaps.proofs.gap_counts.Reads as gap-counts-reads
 use Rattle.frame.proofs.write_frame.Reads as write-frame-reads
 
 -- src/tally.rt:60:21
 blank-requires : tie.Need-blank-requires

@@ -1,0 +1,198 @@
+-- What reads as a frame: existence, uniqueness, and the test that decides it. Assumes nothing.
+use mathlib.Core.Bool.{Bool, true, false, _&&_, Bool·beq, cond, true≢false}
+use mathlib.Core.List.{List}
+use mathlib.Core.Logic.{_↔_}
+use mathlib.Core.Path.{_≡_, refl, sym, ap, subst, _∙_}
+use Prim.Native.Nat.{ℕ, _*_, _^_, _<_}
+use native.Mathlib.Omega.{arith}
+use borrow.Author.Tests.{eq-eqb, eqb-true}
+use lib.Dec.{eqb}
+use lib.ListN.{length, take, drop}
+use Rattle.laws.specs.Bytes.{Bytes}
+use Rattle.modulation.specs.Modulation.{Two, lastBit, Modulated, modulate}
+use Rattle.modulation.specs.Bits.{pairs, dataBits, groups, bits, Gives}
+use Rattle.modulation.specs.Sync.{FS, syncId}
+use Rattle.modulation.specs.Stream.{modulated}
+use Rattle.modulation.specs.Demodulator.{demodulate}
+use Rattle.modulation.specs.Pairs.{twos}
+use Rattle.demodulator.specs.Demodulated.{Demodulated}
+use Rattle.modulation.proofs.Bits.{length-bits, groups-bits, length-pairs, length-dataBits, pairs-dataBits}
+use Rattle.modulation.proofs.Size.{size}
+use Rattle.modulation.proofs.Tests.{and-left, and-right, and-true, true-T, beq-same, beq-refl}
+use Rattle.modulation.proofs.Theorems.{comes-back, injective}
+use Rattle.frame.specs.FrameBits.{frameBits, rowOf, dcOf}
+use Rattle.frame.specs.Frame.{framePairs, nextHash}
+use Rattle.frame.specs.Same.{same}
+use Rattle.frame.specs.declared.FrameRead.{FrameRead}
+use Rattle.frame.specs.declared.FrameRead.the-variants.{Found, NoFrame}
+use Rattle.frame.specs.Reading.{BitsGive, RowGives, Reads, bitsRead, readable, frameRead, rowRead, bitsIn}
+use Rattle.frame.proofs.Same.{same-true, same-refl}
+use Rattle.frame.proofs.FrameBits.{length-frame-bits, frame-bits-bits, frame-bits-back, frame-bits-inj, length-row, bytes-row, dc-word-lt}
+use Rattle.frame.proofs.Unweaving.{data-bits, bits-in, length-bits-in}
+
+-- ---- bits, and row and dc word
+
+module _ {n : FS} {m : List ℕ} {hash : Bool} where
+  pub row-bits : {row : List ℕ} {dc : ℕ} → RowGives n row dc m hash → BitsGive n (frameBits row dc) m hash
+  row-bits {row} {dc} r =
+      record {
+        size = length-frame-bits row dc;
+        are-bits = frame-bits-bits row dc;
+        gives = record { same-bits = r .bits-are; same-end = r .next-is };
+      }
+
+  pub bits-row : {b : List ℕ} → BitsGive n b m hash → RowGives n (rowOf b) (dcOf b) m hash
+  bits-row {b} g =
+      let back = frame-bits-back b (g .are-bits) (g .size) in
+      record {
+        size = length-row b (g .are-bits);
+        bytes = bytes-row b (g .are-bits);
+        small = dc-word-lt b (g .are-bits);
+        bits-are = ap (λ (l : List ℕ). bits (modulated n (pairs l) .groups)) back ∙ g .gives .same-bits;
+        next-is = ap (λ (l : List ℕ). modulated n (pairs l) .terminated) back ∙ g .gives .same-end;
+      }
+
+  -- the data bits are the only ones
+  pub bits-unique : {b c : List ℕ} → BitsGive n b m hash → BitsGive n c m hash → b ≡ c
+  bits-unique {b} {c} g h =
+      injective (lastBit false (syncId n)) b c (g .are-bits) (h .are-bits) (rw (g .size)) (rw (h .size)) (g .gives .same-bits ∙ sym (h .gives .same-bits))
+      (g .gives .same-end ∙ sym (h .gives .same-end))
+
+  -- and so are row and dc word
+  pub row-unique : {row row′ : List ℕ} {dc dc′ : ℕ} → RowGives n row dc m hash → RowGives n row′ dc′ m hash → (row ≡ row′) × (dc ≡ dc′)
+  row-unique {row} {row′} {dc} {dc′} r s =
+      frame-bits-inj row row′ dc dc′ (r .size) (s .size) (r .bytes) (s .bytes) (r .small) (s .small) (bits-unique (row-bits r) (row-bits s))
+
+-- a row and a dc word give what is written of them
+pub row-gives : (n : FS) (row : List ℕ) (dc : ℕ) → length row ≡ 155 → Bytes row → dc < 2 ^ 28
+    → RowGives n row dc (bits (modulated n (framePairs row dc) .groups)) (nextHash n row dc)
+row-gives n row dc size bytes small = record { size = size; bytes = bytes; small = small; bits-are = refl; next-is = refl }
+
+-- ---- the test
+
+module _ (n : FS) (m : List ℕ) (hash : Bool) where
+  -- whatever gives m and # is what the demodulator finds
+  pub bits-read : {b : List ℕ} → BitsGive n b m hash → b ≡ bitsRead n m hash
+  unfolding bitsRead
+  bits-read {b} g = sym (comes-back before b (g .are-bits) (rw (g .size))) ∙ ap (λ (f : Modulated). dataBits (demodulate before f)) is
+    where
+      before : Bool
+      before = lastBit false (syncId n)
+
+      is : modulate before (pairs b) ≡ record { groups = groups m; terminated = hash }
+      is = λ i. record { groups = (sym (groups-bits (modulate before (pairs b) .groups)) ∙ ap groups (g .gives .same-bits)) i; terminated = g .gives .same-end i }
+
+  length-given : {ds : List Two} → Gives (lastBit false (syncId n)) ds m hash → length m ≡ 3 * length ds
+  length-given {ds} g =
+      sym (ap length (g .same-bits))
+      ∙ length-bits (modulated n ds .groups)
+      ∙ ap (λ (k : ℕ). 3 * k) (size (lastBit false (syncId n)) ds)
+
+  pub gives-readable : {b : List ℕ} → BitsGive n b m hash → readable n m hash ≡ true
+  unfolding readable
+  gives-readable {b} g =
+      and-true (eqb (length m) 1902) _ (eq-eqb (length m) 1902 long)
+      (and-true (same (bits (f .groups)) m) _
+      (ap (same (bits (f .groups))) (sym (ap (λ (l : List ℕ). bits (modulated n (pairs l) .groups)) is ∙ g .gives .same-bits)) ∙ same-refl (bits (f .groups)))
+      (ap (Bool·beq (f .terminated)) (sym (ap (λ (l : List ℕ). modulated n (pairs l) .terminated) is ∙ g .gives .same-end)) ∙ beq-refl (f .terminated)))
+    where
+      is : bitsRead n m hash ≡ b
+      is = sym (bits-read g)
+
+      f : Modulated
+      f = modulated n (pairs (bitsRead n m hash))
+
+      long : length m ≡ 1902
+      long = omega (arith, length-given (g .gives), length-pairs b, g .size)
+
+  pub readable-gives : readable n m hash ≡ true → BitsGive n (bitsRead n m hash) m hash
+  unfolding readable bitsRead
+  readable-gives e = record { size = long; are-bits = data-bits ds; gives = subst (λ (l : List Two). Gives (lastBit false (syncId n)) l m hash) (sym (pairs-dataBits ds)) given }
+    where
+      ds : List Two
+      ds = demodulate (lastBit false (syncId n)) (record { groups = groups m; terminated = hash })
+
+      f : Modulated
+      f = modulated n (pairs (dataBits ds))
+
+      again : (same (bits (f .groups)) m && Bool·beq (f .terminated) hash) ≡ true
+      again = and-right (eqb (length m) 1902) _ e
+
+      given : Gives (lastBit false (syncId n)) ds m hash
+      given =
+          record {
+            same-bits = ap (λ (l : List Two). bits (modulated n l .groups)) (sym (pairs-dataBits ds)) ∙ same-true (bits (f .groups)) m (and-left (same (bits (f .groups)) m) _ again);
+            same-end = ap (λ (l : List Two). modulated n l .terminated) (sym (pairs-dataBits ds)) ∙ beq-same (f .terminated) hash (true-T (Bool·beq (f .terminated) hash) (and-right (same (bits (f .groups)) m) _ again));
+          }
+
+      long : length (dataBits ds) ≡ 1268
+      long = omega (arith, length-dataBits ds, length-given given, eqb-true (length m) 1902 (and-left (eqb (length m) 1902) _ e))
+
+-- some bits give m and # if and only if the test says so
+pub readable-iff : (n : FS) (m : List ℕ) (hash : Bool) → (readable n m hash ≡ true) ↔ ((b : List ℕ) × BitsGive n b m hash)
+readable-iff n m hash = (λ e. (bitsRead n m hash, readable-gives n m hash e), λ p. gives-readable n m hash (p .1))
+
+-- ---- the reader's answer
+
+module _ {n : FS} {m : List ℕ} {hash : Bool} {before after : List ℕ} {answer : FrameRead} (r : Reads n m hash before answer after) where
+  -- a row and a dc word that give m and # are what is answered
+  pub read-row : {row : List ℕ} {dc : ℕ} → RowGives n row dc m hash → (answer ≡ Found dc) × (after ≡ row)
+  read-row {row} {dc} g = go answer refl
+    where
+      go : (a : FrameRead) → answer ≡ a → (answer ≡ Found dc) × (after ≡ row)
+      go (Found x) e = let u = row-unique (r .found x e) g in (e ∙ ap Found (u .1), u .0)
+      go NoFrame e = absurd (r .none e .1 (frameBits row dc) (row-bits g))
+
+  -- answer and row are those of the definition
+  pub read-is : (answer ≡ frameRead n m hash) × (after ≡ rowRead n m hash before)
+  unfolding frameRead rowRead
+  read-is = go (readable n m hash) refl
+    where
+      b : List ℕ
+      b = bitsRead n m hash
+
+      none : readable n m hash ≡ false → (a : FrameRead) → answer ≡ a → answer ≡ NoFrame
+      none f (Found x) e = absurd (true≢false (sym (gives-readable n m hash (row-bits (r .found x e))) ∙ f))
+      none f NoFrame e = e
+
+      go : (t : Bool) → readable n m hash ≡ t → (answer ≡ cond (readable n m hash) (Found (dcOf b)) NoFrame) × (after ≡ cond (readable n m hash) (rowOf b) before)
+      go true t = let u = read-row (bits-row (readable-gives n m hash t)) in rw t (u .0, u .1)
+      go false t = let e = none t answer refl in rw t (e, r .none e .0)
+
+-- ---- what the demodulator answers
+
+no-found : {dc : ℕ} → Found dc ≡ NoFrame → ⊥
+no-found e = let z : _≡_ {A = ℕ} 0 1 = cc in omega arith
+
+module _ {n : FS} {m : List ℕ} {hash x : Bool} {l : List ℕ} (d : Demodulated (lastBit false (syncId n)) m hash 634 x l) where
+  none-read : {before : List ℕ} → x ≡ false → Reads n m hash before NoFrame before
+  none-read e = record { found = λ dc f. absurd (no-found (sym f)); none = λ _. (refl, λ b g. d .none e .1 (pairs b) (g .gives)) }
+
+  -- the data bits of the pairs found
+  found-bits : x ≡ true → BitsGive n (bitsIn l) m hash
+  unfolding bitsIn
+  found-bits e =
+      record {
+        size = length-bits-in {l = l} (record { size = d .size; are-pairs = d .pairs });
+        are-bits = bits-in l (d .pairs);
+        gives = subst (λ (ds : List Two). Gives (lastBit false (syncId n)) ds m hash) (sym (pairs-dataBits (twos l))) (d .found e);
+      }
+
+  found-read : {dc : ℕ} {before after : List ℕ} → x ≡ true → after ≡ rowOf (bitsIn l) → dc ≡ dcOf (bitsIn l) → Reads n m hash before (Found dc) after
+  found-read {dc} {before} {after} e er ed =
+      record { found = λ v f. let same : v ≡ dcOf (bitsIn l) = cc in rw (er, same) (bits-row (found-bits e)); none = λ f. absurd (no-found f) }
+
+-- as the code hands it over: b is the sync's last bit, and k places are lent for the pairs of the groups from p on
+module _ (n : FS) (bs : List ℕ) (p : ℕ) {b hash x : Bool} {k : ℕ} {l : List ℕ} (eb : b ≡ lastBit false (syncId n)) (ek : k ≡ 634)
+    (d : Demodulated b (take (3 * k) (drop p bs)) hash k x l) where
+  answered : Demodulated (lastBit false (syncId n)) (take 1902 (drop p bs)) hash 634 x l
+  answered =
+      subst (λ (j : ℕ). Demodulated (lastBit false (syncId n)) (take (3 * j) (drop p bs)) hash j x l) ek
+      (subst (λ (c : Bool). Demodulated c (take (3 * k) (drop p bs)) hash k x l) eb d)
+
+  pub reads-none : {before : List ℕ} → x ≡ false → Reads n (take 1902 (drop p bs)) hash before NoFrame before
+  reads-none e = none-read answered e
+
+  pub reads-found : {dc : ℕ} {before after : List ℕ} → x ≡ true → after ≡ rowOf (bitsIn l) → dc ≡ dcOf (bitsIn l)
+      → Reads n (take 1902 (drop p bs)) hash before (Found dc) after
+  reads-found e er ed = found-read answered e er ed

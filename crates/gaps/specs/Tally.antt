@@ -1,0 +1,28 @@
+-- Document 01, the tally program: its input and its answer.
+use mathlib.Core.Bool.{Bool, true, false, _&&_, cond}
+use mathlib.Core.List.{List}
+use Prim.Native.Nat.{ℕ, _+_, _*_, _^_}
+use lib.Dec.{eqb, ltb}
+use lib.ListN.{length, getD, drop, replicate}
+use Rattle.frame.specs.Sync.{fs}
+use Rattle.frame.specs.Frame.{frame}
+use Rattle.gaps.specs.declared.Tally.{Tally}
+use Rattle.gaps.specs.Gaps.{gapCounts}
+
+-- # (00h or 01h), sync number, dc word in four bytes, 155 frame bytes
+
+abbrev pub dcIn : List ℕ → ℕ
+dcIn input = ((getD input 2 0 * 256 + getD input 3 0) * 256 + getD input 4 0) * 256 + getD input 5 0
+
+abbrev pub accepted : List ℕ → Bool
+accepted input = eqb (length input) 161 && (ltb (getD input 0 0) 2 && (ltb (getD input 1 0) 7 && ltb (dcIn input) (2 ^ 28)))
+
+abbrev pub refusal : Tally
+refusal = record { accepted = false; counts = replicate 8 0 }
+
+-- the gap counts of the frame that the input gives, or a refusal
+unfoldable pub tallied : List ℕ → Tally
+tallied input =
+    cond (accepted input)
+    (record { accepted = true; counts = gapCounts (frame (eqb (getD input 0 0) 1) (fs (getD input 1 0)) (drop 6 input) (dcIn input)) })
+    refusal

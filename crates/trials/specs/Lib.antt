@@ -1,0 +1,2 @@
+-- The starred trials of document 01.
+pub mod Trials
