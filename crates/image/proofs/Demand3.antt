@@ -1,15 +1,19 @@
 -- Demand 3, on the definition of the image. Assumes nothing.
 use mathlib.Core.Path.{_≡_, refl, sym, ap, _∙_}
 use mathlib.Core.Logic.{_↔_}
-use mathlib.Core.Bool.{Bool}
-use mathlib.Core.List.{List}
-use Prim.Native.Nat.{ℕ, _*_, _%_, _^_, _<_, _≤_}
+use mathlib.Core.Bool.{Bool, false}
+use mathlib.Core.List.{List, [], _∷_, _++_}
+use Prim.Native.Nat.{ℕ, zero, suc, _+_, _*_, _%_, _^_, _<_, _≤_}
 use native.Mathlib.Omega.{arith}
-use lib.ListN.{length, getD}
-use lib.Seq.{ext-getD}
+use lib.ListN.{length, getD, take, length-append}
+use lib.Seq.{ext-getD, take-append-seam}
 use Rattle.laws.specs.Bytes.{Bytes}
+use Rattle.bits.specs.Bits.{Bits, bitsOf, packed}
+use Rattle.bits.proofs.Pack.{bits-packed}
+use Rattle.modulation.specs.Stream.{stream}
 use Rattle.modulation.specs.Gaps.{LongGaps, Spaced, NoSeven}
 use Rattle.modulation.proofs.Bits.{pairs-injective}
+use Rattle.modulation.proofs.Fronts.{bits-groups}
 use Rattle.modulation.proofs.Streams.{length-stream}
 use Rattle.modulation.proofs.Limits.{long-gaps, spaced, no-seven}
 use Rattle.modulation.proofs.Unique.{unique}
@@ -18,7 +22,7 @@ use Rattle.frame.specs.Frame.{framePairs}
 use Rattle.frame.proofs.FrameBits.{length-frame-bits, frame-bits-bits, frame-bits-inj}
 use Rattle.cluster.specs.EccCluster.{rowOf}
 use Rattle.cluster.proofs.Statements.{length-cluster, bytes-cluster, cluster-inj}
-use Rattle.image.specs.Image.{Input, IsAccepted, cluster, recording, imageBitsFrom}
+use Rattle.image.specs.Image.{Input, IsAccepted, cluster, recording, imageBitsFrom, imageBits, image}
 use Rattle.image.proofs.Recordings.{length-row, bytes-row, rows-same, full}
 
 -- ---- equal images come from equal inputs
@@ -104,3 +108,39 @@ image-limits first input =
 pub image-size : (first : Bool) (input : Input) → length (imageBitsFrom first input) ≡ 958302
 unfolding imageBitsFrom
 image-size first input = length-stream (recording first input) 496 (full first input 496)
+
+-- ---- in bytes
+
+bits-then : (l m : List ℕ) → Bits l → Bits m → Bits (l ++ m)
+bits-then [] m bl bm i = bm i
+bits-then (x ∷ l) m bl bm zero = bl 0
+bits-then (x ∷ l) m bl bm (suc i) = bits-then l m (λ j. bl (suc j)) bm i
+
+-- the bits of the image's bytes are the 958,302 bits and two zeros
+pub image-bits : (input : Input) → bitsOf (image input) ≡ imageBits input ++ (0 ∷ 0 ∷ [])
+unfolding image
+image-bits input = bits-packed (imageBits input ++ (0 ∷ 0 ∷ [])) (bits-then (imageBits input) (0 ∷ 0 ∷ []) all two) whole
+  where
+    all : Bits (imageBits input)
+    all = unfold imageBitsFrom in bits-groups (stream (recording false input) 496)
+
+    two : Bits (0 ∷ 0 ∷ [])
+    two zero = omega arith
+    two (suc zero) = omega arith
+    two (suc (suc i)) = omega arith
+
+    whole : length (imageBits input ++ (0 ∷ 0 ∷ [])) % 8 ≡ 0
+    whole = ap (λ (n : ℕ). n % 8) (length-append (imageBits input) (0 ∷ 0 ∷ []) ∙ ap (λ (n : ℕ). n + 2) (image-size false input))
+
+-- two accepted inputs have equal images exactly when their four parts are equal
+pub equal-images : (a b : Input) → IsAccepted a → IsAccepted b → (image a ≡ image b) ↔ Same a b
+equal-images a b ha hb = (λ e. images-equal false a b ha hb .0 (front e), λ s. unfold image in ap (λ (l : List ℕ). packed (l ++ (0 ∷ 0 ∷ []))) (images-equal false a b ha hb .1 s))
+  where
+    taken : (input : Input) → take 958302 (bitsOf (image input)) ≡ imageBits input
+    taken input =
+        ap (take 958302) (image-bits input)
+        ∙ ap (λ (n : ℕ). take n (imageBits input ++ (0 ∷ 0 ∷ []))) (sym (image-size false input))
+        ∙ take-append-seam (imageBits input) (0 ∷ 0 ∷ [])
+
+    front : image a ≡ image b → imageBits a ≡ imageBits b
+    front e = sym (taken a) ∙ ap (λ (l : List ℕ). take 958302 (bitsOf l)) e ∙ taken b
