@@ -1,7 +1,5 @@
-// Frames of a known cluster written, read back and damaged, and the tally's answers. Standard input holds seven records of 161 bytes, each
-// as the tally reads them: #, sync number, dc word, row.
+// Frames of a known cluster written, read back and damaged. Standard input holds seven records of 161 bytes: #, sync number, dc word, row.
 use frame::FrameRead;
-use gaps::Tally;
 ghost use mathlib.Core.Path.{_≡_};
 ghost use Prim.Native.Nat.{_<_};
 ghost use lib.ListN.{length};
@@ -44,34 +42,6 @@ fn sync_numbers() {
         spaced(frame::sync_number(n) as u64);
     }
     end_line();
-}
-
-fn print_counts(counts: [u32; 8]) {
-    for k in 0..8usize {
-        spaced(counts[k] as u64);
-    }
-}
-
-fn tally_line(text: &[u8], input: &[u8]) {
-    io::write_all(1, text);
-    let answer: Tally = gaps::tally_of(input);
-    if answer.accepted {
-        let counts = answer.counts;
-        print_counts(counts);
-    } else {
-        io::write_all(1, b" refused");
-    }
-    end_line();
-}
-
-// The tally's answer with one byte of its input changed.
-fn tally_with(text: &[u8], input: &mut [u8], at: usize, value: u8) {
-    if at < input.len() {
-        let old = input[at];
-        input[at] = value;
-        tally_line(text, input);
-        input[at] = old;
-    }
 }
 
 // # of the record's frame, the sync number and the dc word.
@@ -238,48 +208,26 @@ fn frame_lines(input: &[u8])
     number(b"# ", flag(frame::hash_at(&image, AT)));
     number(b" next # ", flag(next));
     end_line();
-    tally_line(b"gaps", input);
     read_lines(&mut image, sync, next, input);
 }
 
-// What the tally refuses.
-fn refusals(input: &mut [u8])
-    requires { ⌜ length (now input) ≡ 162 ⌝ }
-{
-    tally_line(b"162 bytes", input);
-    tally_line(b"160 bytes", &input[0..160]);
-    tally_with(b"# 2", &mut input[0..161], 0, 2);
-    tally_with(b"number 7", &mut input[0..161], 1, 7);
-    tally_with(b"dc word 1.......h", &mut input[0..161], 2, 0x10);
-}
-
-// The first record, refused, and with another #, number and dc word.
-fn changed(input: &mut [u8])
-    requires { ⌜ length (now input) ≡ 162 ⌝ }
-{
-    refusals(input);
-    tally_with(b"# 0", &mut input[0..161], 0, 0);
-    tally_with(b"# 1", &mut input[0..161], 0, 1);
-    tally_with(b"number 6", &mut input[0..161], 1, 6);
-    tally_with(b"dc word 0F......h", &mut input[0..161], 2, 0x0f);
-}
-
-fn read_record(input: &mut [u8])
-    requires { ⌜ length (now input) ≡ 162 ⌝ }
-{
-    let n = io::read_full(0, &mut input[0..161]);
+fn read_record(input: &mut [u8]) {
+    let n = io::read_full(0, input);
     number(b"record of bytes ", n as u64);
     end_line();
 }
 
+fn no_record() -> [u8; 161]
+    ensures { λ r. ⌜ length r ≡ 161 ⌝ }
+{
+    [0u8; 161]
+}
+
 fn main() {
     sync_numbers();
-    let mut input = [0u8; 162];
-    read_record(&mut input);
-    changed(&mut input);
-    frame_lines(&input[0..161]);
-    for k in 0..6usize {
+    let mut input = no_record();
+    for k in 0..7usize {
         read_record(&mut input);
-        frame_lines(&input[0..161]);
+        frame_lines(&input);
     }
 }
