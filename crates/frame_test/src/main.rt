@@ -1,0 +1,233 @@
+// Frames of a known cluster written, read back and damaged. Standard input holds seven records of 161 bytes: #, sync number, dc word, row.
+use frame::FrameRead;
+ghost use mathlib.Core.Path.{_≡_};
+ghost use Prim.Native.Nat.{_<_};
+ghost use lib.ListN.{length};
+
+// Where a frame is written, in a slice of 245 bytes.
+const AT: usize = 11;
+
+fn wide(byte: u8) -> u64 {
+    byte as u64
+}
+
+fn flag(set: bool) -> u64 {
+    if set { 1 } else { 0 }
+}
+
+fn number(text: &[u8], value: u64) {
+    io::write_all(1, text);
+    io::print_decimal(1, value);
+}
+
+fn spaced(value: u64) {
+    number(b" ", value);
+}
+
+fn end_line() {
+    io::write_all(1, b"\n");
+}
+
+fn bytes_line(text: &[u8], bytes: &[u8]) {
+    io::write_all(1, text);
+    for k in 0..bytes.len() {
+        io::print_hex(1, wide(bytes[k]), 2);
+    }
+    end_line();
+}
+
+fn sync_numbers() {
+    io::write_all(1, b"sync numbers");
+    for n in 0..62usize {
+        spaced(frame::sync_number(n) as u64);
+    }
+    end_line();
+}
+
+// # of the record's frame, the sync number and the dc word.
+struct Head {
+    hash: bool,
+    number: usize,
+    dc: u32,
+}
+
+fn head_of(input: &[u8]) -> Head
+    requires { ⌜ length (now input) ≡ 161 ⌝ }
+    ensures { λ r. ⌜ r .number < 7 ⌝ }
+{
+    let high = wide(input[2]) % 256 * 256 + wide(input[3]) % 256;
+    let low = wide(input[4]) % 256 * 256 + wide(input[5]) % 256;
+    Head {
+        hash: input[0] == 1,
+        number: (input[1] % 7) as usize,
+        dc: (high * 65536 + low) as u32,
+    }
+}
+
+fn blank() -> [u8; 245]
+    ensures { λ r. ⌜ length r ≡ 245 ⌝ }
+{
+    [0xa5u8; 245]
+}
+
+fn no_row() -> [u8; 155]
+    ensures { λ r. ⌜ length r ≡ 155 ⌝ }
+{
+    [0u8; 155]
+}
+
+// In how many bytes a row differs from the record's.
+fn differing(row: &[u8], input: &[u8]) -> u64
+    requires { ⌜ (length (now row) ≡ 155) × (length (now input) ≡ 161) ⌝ }
+{
+    let mut n: u64 = 0;
+    for k in 0..155usize {
+        if row[k] != input[6 + k] {
+            n = std::num::wrapping_add_u64(n, 1);
+        }
+    }
+    n
+}
+
+// The frame read with # of the next sync: its dc word, and in how many bytes its row differs.
+fn read_line(text: &[u8], image: &[u8], sync: usize, hash: bool, input: &[u8])
+    requires { ⌜ ((length (now image) ≡ 245) × (length (now input) ≡ 161)) × (sync < 7) ⌝ }
+{
+    io::write_all(1, text);
+    let mut row = no_row();
+    let read = frame::read_frame(image, AT, sync, hash, &mut row);
+    match read {
+        FrameRead::Found(dc) => {
+            io::print_hex(1, dc as u64, 8);
+            spaced(differing(&row, input));
+        }
+        FrameRead::NoFrame => {
+            io::write_all(1, b"none");
+        }
+    }
+    end_line();
+}
+
+fn flip(image: &mut [u8], at: usize) {
+    if bits::read_bit(image, at) == 0 {
+        bits::write_bit(image, at, 1);
+    } else {
+        bits::write_bit(image, at, 0);
+    }
+}
+
+// Each bit of the sync flipped: whether it still is that sync.
+fn sync_line(image: &mut [u8], sync: usize)
+    requires { ⌜ (length (now image) ≡ 245) × (sync < 7) ⌝ }
+{
+    io::write_all(1, b"sync with a bit flipped ");
+    for k in 0..30usize {
+        flip(image, AT + k);
+        io::print_decimal(1, flag(frame::sync_right(image, AT, sync)));
+        flip(image, AT + k);
+    }
+    end_line();
+}
+
+// How often nothing was read, and of what was read the sum of the dc words and the count of bytes that differ.
+struct Flips {
+    none: u64,
+    dcs: u64,
+    bytes: u64,
+}
+
+// One bit more flipped and the frame read.
+fn flip_one(
+    seen: Flips,
+    image: &mut [u8],
+    at: usize,
+    sync: usize,
+    hash: bool,
+    input: &[u8],
+) -> Flips
+    requires { ⌜ ((length (now image) ≡ 245) × (length (now input) ≡ 161)) × (sync < 7) ⌝ }
+{
+    flip(image, at);
+    let mut row = no_row();
+    let read = frame::read_frame(image, AT, sync, hash, &mut row);
+    flip(image, at);
+    match read {
+        FrameRead::Found(dc) => Flips {
+            none: seen.none,
+            dcs: std::num::wrapping_add_u64(seen.dcs, dc as u64),
+            bytes: std::num::wrapping_add_u64(seen.bytes, differing(&row, input)),
+        },
+        FrameRead::NoFrame => Flips {
+            none: std::num::wrapping_add_u64(seen.none, 1),
+            dcs: seen.dcs,
+            bytes: seen.bytes,
+        },
+    }
+}
+
+// Every seventh modulation bit flipped.
+fn flip_all(image: &mut [u8], sync: usize, hash: bool, input: &[u8]) -> Flips
+    requires { ⌜ ((length (now image) ≡ 245) × (length (now input) ≡ 161)) × (sync < 7) ⌝ }
+{
+    let mut seen = Flips {
+        none: 0,
+        dcs: 0,
+        bytes: 0,
+    };
+    for k in 0..271usize {
+        seen = flip_one(seen, image, AT + 30 + 7 * k, sync, hash, input);
+    }
+    seen
+}
+
+fn flips_line(seen: Flips) {
+    number(b"flips 271 none ", seen.none);
+    number(b" sum ", seen.dcs);
+    number(b" bytes ", seen.bytes);
+    end_line();
+}
+
+// The frame read as it was written, with the other #, and with bits flipped.
+fn read_lines(image: &mut [u8], sync: usize, next: bool, input: &[u8])
+    requires { ⌜ ((length (now image) ≡ 245) × (length (now input) ≡ 161)) × (sync < 7) ⌝ }
+{
+    sync_line(image, sync);
+    read_line(b"read ", image, sync, next, input);
+    read_line(b"read with the other # ", image, sync, !next, input);
+    flips_line(flip_all(image, sync, next, input));
+}
+
+fn frame_lines(input: &[u8])
+    requires { ⌜ length (now input) ≡ 161 ⌝ }
+{
+    let head = head_of(input);
+    let sync = head.number;
+    let mut image = blank();
+    let next = frame::write_frame(&input[6..161], head.dc, sync, head.hash, &mut image, AT);
+    bytes_line(b"image ", &image);
+    number(b"# ", flag(frame::hash_at(&image, AT)));
+    number(b" next # ", flag(next));
+    end_line();
+    read_lines(&mut image, sync, next, input);
+}
+
+fn read_record(input: &mut [u8]) {
+    let n = io::read_full(0, input);
+    number(b"record of bytes ", n as u64);
+    end_line();
+}
+
+fn no_record() -> [u8; 161]
+    ensures { λ r. ⌜ length r ≡ 161 ⌝ }
+{
+    [0u8; 161]
+}
+
+fn main() {
+    sync_numbers();
+    let mut input = no_record();
+    for k in 0..7usize {
+        read_record(&mut input);
+        frame_lines(&input);
+    }
+}
