@@ -60,11 +60,11 @@ unfolding tabulate
 four p size = is-tabulate 0 4 (λ k. getD p k 0) p size (λ k h. refl)
 
 -- i and p are the information bytes and their parity
-pub primary-is : (aun flag : ℕ) (i p : List ℕ) → aun < 2 ^ 32 → flag < 256 → i ≡ information aun flag → p ≡ parity 4 i
+pub primary-is : (aun flag : ℕ) (i p : List ℕ) → i ≡ information aun flag → p ≡ parity 4 i
     → getD i 0 0 ∷ getD i 1 0 ∷ getD i 2 0 ∷ getD i 3 0 ∷ getD i 4 0 ∷ getD p 0 0 ∷ getD p 1 0 ∷ getD p 2 0 ∷ getD p 3 0 ∷ []
     ≡ primaryField aun flag
 unfolding primaryField
-primary-is aun flag i p ha hf ei ep =
+primary-is aun flag i p ei ep =
     let right : p ≡ parity 4 (information aun flag) = ep ∙ ap (parity 4) ei in
     let size : length p ≡ 4 = ap length right ∙ parity-length 4 (information aun flag) in
     rw (ei, ← right, ← four p size)
@@ -132,14 +132,16 @@ module _ (aun flag : ℕ) where
   unfolding primaryField
   flag-back = refl
 
-module _ (aun flag : ℕ) (ha : aun < 2 ^ 32) (hf : flag < 256) where
-  pub length-primary : length (primaryField aun flag) ≡ 9
+  length-primary : length (primaryField aun flag) ≡ 9
   unfolding primaryField
-  length-primary =
-      let i = information aun flag in
-      omega (arith, length-append i (parity 4 i), parity-length 4 i)
+  length-primary = let i = information aun flag in omega (arith, length-append i (parity 4 i), parity-length 4 i)
 
-  pub bytes-primary : Bytes (primaryField aun flag)
+  pub length-field : length (addressField aun flag) ≡ 9
+  unfolding addressField
+  length-field = length-inverted (primaryField aun flag)
+
+module _ (aun flag : ℕ) (ha : aun < 2 ^ 32) (hf : flag < 256) where
+  bytes-primary : Bytes (primaryField aun flag)
   unfolding primaryField
   bytes-primary =
       let i = information aun flag in
@@ -149,10 +151,6 @@ module _ (aun flag : ℕ) (ha : aun < 2 ^ 32) (hf : flag < 256) where
   unfolding primaryField
   primary-roots = parity-test 4 (information aun flag) (information-bytes aun flag ha hf)
 
-  pub length-field : length (addressField aun flag) ≡ 9
-  unfolding addressField
-  length-field = length-inverted (primaryField aun flag)
-
   pub bytes-field : Bytes (addressField aun flag)
   unfolding addressField
   bytes-field = bytes-inverted (primaryField aun flag) bytes-primary
@@ -160,7 +158,7 @@ module _ (aun flag : ℕ) (ha : aun < 2 ^ 32) (hf : flag < 256) where
   -- the inversion undone
   pub primary-back : partlyInverted (addressField aun flag) ≡ primaryField aun flag
   unfolding addressField
-  primary-back = inverted-back (primaryField aun flag) length-primary bytes-primary
+  primary-back = inverted-back (primaryField aun flag) (length-primary aun flag) bytes-primary
 
 -- ---- nothing else is read as an address field
 

@@ -101,7 +101,7 @@ module _ (psn : ℕ) (side : List ℕ) (accepted : judged psn ≡ Accepted) (byt
   unfolding fieldIn
   field-is y h =
       sym (is-tabulate 0 9 (λ x. getD (getD (bisBlock psn side) (columnOfAF x y) []) (rowOfAF x y) 0) (addressField (aunOf psn y) (getD side y 0))
-      (length-field (aunOf psn y) (getD side y 0) (aun-lt psn accepted y h) (bytes y))
+      (length-field (aunOf psn y) (getD side y 0))
       (λ x hx. sym (at x hx)))
     where
       at : (x : ℕ) → x < 9 → getD (getD (bisBlock psn side) (columnOfAF x y) []) (rowOfAF x y) 0 ≡ getD (addressField (aunOf psn y) (getD side y 0)) x 0

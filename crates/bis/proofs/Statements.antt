@@ -17,11 +17,15 @@ use Rattle.bis.specs.AddressField.{partlyInverted, addressField, aunIn, 
 use Rattle.bis.specs.AccessBlock.{Side}
 use Rattle.bis.specs.BisBlock.{bisBlock, Block}
 use Rattle.bis.specs.Reading.{IsPsnOf, psnIn, sideIn, Reads}
-use Rattle.bis.proofs.AddressFields.{aun-back, flag-back, primary-roots, primary-back, field-only}
+use Rattle.bis.proofs.AddressFields.{aun-back, flag-back, primary-roots, primary-back, inverted-back, field-only}
 use Rattle.bis.proofs.Psn.{found-is, is-there}
 use Rattle.bis.proofs.Blocks.{written-block, written-columns, written-fields, written-psn, written-side, side-in, block-is}
 
--- ---- 13.9.2.2: an address field, with the inversion undone, has its roots, its AUN and its flag byte; nine bytes that have them are that address field
+-- ---- 13.9.2.2: partial inversion undoes itself; with it undone an address field has its roots, its AUN and its flag byte, and nine bytes
+-- that have the roots are an address field
+
+pub inversion-undone : (field : List ℕ) → length field ≡ 9 → Bytes field → partlyInverted (partlyInverted field) ≡ field
+inversion-undone = inverted-back
 
 pub field-back : (aun flag : ℕ) → aun < 2 ^ 32 → flag < 256
     → (hasRoots 4 (partlyInverted (addressField aun flag)) ≡ true)

@@ -1,6 +1,5 @@
 -- `primary_field` meets its contract: information and parity, byte by byte (AddressFields).
 use Rattle.bis.proofs.AddressFields.{primary-is}
-use native.Mathlib.Omega.{arith}
 use borrow.Author.Needs.{needs}
 use Rattle.bis.proofs.primary_field.Statement.{statement}
 use Rattle.bis.proofs.primary_field.Tie as tie
@@ -42,7 +41,7 @@ array-read-t36 : tie.Need-array-read-t36
 array-read-t36 c = search needs
 
 returns : tie.Need-returns
-returns c = search (primary-is, arith)
+returns c = search (primary-is)
 
 pub primary-field-spec : {M : Type 1} → statement M
 primary-field-spec =
