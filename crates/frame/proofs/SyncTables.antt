@@ -9,7 +9,7 @@ use lib.Dec.{eqb}
 use lib.ListN.{getD}
 use Rattle.laws.proofs.Finite.{all, equal-below, bounded-below}
 use Rattle.modulation.specs.Modulation.{lastBit}
-use Rattle.modulation.specs.Sync.{FS, FS0, syncId, syncNumbers, syncNumber}
+use Rattle.modulation.specs.Sync.{FS, FS0, FS1, FS2, FS3, FS4, FS5, FS6, syncId, syncNumbers, syncNumber}
 use Rattle.frame.specs.Sync.{fs, fsNumber, syncGroup}
 
 -- ---- Figure 41
@@ -24,6 +24,17 @@ number-at n = (
   equal-below 31 (λ k. getD numberTable k 0) (λ k. fsNumber (getD syncNumbers k FS0)) tt (n % 31) (mod-lt n (zero-lt-suc 30)),
   bounded-below 31 7 (λ k. getD numberTable k 0) tt (n % 31) (mod-lt n (zero-lt-suc 30)),
 )
+
+-- a sync is that of its number
+pub fs-number : (n : FS) → fs (fsNumber n) ≡ n
+unfolding fs
+fs-number FS0 = refl
+fs-number FS1 = refl
+fs-number FS2 = refl
+fs-number FS3 = refl
+fs-number FS4 = refl
+fs-number FS5 = refl
+fs-number FS6 = refl
 
 -- ---- Figure 39
 

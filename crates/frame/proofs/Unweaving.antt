@@ -20,7 +20,7 @@ use Rattle.modulation.specs.Pairs.{Pairs, twos, numbers}
 use Rattle.modulation.proofs.Bits.{length-dataBits}
 use Rattle.modulation.proofs.Pairs.{length-twos, pairs-numbers, twos-numbers, slice-bits}
 use Rattle.frame.specs.FrameBits.{dataPlace, dcPlace, rowOf, dcOf}
-use Rattle.frame.specs.Reading.{Whole, bitsIn}
+use Rattle.frame.specs.Slices.{Whole, bitsIn}
 use Rattle.frame.proofs.FrameBits.{length-row}
 
 -- ---- a bit of the pairs

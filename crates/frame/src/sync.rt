@@ -6,9 +6,7 @@ ghost use lib.ListN.{length, getD};
 ghost use Rattle.bits.specs.Bits.{bitsOf};
 ghost use Rattle.modulation.specs.Modulation.{m000, threeNumber, lastBit};
 ghost use Rattle.modulation.specs.Sync.{sync, syncId, syncNumber};
-ghost use Rattle.frame.specs.Sync.{fs, fsNumber, syncGroup};
-ghost use Rattle.frame.specs.Written.{SyncWritten};
-ghost use Rattle.frame.specs.Reading.{hashAt, syncRight};
+ghost use Rattle.frame.specs.Sync.{fs, fsNumber, syncGroup, SyncWritten, hashAt, syncRight};
 
 // The sync numbers of recording frames 0 to 30 of an address unit.
 const SYNC_NUMBERS: [usize; 31] = [
@@ -59,7 +57,7 @@ const SYNC_IDS: [u8; 7] = [
     0b010_000,
 ];
 
-// The sync number of recording frame n of a cluster.
+// The sync number of recording frame n of a physical cluster.
 pub fn sync_number(n: usize) -> usize
     ensures { λ r. ⌜ (r ≡ fsNumber (syncNumber n)) × (r < 7) ⌝ }
 {
@@ -87,7 +85,7 @@ pub fn sync_end(number: usize) -> bool
     SYNC_IDS[number] % 2 == 1
 }
 
-// A frame sync, from bit `at` on.
+// A frame sync, from bit `at` on. For the crates of this repository.
 pub fn write_sync(hash: bool, number: usize, image: &mut [u8], at: usize)
     requires { ⌜ (number < 7) × (at + 30 < 18446744073709551616) ⌝ }
     ensures { λ _. ⌜ SyncWritten (fs number) hash (now (image .entry)) at (now (image .exit)) ⌝ }
@@ -106,7 +104,7 @@ pub fn hash_at(image: &[u8], at: usize) -> bool
     bits::read_bit(image, at) == 1
 }
 
-// Whether the 30 bits from `at` on are the frame sync of a number; its # is not judged.
+// Whether the 30 bits from `at` on are the frame sync of a number; its # is not judged. For the crates of this repository.
 pub fn sync_right(image: &[u8], at: usize, number: usize) -> bool
     requires { ⌜ (number < 7) × ((at + 30 ≤ 8 * length (now image)) × (at + 30 < 18446744073709551616)) ⌝ }
     ensures { λ r. ⌜ r ≡ syncRight (fs number) (bitsOf (now (image .entry))) at ⌝ }

@@ -3,8 +3,7 @@ ghost use mathlib.Core.Path.{_≡_};
 ghost use Prim.Native.Nat.{_+_, _*_, _<_};
 ghost use lib.ListN.{length, getD};
 ghost use Rattle.frame.specs.FrameBits.{frameBit, rowOf, dcOf};
-ghost use Rattle.frame.specs.Written.{PairsOf};
-ghost use Rattle.frame.specs.Reading.{Whole, bitsIn};
+ghost use Rattle.frame.specs.Slices.{Whole, PairsOf, bitsIn};
 
 // Bit j of the frame with a row's bytes and a dc word.
 pub fn frame_bit(row: &[u8], dc: u32, j: usize) -> u8
