@@ -1,11 +1,11 @@
-// Frame syncs: the constants of Figures 39 and 41.
+// Frame syncs (13.17.4): the constants of Figures 39 and 41, a sync written and judged.
 ghost use mathlib.Core.Path.{_≡_};
-ghost use mathlib.Core.Bool.{Bool, false};
-ghost use Prim.Native.Nat.{_+_, _*_, _%_, _<_, _≤_};
-ghost use lib.ListN.{length, getD};
+ghost use mathlib.Core.Bool.{false};
+ghost use Prim.Native.Nat.{_+_, _*_, _<_, _≤_};
+ghost use lib.ListN.{length};
 ghost use Rattle.bits.specs.Bits.{bitsOf};
-ghost use Rattle.modulation.specs.Modulation.{m000, threeNumber, lastBit};
-ghost use Rattle.modulation.specs.Sync.{sync, syncId, syncNumber};
+ghost use Rattle.modulation.specs.Modulation.{lastBit};
+ghost use Rattle.modulation.specs.Sync.{syncId, syncNumber};
 ghost use Rattle.frame.specs.Sync.{fs, fsNumber, syncGroup, SyncWritten, hashAt, syncRight};
 
 // The sync numbers of recording frames 0 to 30 of an address unit.
@@ -43,8 +43,8 @@ const SYNC_NUMBERS: [usize; 31] = [
     2,
 ];
 
-// The sync body, whose first bit, #, is ZERO here, in groups of three bits.
-const SYNC_BODY: [u8; 8] = [0b001, 0b010, 0b000, 0b000, 0b010, 0b000, 0b000, 0b010];
+// The sync body behind its first three bits, #01.
+const SYNC_BODY: [u8; 7] = [0b010, 0b000, 0b000, 0b010, 0b000, 0b000, 0b010];
 
 // The sync IDs of FS0 to FS6.
 const SYNC_IDS: [u8; 7] = [
@@ -64,7 +64,7 @@ pub fn sync_number(n: usize) -> usize
     SYNC_NUMBERS[n % 31]
 }
 
-// Group j of ten of a frame sync.
+// Group j of the ten of a frame sync: #01, the rest of the body, the ID.
 fn sync_group(hash: bool, number: usize, j: usize) -> u8
     requires { ⌜ (number < 7) × (j < 10) ⌝ }
     ensures { λ r. ⌜ r ≡ syncGroup (fs number) hash j ⌝ }
@@ -73,7 +73,7 @@ fn sync_group(hash: bool, number: usize, j: usize) -> u8
         0 => if hash { 0b101 } else { 0b001 },
         8 => SYNC_IDS[number] / 8,
         9 => SYNC_IDS[number] % 8,
-        _ => SYNC_BODY[j],
+        _ => SYNC_BODY[j - 1],
     }
 }
 
