@@ -15,8 +15,9 @@ use Rattle.modulation.specs.Pairs.{twos}
 use Rattle.modulator.proofs.Writing.{Left, left-none, left-more, left-length, same-slice, GroupsWritten, groups-none, groups-more, groups-all}
 use Rattle.modulation.proofs.Bits.{bits-append, length-bits}
 use Rattle.modulation.proofs.Streams.{length-sync}
-use Rattle.frame.specs.Sync.{syncGroup, SyncWritten}
-use Rattle.frame.specs.Frame.{framePairs, frame, frameGroups, FrameWritten}
+use Rattle.frame.specs.Sync.{syncGroup}
+use Rattle.frame.specs.Frame.{framePairs, frame, frameGroups}
+use Rattle.frame.specs.Written.{SyncWritten, FrameWritten}
 use Rattle.frame.specs.Slices.{PairsOf}
 
 -- ---- the sync

@@ -1,10 +1,7 @@
 -- 13.17: a modulated recording frame, 30 bits of frame sync and 1,902 modulation bits.
 use mathlib.Core.Bool.{Bool}
 use mathlib.Core.List.{List, _++_}
-use mathlib.Core.Path.{_≡_}
 use Prim.Native.Nat.{ℕ}
-use lib.Seq.{sets}
-use Rattle.bits.specs.Bits.{bitsOf}
 use Rattle.modulation.specs.Modulation.{Two, Three}
 use Rattle.modulation.specs.Bits.{pairs, bits}
 use Rattle.modulation.specs.Sync.{FS, sync}
@@ -26,9 +23,3 @@ frame hash n row dc = bits (frameGroups hash n row dc)
 -- # of the sync that follows
 abbrev pub nextHash : FS → List ℕ → ℕ → Bool
 nextHash n row dc = modulated n (framePairs row dc) .terminated
-
--- the frame stands from bit `at` on, and all else is as it was: `before` and `after` are the slice at entry and at exit; the answer is #
--- of the next sync
-pub record FrameWritten (n : FS) (hash : Bool) (row : List ℕ) (dc : ℕ) (before : List ℕ) (at : ℕ) (after : List ℕ) (answer : Bool) : Type 0 where
-  pub bits-are : bitsOf after ≡ sets (bitsOf before) at (frame hash n row dc)
-  pub next-is : answer ≡ nextHash n row dc

@@ -3,5 +3,6 @@ pub mod FrameBits
 pub mod Same
 pub mod Sync
 pub mod Frame
+pub mod Written
 pub mod Reading
 pub mod Slices

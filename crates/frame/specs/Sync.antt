@@ -1,12 +1,9 @@
--- Frame syncs by number, written and read (13.17.4, Figures 39 and 41).
+-- Frame syncs by number, and as they are read (13.17.4, Figures 39 and 41).
 use mathlib.Core.Bool.{Bool}
 use mathlib.Core.List.{List, [], _∷_}
-use mathlib.Core.Path.{_≡_}
 use Prim.Native.Nat.{ℕ}
 use lib.Dec.{eqb}
 use lib.ListN.{getD, take, drop}
-use lib.Seq.{sets}
-use Rattle.bits.specs.Bits.{bitsOf}
 use Rattle.modulation.specs.Modulation.{m000, threeNumber}
 use Rattle.modulation.specs.Bits.{bits}
 use Rattle.modulation.specs.Sync.{FS, FS0, FS1, FS2, FS3, FS4, FS5, FS6, sync}
@@ -29,10 +26,6 @@ fsNumber FS6 = 6
 -- group j of ten, as a number
 unfoldable pub syncGroup : FS → Bool → ℕ → ℕ
 syncGroup n hash j = threeNumber (getD (sync hash n) j m000)
-
--- sync n stands from bit `at` on, and all else is as it was: `before` and `after` are the slice at entry and at exit
-pub record SyncWritten (n : FS) (hash : Bool) (before : List ℕ) (at : ℕ) (after : List ℕ) : Type 0 where
-  pub bits-are : bitsOf after ≡ sets (bitsOf before) at (bits (sync hash n))
 
 -- # of the sync from bit `at` on
 abbrev pub hashAt : List ℕ → ℕ → Bool

@@ -7,7 +7,7 @@ ghost use mathlib.Core.Path.{_≡_};
 ghost use lib.ListN.{length, take, drop};
 ghost use Rattle.bits.specs.Bits.{bitsOf};
 ghost use Rattle.frame.specs.Sync.{fs};
-ghost use Rattle.frame.specs.Frame.{FrameWritten};
+ghost use Rattle.frame.specs.Written.{FrameWritten};
 ghost use Rattle.frame.specs.Reading.{StrictlyRead};
 pub use sync::hash_at;
 pub use sync::sync_number;

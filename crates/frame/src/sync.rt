@@ -6,7 +6,8 @@ ghost use lib.ListN.{length};
 ghost use Rattle.bits.specs.Bits.{bitsOf};
 ghost use Rattle.modulation.specs.Modulation.{lastBit};
 ghost use Rattle.modulation.specs.Sync.{syncId, syncNumber};
-ghost use Rattle.frame.specs.Sync.{fs, fsNumber, syncGroup, SyncWritten, hashAt, syncRight};
+ghost use Rattle.frame.specs.Sync.{fs, fsNumber, syncGroup, hashAt, syncRight};
+ghost use Rattle.frame.specs.Written.{SyncWritten};
 
 // The sync numbers of recording frames 0 to 30 of an address unit.
 const SYNC_NUMBERS: [usize; 31] = [

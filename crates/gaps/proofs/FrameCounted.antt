@@ -9,7 +9,8 @@ use lib.Seq.{sets-eq, take-at}
 use Rattle.bits.specs.Bits.{bitsOf}
 use Rattle.bits.proofs.Bits.{length-bits}
 use Rattle.modulation.specs.Sync.{FS}
-use Rattle.frame.specs.Frame.{frame, FrameWritten}
+use Rattle.frame.specs.Frame.{frame}
+use Rattle.frame.specs.Written.{FrameWritten}
 use Rattle.frame.proofs.Frame.{length-frame}
 use Rattle.gaps.specs.Gaps.{gapCounts}
 
