@@ -2,7 +2,7 @@
 use mathlib.Core.Bool.{Bool, true, false, false≢true, true≢false}
 use mathlib.Core.List.{List}
 use mathlib.Core.Path.{_≡_, sym, ap, subst, _∙_}
-use Prim.Native.Nat.{ℕ, _+_, _*_, _≤_}
+use Prim.Native.Nat.{ℕ, _*_}
 use native.Mathlib.Decide.{decLt}
 use native.Mathlib.Omega.{arith}
 use lib.ListN.{length, take, drop, length-map, List·getD-eq-default}
@@ -14,12 +14,12 @@ use Rattle.modulation.specs.Modulation.{Two, twoNumber, Modulated, modulate}
 use Rattle.modulation.specs.Bits.{bits, Gives}
 use Rattle.modulation.specs.Demodulator.{demodulate}
 use Rattle.modulation.specs.Pairs.{Pairs, twos, numbers}
-use Rattle.demodulator.specs.Demodulated.{Demodulated}
-use Rattle.demodulator.specs.Ahead.{Inside, frameAt, Compared}
 use Rattle.modulation.proofs.Pairs.{pairs-numbers, twos-numbers}
 use Rattle.modulation.proofs.Bits.{bits-injective}
-use Rattle.demodulator.proofs.Groups.{length-groupsAt, bits-groupsAt}
 use Rattle.modulation.proofs.Demodulator.{readable}
+use Rattle.demodulator.specs.Demodulated.{Demodulated}
+use Rattle.demodulator.specs.Ahead.{Inside, frameAt, Compared}
+use Rattle.demodulator.proofs.Groups.{length-groupsAt, bits-groupsAt}
 use Rattle.demodulator.proofs.Demodulating.{length-read}
 
 -- ---- zeros

@@ -9,15 +9,15 @@ use lib.ListN.{length, drop, drop-of-length-le}
 use lib.Seq.{drop-drop}
 use Rattle.modulation.specs.Modulation.{Three, threeNumber, rowAt, starts, terminates, Modulated, modulate}
 use Rattle.modulation.specs.Pairs.{twos}
-use Rattle.modulator.specs.Ahead.{Fitting}
-use Rattle.modulator.specs.Rows.{Sized}
-use Rattle.demodulator.specs.Ahead.{groupsAt, frameAt, Compared}
 use Rattle.modulation.proofs.Tests.{true-T, beq-same, beq-refl}
 use Rattle.modulation.proofs.Fronts.{three-injective, starts-split, starts-append}
 use Rattle.modulation.proofs.Words.{nextBit, inFront}
+use Rattle.modulator.specs.Ahead.{Fitting}
+use Rattle.modulator.specs.Rows.{Sized}
 use Rattle.modulator.proofs.Rows.{row-sized}
-use Rattle.demodulator.proofs.Groups.{length-groupsAt, groupsAt-drop}
 use Rattle.modulator.proofs.Modulating.{word-step, ends-step, words-end}
+use Rattle.demodulator.specs.Ahead.{groupsAt, frameAt, Compared}
+use Rattle.demodulator.proofs.Groups.{length-groupsAt, groupsAt-drop}
 
 -- the pairs l up to place i give the groups up to there; b is the bit before place i, t: some word passed was a terminating one
 pub record Comparing (c : List ℕ) (at : ℕ) (l : List ℕ) (before b t : Bool) (i : ℕ) : Type 0 where

@@ -12,15 +12,15 @@ use lib.Seq.{sets, sets-eq, length-sets, drop-drop}
 use Rattle.modulation.specs.Modulation.{Two, twoNumber, Three, rowAt}
 use Rattle.modulation.specs.Demodulator.{reads, rowRead, demodulateFrom}
 use Rattle.modulation.specs.Pairs.{numbers}
-use Rattle.demodulator.specs.Ahead.{groupsAt, Reading}
-use Rattle.modulator.specs.Rows.{Sized}
 use Rattle.modulation.proofs.Words.{nextBit}
-use Rattle.modulator.proofs.Rows.{row-sized}
-use Rattle.demodulator.proofs.Groups.{length-groupsAt, groupsAt-drop}
-use Rattle.modulator.proofs.Search.{first-cases}
-use Rattle.demodulator.proofs.Follow.{reading-found, reading-last}
 use Rattle.modulation.proofs.Demodulator.{word-front}
+use Rattle.modulator.specs.Rows.{Sized}
+use Rattle.modulator.proofs.Rows.{row-sized}
+use Rattle.modulator.proofs.Search.{first-cases}
 use Rattle.modulator.proofs.Writing.{Left, left-none, left-more, left-all}
+use Rattle.demodulator.specs.Ahead.{groupsAt, Reading}
+use Rattle.demodulator.proofs.Groups.{length-groupsAt, groupsAt-drop}
+use Rattle.demodulator.proofs.Follow.{reading-found, reading-last}
 
 -- ---- as many pairs as groups
 

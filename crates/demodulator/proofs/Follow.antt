@@ -8,20 +8,20 @@ use borrow.Author.Tests.{ne-eqb, le-leb, leb-true}
 use lib.Dec.{eqb, leb}
 use lib.ListN.{length, getD, drop}
 use Rattle.laws.specs.First.{first}
+use Rattle.bits.specs.declared.Step.{Step}
 use Rattle.bits.specs.Bits.{bitsOf, threeAt}
 use Rattle.bits.specs.Step.{enough, stepAt}
-use Rattle.bits.specs.declared.Step.{Step}
 use Rattle.bits.proofs.Bits.{length-bits as length-bitsOf, bits-bits}
-use Rattle.modulator.specs.declared.Row.{Row as CodeRow}
-use Rattle.modulator.specs.declared.When.{When as CodeWhen}
 use Rattle.modulation.specs.Modulation.{Three, m000, threeNumber, When, before-010, at-end, rowAt, starts, startsWith010, terminates}
 use Rattle.modulation.specs.Demodulator.{follows, agrees, reads, rowRead}
-use Rattle.modulator.specs.Rows.{coded, Sized}
-use Rattle.demodulator.specs.Ahead.{Inside, nextNumber, groupsAt, Reading}
 use Rattle.modulation.proofs.Tests.{and-left}
 use Rattle.modulation.proofs.Fronts.{three-below, groups-start}
-use Rattle.demodulator.proofs.Groups.{group-at}
+use Rattle.modulator.specs.declared.Row.{Row as CodeRow}
+use Rattle.modulator.specs.declared.When.{When as CodeWhen}
+use Rattle.modulator.specs.Rows.{coded, Sized}
 use Rattle.modulator.proofs.Rows.{row-sized, whenOf, code-when}
+use Rattle.demodulator.specs.Ahead.{Inside, nextNumber, groupsAt, Reading}
+use Rattle.demodulator.proofs.Groups.{group-at}
 
 -- group j, as `read_three` reads it
 pub group-read : {l : List ℕ} {at left : ℕ} (j : ℕ) {s : Step} → s ≡ stepAt (bitsOf l) (at + 3 * j) → Inside l at left → j < left

@@ -1,5 +1,5 @@
--- A loop that fills a list in an order of its own: turn i writes the place whose turn it is. Assumes nothing.
-use mathlib.Core.Path.{_≡_, sym, ap, _∙_}
+-- A loop that writes a list in an order of its own: turn q writes the place of q. Assumes nothing.
+use mathlib.Core.Path.{_≡_, refl, sym, ap, subst, _∙_}
 use mathlib.Core.List.{List}
 use Prim.Native.Nat.{ℕ, _+_, _<_}
 use native.Mathlib.Nat.{not-suc-le-zero}
@@ -8,35 +8,35 @@ use native.Mathlib.Omega.{arith}
 use lib.ListN.{length, getD, set, length-set}
 use lib.Seq.{getD-set-same, getD-set-other}
 use Rattle.laws.specs.Tabulate.{tabulate}
+use Rattle.laws.specs.Scatter.{Scattered}
 use Rattle.laws.proofs.Tabulate.{is-tabulate}
 
--- l has n elements, of which those whose turn is below i are f's
-pub record Scattered {A : Type 0} (d : A) (f : ℕ → A) (turn : ℕ → ℕ) (n i : ℕ) (l : List A) : Type 0 where
-  pub size : length l ≡ n
-  pub done : (k : ℕ) → k < n → turn k < i → getD l k d ≡ f k
+module _ {A : Type 0} {d : A} {place : ℕ → ℕ} {v : ℕ → A} {l₀ : List A} where
+  pub scattered-none : Scattered d place v l₀ 0 l₀
+  scattered-none = record { size = refl; done = λ q h. absurd (not-suc-le-zero h); kept = λ k _. refl }
 
-module _ {A : Type 0} {d : A} {f : ℕ → A} {turn : ℕ → ℕ} {n : ℕ} where
-  pub scattered-none : {l : List A} → length l ≡ n → Scattered d f turn n 0 l
-  scattered-none size = record { size = size; done = λ k h t. absurd (not-suc-le-zero t) }
+  -- one turn more, at a place that no turn before had
+  pub scattered-more : {i : ℕ} {l : List A} {x : A} → place i < length l₀ → ((q : ℕ) → q < i → place q ≡ place i → ⊥) → x ≡ v i
+      → Scattered d place v l₀ i l → Scattered d place v l₀ (i + 1) (set l (place i) x)
+  scattered-more {i} {l} {x} within new e s =
+      record {
+        size = length-set l (place i) x ∙ s .size;
+        done = λ q h.
+            elim (ℕ-discrete q i) [
+              | yes p ↦
+                  ap (λ (j : ℕ). getD (set l (place i) x) (place j) d) p ∙ getD-set-same l (place i) x d (omega (arith, s .size)) ∙ e ∙ ap v (sym p)
+              | no p ↦ getD-set-other l (place i) (place q) x d (λ r. new q (omega arith) r) ∙ s .done q (omega arith)
+            ];
+        kept = λ k free. getD-set-other l (place i) k x d (λ r. free i (omega arith) r) ∙ s .kept k (λ q h. free q (omega arith));
+      }
 
-  -- the turn of p, and of no other place, is i
-  pub scattered-more : {i : ℕ} {l : List A} {v : A} (p : ℕ) → p < n → ((k : ℕ) → k < n → turn k ≡ i → k ≡ p) → v ≡ f p
-      → Scattered d f turn n i l → Scattered d f turn n (i + 1) (set l p v)
-  scattered-more {i} {l} {v} p h only e s = record { size = length-set l p v ∙ s .size; done = at }
-    where
-      at : (k : ℕ) → k < n → turn k < i + 1 → getD (set l p v) k d ≡ f k
-      at k hk t =
-          elim (ℕ-discrete k p) [
-            | yes q ↦ ap (λ (j : ℕ). getD (set l p v) j d) q ∙ getD-set-same l p v d (omega (arith, s .size)) ∙ e ∙ ap f (sym q)
-            | no q ↦ getD-set-other l p k v d q ∙ s .done k hk (earlier k hk t q)
-          ]
-        where
-          earlier : (k : ℕ) → k < n → turn k < i + 1 → (k ≡ p → ⊥) → turn k < i
-          earlier k hk t q =
-              elim (ℕ-discrete (turn k) i) [
-                | yes r ↦ absurd (q (only k hk r))
-                | no r ↦ omega arith
-              ]
+  -- after the last turn
+  pub scattered-end : {i n : ℕ} {l : List A} → i ≡ n → Scattered d place v l₀ i l → Scattered d place v l₀ n l
+  scattered-end {i} {n} {l} e s = subst (λ (m : ℕ). Scattered d place v l₀ m l) e s
 
-  pub scattered-all : {i : ℕ} {l : List A} → ((k : ℕ) → k < n → turn k < i) → Scattered d f turn n i l → l ≡ tabulate n f
-  scattered-all {i} {l} every s = is-tabulate d n f l (s .size) (λ k lt. s .done k lt (every k lt))
+  -- the places are all of the list's, each with the turn that `turn` says
+  pub scattered-all : {i n : ℕ} {l : List A} (turn : ℕ → ℕ) → length l₀ ≡ n → ((k : ℕ) → k < n → (turn k < i) × (place (turn k) ≡ k))
+      → Scattered d place v l₀ i l → l ≡ tabulate n (λ k. v (turn k))
+  scattered-all {i} {n} {l} turn size every s =
+      is-tabulate d n (λ k. v (turn k)) l (s .size ∙ size)
+      (λ k h. ap (λ (j : ℕ). getD l j d) (sym (every k h .1)) ∙ s .done (turn k) (every k h .0))

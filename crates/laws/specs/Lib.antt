@@ -1,4 +1,5 @@
--- Lists given by their elements, bytes, and the lowest index that passes a test.
+-- Lists given by their elements or written at places, bytes, and the lowest index that passes a test.
 pub mod Tabulate
 pub mod Bytes
 pub mod First
+pub mod Scatter

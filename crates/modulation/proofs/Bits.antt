@@ -1,9 +1,10 @@
 -- Laws of bits, pairs and groups: lengths, and that each is had back from the other. Assumes nothing.
 use mathlib.Core.List.{List, [], _∷_, _++_}
 use mathlib.Core.Path.{_≡_, refl, sym, ap, ap₂, _∙_}
-use Prim.Native.Nat.{ℕ, suc, _+_, _*_, _<_, _/_, _%_}
+use Prim.Native.Nat.{ℕ, zero, suc, _+_, _*_, _<_, _/_, _%_}
 use native.Mathlib.Omega.{arith}
-use lib.ListN.{length}
+use lib.ListN.{length, take, drop}
+use lib.Seq.{take-nil, drop-nil}
 use Rattle.laws.proofs.Finite.{all, all₂, equal-below₂}
 use Rattle.bits.specs.Bits.{Bits, threeOf}
 use Rattle.modulation.specs.Modulation.{Two, d00, d01, d10, d11, twoNumber, Three, m000, m001, m010, m011, m100, m101, m110, m111, threeNumber}
@@ -18,6 +19,20 @@ bits-append (m ∷ a) c = ap (λ (l : List ℕ). threeOf (threeNumber m) ++ l) (
 pub length-bits : (ms : List Three) → length (bits ms) ≡ 3 * length ms
 length-bits [] = refl
 length-bits (m ∷ ms) = omega (arith, length-bits ms)
+
+three-more : (n : ℕ) → 3 * suc n ≡ suc (suc (suc (3 * n)))
+three-more n = omega arith
+
+-- the first n groups, and those behind them
+pub bits-take : (n : ℕ) (ms : List Three) → take (3 * n) (bits ms) ≡ bits (take n ms)
+bits-take zero ms = refl
+bits-take (suc n) [] = take-nil (3 * suc n)
+bits-take (suc n) (m ∷ ms) = ap (λ (k : ℕ). take k (bits (m ∷ ms))) (three-more n) ∙ ap (λ (l : List ℕ). threeOf (threeNumber m) ++ l) (bits-take n ms)
+
+pub bits-drop : (n : ℕ) (ms : List Three) → drop (3 * n) (bits ms) ≡ bits (drop n ms)
+bits-drop zero ms = refl
+bits-drop (suc n) [] = drop-nil (3 * suc n)
+bits-drop (suc n) (m ∷ ms) = ap (λ (k : ℕ). drop k (bits (m ∷ ms))) (three-more n) ∙ bits-drop n ms
 
 pub groups-bits : (ms : List Three) → groups (bits ms) ≡ ms
 groups-bits [] = refl

@@ -1,8 +1,8 @@
 -- The gaps of a run of frames. It is cut at the ones of each sync's body: between its last one and the first ones of the next sync the
 -- test of gaps holds, and the others bound the sync's long gaps. Assumes nothing.
 use mathlib.Core.Bool.{Bool, true, false, cond}
-use mathlib.Core.List.{List, [], _∷_, _++_, append-assoc, append-nil}
-use mathlib.Core.Logic.{_⊎_, inl, inr, ⊎-elim}
+use mathlib.Core.List.{List, [], _∷_, _++_, append-assoc}
+use mathlib.Core.Logic.{inl, inr, ⊎-elim}
 use mathlib.Core.Path.{_≡_, refl, sym, ap, subst, _∙_}
 use Prim.Native.Nat.{ℕ, zero, suc, _+_, _*_, _-_, _<_, _≤_}
 use native.Mathlib.Nat.{le-of-suc-le-suc, eq-or-lt-of-le}
@@ -22,45 +22,9 @@ use Rattle.modulation.proofs.Size.{size}
 use Rattle.modulation.proofs.Joined.{seven, in-first, in-second, first-in, second-in, one-side, between, no-two-zeros, window-within, window-first, window-second}
 use Rattle.modulation.proofs.Scan.{fine, fine-gaps, fine-no-seven}
 use Rattle.modulation.proofs.Spacing.{next, framed, piece, piece-fine}
-use Rattle.modulation.proofs.Streams.{length-syncId, length-sync, length-run-bits, full-less}
+use Rattle.modulation.proofs.Streams.{length-syncId, length-sync, length-run-bits, length-stream, full-less}
 
--- ---- one sync, whatever follows
-
-module _ (h : Bool) (n : FS) (t : List ℕ) where
-  zeros-from : (s k : ℕ) → T (all 8 (λ k. eqb (getD (bits (sync h n) ++ t) (s + k) 0) 0)) → s ≤ k → k < s + 8 → getD (bits (sync h n) ++ t) k 0 ≡ 0
-  zeros-from s k test low high =
-      ap (λ (p : ℕ). getD (bits (sync h n) ++ t) p 0) (same s k low)
-      ∙ equal-below 8 (λ k. getD (bits (sync h n) ++ t) (s + k) 0) (λ k. 0) test (k - s) (omega arith)
-    where
-      same : (s k : ℕ) → s ≤ k → k ≡ s + (k - s)
-      same s k h = omega arith
-
-  sync-long : LongGaps (bits (sync h n) ++ t) 0
-  unfolding all
-  sync-long =
-      record {
-        first = record { before = omega arith; one-i = refl; one-j = refl; zeros = λ k p q. zeros-from 5 k tt p (omega arith) };
-        second = record { before = omega arith; one-i = refl; one-j = refl; zeros = λ k p q. zeros-from 14 k tt p (omega arith) };
-      }
-
-  sync-ones : (i j : ℕ) → Neighbours (bits (sync h n) ++ t) i j → Gap i j ⊎ (22 ≤ i)
-  sync-ones i j m =
-      ⊎-elim
-      (λ l22. inl (⊎-elim
-      (λ l13. ⊎-elim
-      (λ l4. inr (fine-gaps (bits (next h)) 1 6 next-fine i j (in-first (bits (next h)) (drop 6 (bits (sync h n)) ++ t) i j (omega arith) m)))
-      (λ g4. long 4 13 (inl refl) refl (between (bits (sync h n) ++ t) 4 13 i j (sync-long .first) m g4 l13))
-      (one-side (bits (sync h n) ++ t) 4 i j refl m))
-      (λ g13. long 13 22 (inr refl) refl (between (bits (sync h n) ++ t) 13 22 i j (sync-long .second) m g13 l22))
-      (one-side (bits (sync h n) ++ t) 13 i j refl m)))
-      (λ g22. inr g22)
-      (one-side (bits (sync h n) ++ t) 22 i j refl m)
-    where
-      long : (p q : ℕ) → EndsLong q → q ≡ p + 9 → (i ≡ p) × (j ≡ q) → Gap i j
-      long p q e d s = inl (subst EndsLong (sym (s .1)) e, omega arith)
-
-      next-fine : T (fine (bits (next h)) 1 6)
-      next-fine = elim h [ true ↦ tt | false ↦ tt ]
+-- ---- one sync
 
 -- a sync in front of its last one, and from there on
 abbrev opening : Bool → List Three
@@ -69,31 +33,59 @@ opening h = cond h m101 m001 ∷ m010 ∷ m000 ∷ m000 ∷ m010 ∷ m000 ∷ m0
 abbrev closing : FS → List Three
 closing n = m010 ∷ syncId n
 
+next-fine : (h : Bool) → T (fine (bits (next h)) 1 6)
+next-fine h = elim h [ true ↦ tt | false ↦ tt ]
+
 closing-fine : (n : FS) → T (fine (bits (closing n)) 1 6)
 closing-fine n = elim n [ FS0 ↦ tt | FS1 ↦ tt | FS2 ↦ tt | FS3 ↦ tt | FS4 ↦ tt | FS5 ↦ tt | FS6 ↦ tt ]
 
--- ---- a sync alone
-
 module _ (h : Bool) (n : FS) where
-  sync-spaced : Spaced (bits (sync h n))
-  sync-spaced i j m =
-      ⊎-elim (λ g. g) (λ g. behind g) (sync-ones h n [] i j (subst (λ (l : List ℕ). Neighbours l i j) (sym (append-nil (bits (sync h n)))) m))
+  abbrev one : List ℕ
+  one = bits (sync h n)
+
+  zeros-from : (s k : ℕ) → T (all 8 (λ k. eqb (getD one (s + k) 0) 0)) → s ≤ k → k < s + 8 → getD one k 0 ≡ 0
+  zeros-from s k test low high =
+      ap (λ (p : ℕ). getD one p 0) (same s k low) ∙ equal-below 8 (λ k. getD one (s + k) 0) (λ k. 0) test (k - s) (omega arith)
     where
+      same : (s k : ℕ) → s ≤ k → k ≡ s + (k - s)
+      same s k h = omega arith
+
+  sync-long : LongGaps one 0
+  unfolding all
+  sync-long =
+      record {
+        first = record { before = omega arith; one-i = refl; one-j = refl; zeros = λ k p q. zeros-from 5 k tt p (omega arith) };
+        second = record { before = omega arith; one-i = refl; one-j = refl; zeros = λ k p q. zeros-from 14 k tt p (omega arith) };
+      }
+
+  -- cut at its ones at bits 4, 13 and 22
+  sync-spaced : Spaced one
+  sync-spaced i j m = ⊎-elim (λ l. up-to-22 l) (λ g. behind g) (one-side one 22 i j refl m)
+    where
+      long : (p q : ℕ) → EndsLong q → q ≡ p + 9 → (i ≡ p) × (j ≡ q) → Gap i j
+      long p q e d s = inl (subst EndsLong (sym (s .1)) e, omega arith)
+
+      up-to-4 : j ≤ 4 → Gap i j
+      up-to-4 l = inr (fine-gaps (bits (next h)) 1 6 (next-fine h) i j (in-first (bits (next h)) (drop 6 one) i j (omega arith) m))
+
+      up-to-13 : j ≤ 13 → Gap i j
+      up-to-13 l = ⊎-elim (λ l. up-to-4 l) (λ g. long 4 13 (inl refl) refl (between one 4 13 i j (sync-long .first) m g l)) (one-side one 4 i j refl m)
+
+      up-to-22 : j ≤ 22 → Gap i j
+      up-to-22 l = ⊎-elim (λ l. up-to-13 l) (λ g. long 13 22 (inr refl) refl (between one 13 22 i j (sync-long .second) m g l)) (one-side one 13 i j refl m)
+
       behind : 22 ≤ i → Gap i j
       behind g =
           let f = fine-gaps (bits (closing n)) 1 6 (closing-fine n) (i - 21) (j - 21) (in-second (bits (opening h)) (bits (closing n)) i j (omega arith) m) in
           inr (omega (arith, m .before))
 
-  sync-alone-long : LongGaps (bits (sync h n)) 0
-  sync-alone-long = subst (λ (l : List ℕ). LongGaps l 0) (append-nil (bits (sync h n))) (sync-long h n [])
-
-  sync-no-seven : NoSeven (bits (sync h n))
+  sync-no-seven : NoSeven one
   sync-no-seven i e =
       elim (decLt i 12) [
-        | yes l ↦ no-two-zeros (bits (sync h n)) i e 11 (omega arith) (omega arith) refl refl
+        | yes l ↦ no-two-zeros one i e 11 (omega arith) (omega arith) refl refl
         | no l ↦
-            let w = window-within (bits (sync h n)) i e in
-            no-two-zeros (bits (sync h n)) i e 20 (omega (arith, length-bits (sync h n), length-sync h n)) (omega arith) refl refl
+            let w = window-within one i e in
+            no-two-zeros one i e 20 (omega (arith, length-bits (sync h n), length-sync h n)) (omega arith) refl refl
       ]
 
 -- ---- a sync, its frame and the sync that follows
@@ -124,11 +116,7 @@ module _ (h : Bool) (n : FS) (ds : List Two) (n′ : FS) (full : length ds ≡ 6
   length-frame : length frame ≡ 634
   length-frame = size (lastBit false (syncId n)) ds ∙ full
 
-  -- it is cut at its first sync's end, in front of that sync's last one and behind the next one's first, and in front of the next sync
-  at-sync : whole ≡ bits (sync h n) ++ bits (frame ++ sync h′ n′)
-  unfolding block
-  at-sync = bits-append (sync h n) (frame ++ sync h′ n′)
-
+  -- it is cut in front of the sync's last one and behind the next sync's first ones, and in front of the next sync
   at-piece : whole ≡ bits (opening h) ++ (bits (piece n ds) ++ bits (core n′))
   unfolding block
   at-piece =
@@ -215,9 +203,6 @@ module _ (c : Recording) where
   abbrev blockAt : ℕ → List Three
   blockAt k = block (hash c k) (c .number k) (c .frames k) (c .number (suc k))
 
-  stream-bits : (n : ℕ) → bits (stream c n) ≡ bits (run c n) ++ bits (syncAt n)
-  stream-bits n = bits-append (run c n) (syncAt n)
-
   -- one frame more: behind the frames before it, and behind the run that ended with its sync
   more-block : (n : ℕ) → bits (stream c (suc n)) ≡ bits (run c n) ++ bits (blockAt n)
   unfolding run block
@@ -233,21 +218,10 @@ module _ (c : Recording) where
       regroup : stream c (suc n) ≡ stream c n ++ (modulated (c .number n) (c .frames n) .groups ++ syncAt (suc n))
       regroup = simp append-assoc
 
-  length-stream : (n : ℕ) → Full c n → length (bits (stream c n)) ≡ 1932 * n + 30
-  length-stream n full =
-      omega (
-        arith,
-        ap length (stream-bits n),
-        length-append (bits (run c n)) (bits (syncAt n)),
-        length-run-bits c n full,
-        length-bits (syncAt n),
-        length-sync (hash c n) (c .number n),
-      )
-
   last-long : (n : ℕ) → Full c n → LongGaps (bits (stream c n)) (1932 * n)
   last-long n full =
-      subst (λ (l : List ℕ). LongGaps l (1932 * n)) (sym (stream-bits n))
-      (subst (LongGaps (bits (run c n) ++ bits (syncAt n))) (length-run-bits c n full) (long-second (bits (run c n)) (bits (syncAt n)) (sync-alone-long (hash c n) (c .number n))))
+      subst (λ (l : List ℕ). LongGaps l (1932 * n)) (sym (bits-append (run c n) (syncAt n)))
+      (subst (LongGaps (bits (run c n) ++ bits (syncAt n))) (length-run-bits c n full) (long-second (bits (run c n)) (bits (syncAt n)) (sync-long (hash c n) (c .number n))))
 
   pub long-gaps : (n : ℕ) → Full c n → (k : ℕ) → k ≤ n → LongGaps (bits (stream c n)) (1932 * k)
   long-gaps zero full k h = subst (λ (p : ℕ). LongGaps (bits (stream c 0)) (1932 * p)) (none h) (last-long 0 full)
@@ -268,7 +242,7 @@ module _ (c : Recording) where
       let front = length-run-bits c n before in
       ⊎-elim
       (λ l. spaced n before i j
-      (in-first (bits (stream c n)) _ i j (omega (arith, length-stream n before)) (subst (λ (b : List ℕ). Neighbours b i j) (more-stream n) m)))
+      (in-first (bits (stream c n)) _ i j (omega (arith, length-stream c n before)) (subst (λ (b : List ℕ). Neighbours b i j) (more-stream n) m)))
       (λ l. gap-on n i j (omega arith) (m .before)
       (block-spaced (hash c n) (c .number n) (c .frames n) (c .number (suc n)) (full n (omega arith)) (i - 1932 * n) (j - 1932 * n)
       (subst (λ (k : ℕ). Neighbours (bits (blockAt n)) (i - k) (j - k)) front
@@ -284,7 +258,7 @@ module _ (c : Recording) where
       elim (decLt (i + 15) (1932 * n + 31)) [
         | yes l ↦
             no-seven n before i
-            (window-first (bits (stream c n)) _ i (omega (arith, length-stream n before)) (ap (λ (b : List ℕ). take 15 (drop i b)) (sym (more-stream n)) ∙ e))
+            (window-first (bits (stream c n)) _ i (omega (arith, length-stream c n before)) (ap (λ (b : List ℕ). take 15 (drop i b)) (sym (more-stream n)) ∙ e))
         | no l ↦
             block-no-seven (hash c n) (c .number n) (c .frames n) (c .number (suc n)) (full n (omega arith)) (i - length (bits (run c n)))
             (omega (arith, length-run-bits c n before))

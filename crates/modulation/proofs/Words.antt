@@ -9,9 +9,9 @@ use native.Mathlib.Omega.{arith}
 use lib.Dec.{T, eqb, eqb→eq, leb, leb→le, ltb, ltb→lt}
 use lib.ListN.{length, getD, drop, length-append}
 use Rattle.laws.proofs.Finite.{all, all-at}
+use Rattle.modulation.specs.Modulation.{Two, d00, d01, d10, d11, twoNumber, Row, rows, noRow, rowAt, starts, fits, choose, Rest, behind, Modulated, terminates, lastBit, modulateFrom, modulate}
 use Rattle.modulation.proofs.Fronts.{two-injective, starts-split}
 use Rattle.modulation.proofs.Tests.{and-left}
-use Rattle.modulation.specs.Modulation.{Two, d00, d01, d10, d11, twoNumber, Row, rows, noRow, starts, fits, choose, Rest, behind, Modulated, terminates, lastBit, modulateFrom, modulate}
 
 -- ---- the first row that passes
 
@@ -50,13 +50,13 @@ module _ (passes : Row → Bool) where
 
 -- ---- some row fits
 
-record Fitting (b : Bool) (ds : List Two) (rest : Rest) : Type 0 where
+record Fits (b : Bool) (ds : List Two) (rest : Rest) : Type 0 where
   index : ℕ
   below : T (ltb index 16)
-  fit : fits (getD rows index noRow) b ds rest ≡ true
+  fit : fits (rowAt index) b ds rest ≡ true
 
 -- some row fits at the front of every list but the empty one
-some-fits : (b : Bool) (d : Two) (ds : List Two) (rest : Rest) → Fitting b (d ∷ ds) rest
+some-fits : (b : Bool) (d : Two) (ds : List Two) (rest : Rest) → Fits b (d ∷ ds) rest
 some-fits b d00 [] rest = record { index = 15; below = tt; fit = refl }
 some-fits b d00 (d00 ∷ []) rest = record { index = 14; below = tt; fit = refl }
 some-fits b d00 (d00 ∷ d00 ∷ ds) rest = record { index = 2; below = tt; fit = refl }
@@ -72,8 +72,8 @@ some-fits true d11 ds rest = record { index = 12; below = tt; fit = refl }
 some-fits false d11 ds rest = record { index = 13; below = tt; fit = refl }
 
 -- a fact of every row, by a test that is computed
-pub row-fact : (p : Row → Bool) → T (all 16 (λ k. p (getD rows k noRow))) → {passes : Row → Bool} {r : Row} → First passes rows r → T (p r)
-row-fact p t f = subst (λ (r : Row). T (p r)) (f .is) (all-at 16 (λ k. p (getD rows k noRow)) t (f .index) (f .below))
+pub row-fact : (p : Row → Bool) → T (all 16 (λ k. p (rowAt k))) → {passes : Row → Bool} {r : Row} → First passes rows r → T (p r)
+row-fact p t f = subst (λ (r : Row). T (p r)) (f .is) (all-at 16 (λ k. p (rowAt k)) t (f .index) (f .below))
 
 -- a row has as many groups as pairs, and one at least
 pub row-size : {passes : Row → Bool} {r : Row} → First passes rows r → (length (r .groups) ≡ length (r .pairs)) × (1 ≤ length (r .pairs))
@@ -142,13 +142,14 @@ module _ (b : Bool) (d : Two) (ds : List Two) where
   word-at =
       let r = choose passes rows in
       let n = length (r .pairs) in
+      let behind-word = skip ds (n - 1) (nextBit r) ∙ ap (modulate (nextBit r)) (drop-behind d ds n (row-size chosen .1)) in
       record {
         row = r;
         rest = drop n (d ∷ ds);
         first = chosen;
         split = starts-split twoNumber two-injective (r .pairs) (d ∷ ds) (and-left (starts twoNumber (r .pairs) (d ∷ ds)) _ (chosen .passed));
-        behind-is = skip ds (n - 1) (nextBit r) ∙ ap (modulate (nextBit r)) (drop-behind d ds n (row-size chosen .1));
-        gives = ap (inFront r) (skip ds (n - 1) (nextBit r) ∙ ap (modulate (nextBit r)) (drop-behind d ds n (row-size chosen .1)));
+        behind-is = behind-word;
+        gives = ap (inFront r) behind-word;
       }
 
 -- what holds of the empty list, and of a list if it holds of what its first word leaves, holds of every list

@@ -9,14 +9,14 @@ use borrow.Author.Tests.{le-leb, lt-leb}
 use lib.Dec.{eqb, leb}
 use lib.ListN.{length, getD, take, drop}
 use Rattle.bits.specs.Bits.{number}
-use Rattle.modulator.specs.declared.Row.{Row as CodeRow}
 use Rattle.modulation.specs.Modulation.{Two, d00, twoNumber, rowAt, starts}
 use Rattle.modulation.specs.Bits.{dataBits}
-use Rattle.modulator.specs.Rows.{coded}
 use Rattle.modulation.specs.Pairs.{Pairs, twos}
-use Rattle.modulator.specs.Ahead.{Fronts, PairsAhead}
 use Rattle.modulation.proofs.Pairs.{pair-at}
 use Rattle.modulation.proofs.Fronts.{pairs-start, pair-more}
+use Rattle.modulator.specs.declared.Row.{Row as CodeRow}
+use Rattle.modulator.specs.Rows.{coded}
+use Rattle.modulator.specs.Ahead.{Fronts, PairsAhead}
 use Rattle.modulator.proofs.Rows.{code-sized}
 
 -- ---- the numbers of the first elements, each from the one before

@@ -9,16 +9,16 @@ use borrow.Author.Tests.{leb-true}
 use lib.Dec.{eqb, leb}
 use lib.ListN.{length, drop}
 use lib.Seq.{drop-drop, drop-nil}
-use Rattle.modulator.specs.declared.Row.{Row as CodeRow}
-use Rattle.modulator.specs.declared.When.{When as CodeWhen}
 use Rattle.modulation.specs.Modulation.{Two, twoNumber, When, before-010, at-end, rowAt, starts, startsWith010, allowed, fits, Modulated, modulateFrom, modulate}
-use Rattle.modulator.specs.Rows.{coded}
 use Rattle.modulation.specs.Pairs.{twos}
 use Rattle.modulation.proofs.Tests.{and-left}
 use Rattle.modulation.proofs.Fronts.{pairs-start}
 use Rattle.modulation.proofs.Words.{drop-behind, skip, nextBit}
-use Rattle.modulator.proofs.Rows.{code-sized, whenOf, code-when}
 use Rattle.modulation.proofs.Pairs.{pairs-left}
+use Rattle.modulator.specs.declared.Row.{Row as CodeRow}
+use Rattle.modulator.specs.declared.When.{When as CodeWhen}
+use Rattle.modulator.specs.Rows.{coded}
+use Rattle.modulator.proofs.Rows.{code-sized, whenOf, code-when}
 use Rattle.modulator.proofs.Next.{next-010}
 
 -- behind a word of n pairs at place i

@@ -12,11 +12,11 @@ use Rattle.bits.specs.Bits.{bitsOf}
 use Rattle.modulation.specs.Modulation.{Two, Row, rowAt, fits, terminates, Modulated, modulateFrom, modulate}
 use Rattle.modulation.specs.Bits.{bits}
 use Rattle.modulation.specs.Pairs.{twos}
-use Rattle.modulator.specs.Ahead.{fittingRow, Fitting}
-use Rattle.modulator.specs.Rows.{Sized}
 use Rattle.modulation.proofs.Bits.{bits-append, length-bits}
 use Rattle.modulation.proofs.Words.{Word, word-at, modulate-none, nextBit, inFront}
 use Rattle.modulation.proofs.Pairs.{length-twos, pairs-left}
+use Rattle.modulator.specs.Ahead.{fittingRow, Fitting}
+use Rattle.modulator.specs.Rows.{Sized}
 use Rattle.modulator.proofs.Writing.{Left, left-none, left-more, left-all, left-length, same-slice}
 
 -- ---- the word at a place

@@ -10,13 +10,13 @@ use lib.Dec.{T, eqb, eqb→eq, leb, leb→le, ltb}
 use lib.ListN.{length, getD}
 use Rattle.laws.proofs.Finite.{all, all-at, all₂, all₂-at, equal-below, bounded-below}
 use Rattle.bits.specs.Bits.{number}
+use Rattle.modulation.specs.Modulation.{When, always, after-one, after-zero, before-010, at-end, d00, twoNumber, Three, m000, threeNumber, rowAt, startsWith010, lastBit, terminates}
+use Rattle.modulation.specs.Bits.{dataBits, bits}
+use Rattle.modulation.proofs.Tests.{implies, given, beq-same}
 use Rattle.modulator.specs.declared.Row.{Row as CodeRow}
 use Rattle.modulator.specs.declared.When.{When as CodeWhen}
 use Rattle.modulator.specs.declared.When.the-variants.{Always, AfterOne, AfterZero, Before010, AtEnd}
-use Rattle.modulation.specs.Modulation.{When, always, after-one, after-zero, before-010, at-end, d00, twoNumber, Three, m000, threeNumber, rowAt, startsWith010, lastBit, terminates}
-use Rattle.modulation.specs.Bits.{dataBits, bits}
 use Rattle.modulator.specs.Rows.{Sized, codedWhen, coded}
-use Rattle.modulation.proofs.Tests.{implies, given, beq-same}
 
 pub row-sized : (k : ℕ) → k < 16 → Sized k (length (rowAt k .pairs))
 unfolding all

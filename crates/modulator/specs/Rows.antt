@@ -1,13 +1,13 @@
 -- A row of Figure 38 as the code's table has it.
-use Prim.Native.Nat.{ℕ, _<_, _≤_}
 use mathlib.Core.Path.{_≡_}
+use Prim.Native.Nat.{ℕ, _<_, _≤_}
 use lib.ListN.{length}
 use Rattle.bits.specs.Bits.{number}
+use Rattle.modulation.specs.Modulation.{Row, When, always, after-one, after-zero, before-010, at-end, rowAt}
+use Rattle.modulation.specs.Bits.{dataBits, bits}
 use Rattle.modulator.specs.declared.Row.{Row as CodeRow}
 use Rattle.modulator.specs.declared.When.{When as CodeWhen}
 use Rattle.modulator.specs.declared.When.the-variants.{Always, AfterOne, AfterZero, Before010, AtEnd}
-use Rattle.modulation.specs.Modulation.{Row, When, always, after-one, after-zero, before-010, at-end, rowAt}
-use Rattle.modulation.specs.Bits.{dataBits, bits}
 
 abbrev pub codedWhen : When → CodeWhen
 codedWhen always = Always

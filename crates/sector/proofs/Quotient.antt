@@ -4,7 +4,7 @@ use Prim.Native.Nat.{ℕ, _+_, _*_, _/_, _%_, _^_, _<_}
 use native.Mathlib.Nat.{mod-lt, add-comm, zero-mul, div-eq-of-lt}
 use native.Mathlib.Omega.{arith}
 use lib.Bits.{bitXor, xor-comm, xor-self, xor-zero-r, xor-lt, xor-shr}
-use lib.Pow.{pow-pos, split, shr-shr, shr-le}
+use lib.Pow.{pow-pos, split, shr-shr}
 use Rattle.laws.proofs.Xor.{xor-assoc, xor-cancel}
 use Rattle.sector.specs.Edc.{timesG, edcOf, fourBytes}
 use Rattle.sector.proofs.Xor.{xor-left, xor-twice, xor-equal, xor-scaled, raised}
@@ -27,10 +27,6 @@ folded-comm j k x = rw (xor-shr x (x / 2 ^ k) j, xor-shr x (x / 2 ^ j) k, shr-sh
 folded-xor : (k x y : ℕ) → folded k (bitXor x y) ≡ bitXor (folded k x) (folded k y)
 unfolding folded
 folded-xor k x y = rw (xor-shr x y k) (simp (xor-assoc, xor-comm))
-
-folded-lt : (n k x : ℕ) → x < 2 ^ n → folded k x < 2 ^ n
-unfolding folded
-folded-lt n k x h = xor-lt n x (x / 2 ^ k) h (omega (arith, shr-le x k))
 
 folded-out : (k x : ℕ) → x < 2 ^ k → folded k x ≡ x
 unfolding folded

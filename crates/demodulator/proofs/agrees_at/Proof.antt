@@ -1,6 +1,7 @@
+-- `agrees_at` meets its contract, by the row's condition (Follow). Assumes nothing.
 use mathlib.Core.Path.{refl}
-use Rattle.demodulator.proofs.Follow.{agrees-if, agrees-010, agrees-end}
 use borrow.Author.Needs.{needs}
+use Rattle.demodulator.proofs.Follow.{agrees-if, agrees-010, agrees-end}
 use Rattle.demodulator.proofs.agrees_at.Statement.{statement}
 use Rattle.demodulator.proofs.agrees_at.Tie as tie
 

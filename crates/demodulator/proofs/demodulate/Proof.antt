@@ -1,7 +1,7 @@
+-- `demodulate` meets its contract: what was read gives the groups, or nothing does (Answer). Assumes nothing.
 use native.Mathlib.Omega.{arith}
-use lib.ListN.{length}
-use Rattle.demodulator.proofs.Answer.{read-pairs, read-size, answer-found, answer-none}
 use borrow.Author.Needs.{needs}
+use Rattle.demodulator.proofs.Answer.{read-pairs, read-size, answer-found, answer-none}
 use Rattle.demodulator.proofs.demodulate.Statement.{statement}
 use Rattle.demodulator.proofs.demodulate.Tie as tie
 

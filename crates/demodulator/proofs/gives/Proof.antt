@@ -1,11 +1,12 @@
+-- `gives` meets its contract: a word a turn is compared (Comparing). Assumes nothing.
 use mathlib.Core.Bool.{Bool, _||_}
 use mathlib.Core.Path.{ap}
 use Prim.Native.Nat.{_+_, _*_, _-_}
 use borrow.Author.Tests.{not-true, not-false}
-use Rattle.demodulator.proofs.Groups.{length-groupsAt}
 use borrow.Author.Needs.{needs}
 use lib.ListN.{length}
 use Rattle.bits.specs.Bits.{bitsOf}
+use Rattle.demodulator.proofs.Groups.{length-groupsAt}
 use Rattle.demodulator.proofs.Comparing.{Comparing, comparing-none, comparing-not, comparing-more, comparing-all}
 use Rattle.demodulator.proofs.gives.Statement.{statement}
 use Rattle.demodulator.proofs.gives.Tie as tie

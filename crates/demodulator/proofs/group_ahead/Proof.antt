@@ -1,5 +1,6 @@
-use Rattle.demodulator.proofs.Follow.{group-read}
+-- `group_ahead` meets its contract: a step of the image reader gives the group (Follow). Assumes nothing.
 use borrow.Author.Needs.{needs}
+use Rattle.demodulator.proofs.Follow.{group-read}
 use Rattle.demodulator.proofs.group_ahead.Statement.{statement}
 use Rattle.demodulator.proofs.group_ahead.Tie as tie
 

@@ -1,6 +1,7 @@
-use Rattle.demodulator.proofs.Ahead.{next-behind, next-end}
+-- `group_behind` meets its contract: the last three bits of a number (Ahead). Assumes nothing.
 use native.Mathlib.Omega.{arith}
 use borrow.Author.Needs.{needs}
+use Rattle.demodulator.proofs.Ahead.{next-behind, next-end}
 use Rattle.demodulator.proofs.group_behind.Statement.{statement}
 use Rattle.demodulator.proofs.group_behind.Tie as tie
 

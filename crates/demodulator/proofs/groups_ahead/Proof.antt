@@ -1,8 +1,9 @@
+-- `groups_ahead` meets its contract: each number from the one before (Ahead). Assumes nothing.
+use borrow.Author.Needs.{needs}
 use Rattle.bits.specs.Bits.{bitsOf}
 use Rattle.demodulator.specs.Ahead.{groupsAt}
 use Rattle.demodulator.proofs.Groups.{length-groupsAt}
 use Rattle.demodulator.proofs.Ahead.{groups-front}
-use borrow.Author.Needs.{needs}
 use Rattle.demodulator.proofs.groups_ahead.Statement.{statement}
 use Rattle.demodulator.proofs.groups_ahead.Tie as tie
 

@@ -1,7 +1,8 @@
-use Rattle.demodulator.proofs.Ahead.{groups-not, groups-if}
-use Rattle.modulator.proofs.Rows.{code-sized}
+-- `groups_stand` meets its contract: equal numbers are equal groups (Ahead). Assumes nothing.
 use native.Mathlib.Omega.{arith}
 use borrow.Author.Needs.{needs}
+use Rattle.modulator.proofs.Rows.{code-sized}
+use Rattle.demodulator.proofs.Ahead.{groups-not, groups-if}
 use Rattle.demodulator.proofs.groups_stand.Statement.{statement}
 use Rattle.demodulator.proofs.groups_stand.Tie as tie
 

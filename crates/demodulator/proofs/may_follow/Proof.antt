@@ -1,10 +1,11 @@
+-- `may_follow` meets its contract, at the end of the frame and before it (Follow). Assumes nothing.
 use mathlib.Core.Bool.{Bool, Bool·beq, not}
 use mathlib.Core.Path.{sym, ap, _∙_}
 use Prim.Native.Nat.{ℕ}
+use borrow.Author.Needs.{needs}
 use lib.Dec.{eqb}
 use Rattle.modulation.specs.Modulation.{rowAt}
 use Rattle.demodulator.proofs.Follow.{follow-end, follow-more}
-use borrow.Author.Needs.{needs}
 use Rattle.demodulator.proofs.may_follow.Statement.{statement}
 use Rattle.demodulator.proofs.may_follow.Tie as tie
 

@@ -1,6 +1,7 @@
+-- `put_pairs` meets its contract: the row's pairs are put one by one (Putting). Assumes nothing.
 use Prim.Native.Nat.{_-_}
-use borrow.Author.Needs.{needs}
 use native.Mathlib.Omega.{arith}
+use borrow.Author.Needs.{needs}
 use Rattle.modulation.specs.Modulation.{rowAt}
 use Rattle.modulator.specs.Rows.{Sized}
 use Rattle.modulator.proofs.Writing.{left-length}

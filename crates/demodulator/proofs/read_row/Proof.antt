@@ -1,15 +1,15 @@
+-- `read_row` meets its contract: a search through the rows (Search of modulator), and the row found (Follow). Assumes nothing.
 use Prim.Native.Nat.{_-_}
 use borrow.Author.Needs.{needs}
 use Rattle.bits.specs.Bits.{bitsOf}
 use Rattle.modulation.specs.Modulation.{rowAt}
 use Rattle.modulation.specs.Demodulator.{reads}
+use Rattle.modulator.proofs.Search.{Searched, searched-none, searched-more, searched-found, searched-all}
 use Rattle.demodulator.specs.Ahead.{groupsAt}
 use Rattle.demodulator.proofs.Groups.{length-groupsAt}
-use Rattle.modulator.proofs.Search.{Searched, searched-none, searched-more, searched-found, searched-all}
 use Rattle.demodulator.proofs.Follow.{reading-found, reading-last}
 use Rattle.demodulator.proofs.read_row.Statement.{statement}
 use Rattle.demodulator.proofs.read_row.Tie as tie
-use Rattle.demodulator.proofs.read_row.Reads as reads
 
 abbrev Inv-loop : tie.InvT-loop
 Inv-loop bytes at left before hash ahead k₀ k = Searched (λ k. reads before hash (groupsAt (bitsOf bytes) at left) (rowAt k)) 15 k

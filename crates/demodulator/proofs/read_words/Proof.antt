@@ -1,3 +1,4 @@
+-- `read_words` meets its contract: a word a turn is read (Demodulating). Assumes nothing.
 use Prim.Native.Nat.{_-_}
 use borrow.Author.Needs.{needs}
 use lib.ListN.{length}

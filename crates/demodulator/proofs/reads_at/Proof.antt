@@ -1,8 +1,9 @@
+-- `reads_at` meets its contract, test by test (Follow). Assumes nothing.
+use borrow.Author.Tests.{not-true, not-false}
+use borrow.Author.Needs.{needs}
 use lib.ListN.{length, drop}
 use Rattle.modulation.specs.Modulation.{rowAt}
-use borrow.Author.Tests.{not-true, not-false}
 use Rattle.demodulator.proofs.Follow.{next-is, reads-not, reads-not-so, reads-if}
-use borrow.Author.Needs.{needs}
 use Rattle.demodulator.proofs.reads_at.Statement.{statement}
 use Rattle.demodulator.proofs.reads_at.Tie as tie
 

@@ -1,6 +1,7 @@
-use Rattle.modulation.proofs.Pairs.{pair-read, pair-past}
+-- `pair_ahead` meets its contract: a pair that is there, or none (Pairs of modulation). Assumes nothing.
 use native.Mathlib.Omega.{arith}
 use borrow.Author.Needs.{needs}
+use Rattle.modulation.proofs.Pairs.{pair-read, pair-past}
 use Rattle.modulator.proofs.pair_ahead.Statement.{statement}
 use Rattle.modulator.proofs.pair_ahead.Tie as tie
 

@@ -1,5 +1,6 @@
-use Rattle.modulator.proofs.Ahead.{pairs-front}
+-- `pairs_ahead` meets its contract: each number from the one before (Ahead). Assumes nothing.
 use borrow.Author.Needs.{needs}
+use Rattle.modulator.proofs.Ahead.{pairs-front}
 use Rattle.modulator.proofs.pairs_ahead.Statement.{statement}
 use Rattle.modulator.proofs.pairs_ahead.Tie as tie
 

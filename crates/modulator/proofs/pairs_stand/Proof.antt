@@ -1,7 +1,8 @@
-use Rattle.modulator.proofs.Ahead.{stands-not, stands-if}
-use Rattle.modulator.proofs.Rows.{code-sized}
+-- `pairs_stand` meets its contract: equal numbers are equal pairs (Ahead). Assumes nothing.
 use native.Mathlib.Omega.{arith}
 use borrow.Author.Needs.{needs}
+use Rattle.modulator.proofs.Ahead.{stands-not, stands-if}
+use Rattle.modulator.proofs.Rows.{code-sized}
 use Rattle.modulator.proofs.pairs_stand.Statement.{statement}
 use Rattle.modulator.proofs.pairs_stand.Tie as tie
 

@@ -1,0 +1,31 @@
+-- `code_word` meets its contract, from what its steps ensure.
+use Rattle.bis.specs.BisBlock.{codeWord}
+use borrow.Author.Needs.{needs}
+use Rattle.bis.proofs.code_word.Statement.{statement}
+use Rattle.bis.proofs.code_word.Tie as tie
+
+access-column-requires : tie.Need-access-column-requires
+access-column-requires c κs = search needs
+
+slice-aggregate-parity-32 : tie.Need-slice-aggregate-parity-32
+slice-aggregate-parity-32 c = search needs
+
+parity-32-requires : tie.Need-parity-32-requires
+parity-32-requires c κs = search needs
+
+joined-requires : tie.Need-joined-requires
+joined-requires c κs = search needs
+
+returns : tie.Need-returns
+unfolding codeWord
+returns c = cc
+
+pub code-word-spec : {M : Type 1} → statement M
+code-word-spec =
+    tie.close
+    (tie.spec
+    access-column-requires
+    slice-aggregate-parity-32
+    parity-32-requires
+    joined-requires
+    returns)

@@ -1,0 +1,45 @@
+-- `block_of` meets what `bis::block` asks: the PSN was judged, and an array of 592 has that length.
+use borrow.Author.Needs.{needs}
+use Rattle.bis_test.proofs.block_of.Statement.{statement}
+use Rattle.bis_test.proofs.block_of.Tie as tie
+
+judge-requires : tie.Need-judge-requires
+judge-requires c κs = search needs
+
+enum-told : tie.Need-enum-told
+enum-told c = search needs
+
+slice-aggregate-block : tie.Need-slice-aggregate-block
+slice-aggregate-block c = search needs
+
+block-requires : tie.Need-block-requires
+block-requires c κs = (search needs, cc)
+
+enum-told-2 : tie.Need-enum-told-2
+enum-told-2 c = search needs
+
+enum-told-3 : tie.Need-enum-told-3
+enum-told-3 c = search needs
+
+returns : tie.Need-returns
+returns c = search needs
+
+returns-2 : tie.Need-returns-2
+returns-2 c = search needs
+
+returns-3 : tie.Need-returns-3
+returns-3 c = search needs
+
+pub block-of-spec : {M : Type 1} → statement M
+block-of-spec =
+    tie.close
+    (tie.spec
+    judge-requires
+    enum-told
+    slice-aggregate-block
+    block-requires
+    enum-told-2
+    enum-told-3
+    returns
+    returns-2
+    returns-3)

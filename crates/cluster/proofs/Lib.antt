@@ -1,0 +1,6 @@
+-- The multiplexing both ways.
+pub mod Multiplex
+pub mod Places
+pub mod Loops
+pub mod Encoding
+pub mod Statements

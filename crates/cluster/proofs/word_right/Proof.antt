@@ -1,0 +1,34 @@
+-- `word_right` meets its contract: what was gathered is the code word (Loops).
+use Rattle.cluster.proofs.Loops.{word-read}
+use borrow.Author.Needs.{needs}
+use Rattle.cluster.proofs.word_right.Statement.{statement}
+use Rattle.cluster.proofs.word_right.Tie as tie
+
+zero-word-requires : tie.Need-zero-word-requires
+zero-word-requires c κs = search needs
+
+slice-aggregate-gather : tie.Need-slice-aggregate-gather
+slice-aggregate-gather c = search needs
+
+gather-requires : tie.Need-gather-requires
+gather-requires c κs = search needs
+
+slice-aggregate-has-roots : tie.Need-slice-aggregate-has-roots
+slice-aggregate-has-roots c = search needs
+
+has-roots-requires : tie.Need-has-roots-requires
+has-roots-requires c κs = search needs
+
+returns : tie.Need-returns
+returns c = search (word-read)
+
+pub word-right-spec : {M : Type 1} → statement M
+word-right-spec =
+    tie.close
+    (tie.spec
+    zero-word-requires
+    slice-aggregate-gather
+    gather-requires
+    slice-aggregate-has-roots
+    has-roots-requires
+    returns)

@@ -1,0 +1,3 @@
+-- Demand 3.
+pub mod Recordings
+pub mod Demand3

@@ -1,0 +1,57 @@
+-- 13.14 to 13.17: the physical cluster of an input, 496 modulated recording frames and the frame sync that follows them.
+use mathlib.Core.Path.{_≡_}
+use mathlib.Core.Bool.{Bool, false}
+use mathlib.Core.List.{List, [], _∷_, _++_}
+use Prim.Native.Nat.{ℕ, _≤_, _<_}
+use lib.ListN.{length, getD}
+use Rattle.bits.specs.Bits.{packed}
+use Rattle.address.specs.declared.Judged.the-variants.{Accepted}
+use Rattle.address.specs.Judged.{judged}
+use Rattle.modulation.specs.Bits.{bits}
+use Rattle.modulation.specs.Sync.{syncNumber}
+use Rattle.modulation.specs.Stream.{Recording, stream}
+use Rattle.frame.specs.Frame.{framePairs}
+use Rattle.bis.specs.AccessBlock.{Side}
+use Rattle.cluster.specs.EccCluster.{User, eccCluster, rowOf}
+
+-- what an image is made of; side data is document 01's term for the flag bytes and the user control data (the demand's control data)
+pub record Input : Type 0 where
+  pub user : List ℕ
+  pub psn : ℕ
+  pub side : List ℕ
+  pub dc : List ℕ
+
+-- 496 dc words, one for each frame, none above 0FFFFFFFh
+pub record Words (dc : List ℕ) : Type 0 where
+  pub size : length dc ≡ 496
+  pub small : (n : ℕ) → n < 496 → getD dc n 0 ≤ 0x0FFF_FFFF
+
+-- 65,536 user bytes, a PSN that is a multiple of 32 and lies in a data zone, 592 bytes of side data, 496 dc words
+pub record IsAccepted (input : Input) : Type 0 where
+  pub user : User (input .user)
+  pub psn : judged (input .psn) ≡ Accepted
+  pub side : Side (input .side)
+  pub dc : Words (input .dc)
+
+-- its ECC cluster
+abbrev pub cluster : Input → List ℕ
+cluster input = eccCluster (input .user) (input .psn) (input .side)
+
+-- the recording of an ECC cluster: its row n, with dc word n, behind the sync of frame n (Figure 41); # of the first sync is given
+abbrev pub recordingOf : Bool → List ℕ → List ℕ → Recording
+recordingOf first work dc = record { first = first; number = syncNumber; frames = λ n. framePairs (rowOf work n) (getD dc n 0) }
+
+abbrev pub recording : Bool → Input → Recording
+recording first input = recordingOf first (cluster input) (input .dc)
+
+-- the 496 frames and the sync that follows, FS0: 958,302 bits
+unfoldable pub imageBitsFrom : Bool → Input → List ℕ
+imageBitsFrom first input = bits (stream (recording first input) 496)
+
+-- # of frame 0 is ZERO (document 01)
+abbrev pub imageBits : Input → List ℕ
+imageBits input = imageBitsFrom false input
+
+-- then two zero bits, and packed msb first: 119,788 bytes
+unfoldable pub image : Input → List ℕ
+image input = packed (imageBits input ++ (0 ∷ 0 ∷ []))

@@ -1,0 +1,2 @@
+-- The image of a cluster.
+pub mod Image

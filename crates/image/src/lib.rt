@@ -1,0 +1,1 @@
+// The image of a physical cluster, as a definition. No code.

@@ -1,0 +1,49 @@
+-- `put_frames` meets its contract: each turn writes a frame behind those before it (Frames).
+use native.Mathlib.Omega.{arith}
+use Prim.Native.Nat.{_-_, _≤_}
+use borrow.Author.Needs.{needs}
+use Rattle.writer.specs.Written.{FramesWritten}
+use Rattle.writer.proofs.Frames.{frames-none, frames-more, frames-end}
+use Rattle.writer.proofs.put_frames.Statement.{statement}
+use Rattle.writer.proofs.put_frames.Tie as tie
+
+abbrev Inv-loop : tie.InvT-loop
+Inv-loop work dc image₀ hash₀ n₀ image hash n = (n ≤ 496) × FramesWritten work dc image₀ n image hash
+
+abbrev μ-loop : tie.MeasureT-loop
+μ-loop work dc image₀ hash₀ n₀ image hash n = 496 - n
+
+loop-holds : tie.Need-loop-holds Inv-loop μ-loop
+loop-holds c = (omega arith, frames-none _ _ _)
+
+put-frame-requires : tie.Need-put-frame-requires Inv-loop μ-loop
+put-frame-requires c κs = search needs
+
+add-n : tie.Need-add-n Inv-loop μ-loop
+add-n c = search needs
+
+loop-less : tie.Need-loop-less Inv-loop μ-loop
+loop-less c = search needs
+
+loop-again : tie.Need-loop-again Inv-loop μ-loop
+loop-again c = (omega arith, search (frames-more))
+
+same-length : tie.Need-same-length Inv-loop μ-loop
+same-length c = search needs
+
+returns : tie.Need-returns Inv-loop μ-loop
+returns c = search (frames-end, arith)
+
+pub put-frames-spec : {M : Type 1} → statement M
+put-frames-spec =
+    tie.close
+    (tie.spec
+    Inv-loop
+    μ-loop
+    loop-holds
+    put-frame-requires
+    add-n
+    loop-less
+    loop-again
+    same-length
+    returns)

@@ -1,0 +1,38 @@
+-- `write_image` meets its contract: what was judged decides between writing and refusing (Judging).
+use Rattle.writer.proofs.Judging.{may-write, is-written, is-refused}
+use borrow.Author.Needs.{needs}
+use Rattle.writer.proofs.write_image.Statement.{statement}
+use Rattle.writer.proofs.write_image.Tie as tie
+
+judge-requires : tie.Need-judge-requires
+judge-requires c κs = search needs
+
+is-done-requires : tie.Need-is-done-requires
+is-done-requires c κs = search needs
+
+write-requires : tie.Need-write-requires
+write-requires c κs = search (may-write)
+
+same-length : tie.Need-same-length
+same-length c = search needs
+
+same-length-2 : tie.Need-same-length-2
+same-length-2 c = search needs
+
+returns : tie.Need-returns
+returns c = search (is-written)
+
+returns-2 : tie.Need-returns-2
+returns-2 c = search (is-refused)
+
+pub write-image-spec : {M : Type 1} → statement M
+write-image-spec =
+    tie.close
+    (tie.spec
+    judge-requires
+    is-done-requires
+    write-requires
+    same-length
+    same-length-2
+    returns
+    returns-2)

@@ -1,0 +1,4 @@
+-- What the writer answers and leaves.
+pub mod Answer
+pub mod Outcome
+pub mod Written

@@ -1,0 +1,164 @@
+// The writer: the image of a cluster, from its user bytes, PSN, side data and dc words.
+use address::Judged;
+use address::Psn;
+ghost use mathlib.Core.Path.{_≡_};
+ghost use Prim.Native.Nat.{_*_, _<_};
+ghost use lib.ListN.{length, getD};
+ghost use Rattle.address.specs.Judged.{judged};
+ghost use Rattle.modulation.specs.Sync.{syncNumber};
+ghost use Rattle.frame.specs.Written.{FrameWritten};
+ghost use Rattle.cluster.specs.EccCluster.{rowOf};
+ghost use Rattle.image.specs.Image.{Input};
+ghost use Rattle.writer.specs.Written.{FramesWritten, ImageWritten, Passed, Filled};
+ghost use Rattle.writer.specs.Outcome.{lengthsAnswer, psnAnswer, dcAnswer, firstTooLarge, isDone, Outcome, outcome};
+
+// What the writer answers: document 01's numbers and places (numberOf, placeOf).
+pub enum Answer {
+    Done,
+    WrongUser,
+    WrongSide,
+    WrongDc,
+    WrongImage,
+    WrongWork,
+    NoMultiple,
+    NoZone,
+    // The first dc word above 0FFFFFFFh.
+    DcWord(usize),
+}
+
+// Test 8: the first dc word above 0FFFFFFFh, or 496.
+fn first_too_large(dc: &[u32]) -> usize
+    requires { ⌜ length (now dc) ≡ 496 ⌝ }
+    ensures { λ r. ⌜ r ≡ firstTooLarge (now (dc .entry)) ⌝ }
+{
+    let mut n = 0;
+    while n < 496 {
+        if 0x0FFF_FFFF < dc[n] {
+            return n;
+        }
+        n += 1;
+    }
+    n
+}
+
+// Frame n from the row that is shown of the cluster; the answer is # of the next sync.
+fn put_frame(work: &[u8], dc: &[u32], n: usize, hash: bool, image: &mut [u8]) -> bool
+    requires { ⌜ ((length (now work) ≡ 76880) × (length (now dc) ≡ 496)) × (n < 496) ⌝ }
+    ensures { λ r. ⌜ FrameWritten (syncNumber n) hash (rowOf (now (work .entry)) n) (getD (now (dc .entry)) n 0) (now (image .entry)) (1932 * n) (now (image .exit)) r ⌝ }
+{
+    let row = cluster::row(work, n);
+    let number = frame::sync_number(n);
+    frame::write_frame(row, dc[n], number, hash, image, 1932 * n)
+}
+
+// The 496 frames; the answer is # of the sync that follows.
+fn put_frames(work: &[u8], dc: &[u32], image: &mut [u8]) -> bool
+    requires { ⌜ ((length (now work) ≡ 76880) × (length (now dc) ≡ 496)) × (length (now image) ≡ 119788) ⌝ }
+    ensures { λ r. ⌜ FramesWritten (now (work .entry)) (now (dc .entry)) (now (image .entry)) 496 (now (image .exit)) r ⌝ }
+{
+    let mut hash = false;
+    let mut n = 0;
+    while n < 496 {
+        hash = put_frame(work, dc, n, hash, image);
+        n += 1;
+    }
+    hash
+}
+
+// The frames, the sync that follows, which is FS0, and two zero bits.
+fn put_image(work: &[u8], dc: &[u32], image: &mut [u8])
+    requires { ⌜ ((length (now work) ≡ 76880) × (length (now dc) ≡ 496)) × (length (now image) ≡ 119788) ⌝ }
+    ensures { λ _. ⌜ ImageWritten (now (work .entry)) (now (dc .entry)) (now (image .exit)) ⌝ }
+{
+    let hash = put_frames(work, dc, image);
+    frame::write_sync(hash, 0, image, 958272);
+    bits::write_bit(image, 958302, 0);
+    bits::write_bit(image, 958303, 0);
+}
+
+// Tests 6 to 8: the PSN and the dc words.
+fn judge_parts(psn: Psn, dc: &[u32]) -> Answer
+    requires { ⌜ length (now dc) ≡ 496 ⌝ }
+    ensures { λ r. ⌜ r ≡ psnAnswer (judged (psn .0)) (dcAnswer (firstTooLarge (now (dc .entry)))) ⌝ }
+{
+    let judged = psn.judge();
+    match judged {
+        Judged::NoMultiple => Answer::NoMultiple,
+        Judged::NoZone => Answer::NoZone,
+        Judged::Accepted => {
+            let n = first_too_large(dc);
+            if n < 496 {
+                Answer::DcWord(n)
+            } else {
+                Answer::Done
+            }
+        }
+    }
+}
+
+// All tests, in rising order.
+fn judge(user: usize, psn: Psn, side: usize, dc: &[u32], image: usize, work: usize) -> Answer
+    ensures { λ r. ⌜ r ≡ lengthsAnswer user side (length (now (dc .entry))) image work (psnAnswer (judged (psn .0)) (dcAnswer (firstTooLarge (now (dc .entry))))) ⌝ }
+{
+    if user != 65536 {
+        return Answer::WrongUser;
+    }
+    if side != 592 {
+        return Answer::WrongSide;
+    }
+    if dc.len() != 496 {
+        return Answer::WrongDc;
+    }
+    if image != 119788 {
+        return Answer::WrongImage;
+    }
+    if work != 76880 {
+        return Answer::WrongWork;
+    }
+    judge_parts(psn, dc)
+}
+
+fn is_done(answer: Answer) -> bool
+    ensures { λ r. ⌜ r ≡ isDone answer ⌝ }
+{
+    match answer {
+        Answer::Done => true,
+        Answer::WrongUser => false,
+        Answer::WrongSide => false,
+        Answer::WrongDc => false,
+        Answer::WrongImage => false,
+        Answer::WrongWork => false,
+        Answer::NoMultiple => false,
+        Answer::NoZone => false,
+        Answer::DcWord(_) => false,
+    }
+}
+
+// The ECC cluster in work and the image of an input that passed the tests.
+fn write(user: &[u8], psn: Psn, side: &[u8], dc: &[u32], image: &mut [u8], work: &mut [u8])
+    requires { ⌜ Passed (record { user = now user; psn = psn .0; side = now side; dc = now dc }) (now image) (now work) ⌝ }
+    ensures { λ _. ⌜ Filled (record { user = now (user .entry); psn = psn .0; side = now (side .entry); dc = now (dc .entry) }) (now (image .exit)) (now (work .exit)) ⌝ }
+{
+    cluster::encode(user, psn, side, work);
+    put_image(work, dc, image);
+}
+
+// Writes the image of a cluster. Document 01's answers 0 to 8: on 0 the image and, in work, the ECC cluster; on any other both as they were.
+pub fn write_image(
+    user: &[u8],
+    psn: Psn,
+    side: &[u8],
+    dc: &[u32],
+    image: &mut [u8],
+    work: &mut [u8],
+) -> Answer
+    ensures { λ r. ⌜ record { answer = r; image = now (image .exit); work = now (work .exit) }
+        ≡ outcome (record { user = now (user .entry); psn = psn .0; side = now (side .entry); dc = now (dc .entry) }) (now (image .entry)) (now (work .entry)) ⌝ }
+{
+    let answer = judge(user.len(), psn, side.len(), dc, image.len(), work.len());
+    if is_done(answer) {
+        write(user, psn, side, dc, image, work);
+        return Answer::Done;
+    }
+    answer
+}
