@@ -1,10 +1,12 @@
--- A frame has 1,932 bits. Assumes nothing.
-use mathlib.Core.Bool.{Bool, false}
-use mathlib.Core.List.{List}
-use mathlib.Core.Path.{_≡_, ap}
-use Prim.Native.Nat.{ℕ}
+-- A frame has 1,932 bits: a right sync, and what its row and dc word give. Assumes nothing.
+use mathlib.Core.Bool.{Bool, true, false}
+use mathlib.Core.List.{List, _++_, append-cancel-left}
+use mathlib.Core.Path.{_≡_, sym, ap, ap₂, _∙_}
+use Prim.Native.Nat.{ℕ, _+_, _^_, _<_}
 use native.Mathlib.Omega.{arith}
-use lib.ListN.{length, length-append}
+use lib.ListN.{length, take, drop, length-append}
+use lib.Seq.{take-at, drop-at, take-all, take-add, take-take, drop-drop}
+use Rattle.laws.specs.Bytes.{Bytes}
 use Rattle.bits.specs.Bits.{Bits}
 use Rattle.modulation.specs.Modulation.{lastBit}
 use Rattle.modulation.specs.Bits.{bits}
@@ -15,8 +17,12 @@ use Rattle.modulation.proofs.Fronts.{bits-groups}
 use Rattle.modulation.proofs.Theorems.{size-of-a-frame}
 use Rattle.modulation.proofs.Streams.{length-sync}
 use Rattle.frame.specs.FrameBits.{frameBits}
-use Rattle.frame.specs.Frame.{framePairs, frameGroups, frame}
+use Rattle.frame.specs.Sync.{hashAt, syncRight}
+use Rattle.frame.specs.Frame.{framePairs, frameGroups, frame, nextHash}
+use Rattle.frame.specs.Reading.{RowGives}
 use Rattle.frame.proofs.FrameBits.{length-frame-bits}
+use Rattle.frame.proofs.SyncRight.{sync-as-read, hash-as-read, sync-is-right}
+use Rattle.frame.proofs.Reading.{row-gives}
 
 pub length-modulated : (n : FS) (row : List ℕ) (dc : ℕ) → length (bits (modulated n (framePairs row dc) .groups)) ≡ 1902
 length-modulated n row dc = size-of-a-frame (lastBit false (syncId n)) (frameBits row dc) (length-frame-bits row dc)
@@ -36,3 +42,51 @@ length-frame hash n row dc =
 pub frame-bits : (hash : Bool) (n : FS) (row : List ℕ) (dc : ℕ) → Bits (frame hash n row dc)
 unfolding frame
 frame-bits hash n row dc = bits-groups (frameGroups hash n row dc)
+
+-- ---- the parts of a frame, in itself and among other bits
+
+module _ (hash : Bool) (n : FS) (row : List ℕ) (dc : ℕ) where
+  abbrev body : List ℕ
+  body = bits (modulated n (framePairs row dc) .groups)
+
+  length-sync-bits : length (bits (sync hash n)) ≡ 30
+  length-sync-bits = omega (arith, length-groups (sync hash n), length-sync hash n)
+
+  pub frame-parts : frame hash n row dc ≡ bits (sync hash n) ++ body
+  unfolding frame
+  frame-parts = bits-append (sync hash n) (modulated n (framePairs row dc) .groups)
+
+  pub frame-sync : take 30 (frame hash n row dc) ≡ bits (sync hash n)
+  frame-sync = ap (take 30) frame-parts ∙ take-at (bits (sync hash n)) body 30 length-sync-bits
+
+  pub frame-body : take 1902 (drop 30 (frame hash n row dc)) ≡ body
+  frame-body =
+      ap (λ (l : List ℕ). take 1902 (drop 30 l)) frame-parts
+      ∙ ap (take 1902) (drop-at (bits (sync hash n)) body 30 length-sync-bits)
+      ∙ take-all 1902 body (omega (arith, length-modulated n row dc))
+
+module _ (n : FS) (b : List ℕ) (at : ℕ) (row : List ℕ) (dc : ℕ) where
+  -- where sync n is right and row and dc word give what stands behind it, there stands their frame
+  pub frame-as-read : {next : Bool} → syncRight n b at ≡ true → RowGives n row dc (take 1902 (drop (at + 30) b)) next
+      → take 1932 (drop at b) ≡ frame (hashAt b at) n row dc
+  frame-as-read right given =
+      take-add 30 1902 (drop at b)
+      ∙ ap₂ _++_ (sync-as-read n b at right) (ap (take 1902) (drop-drop 30 at b) ∙ sym (given .bits-are))
+      ∙ sym (frame-parts (hashAt b at) n row dc)
+
+  -- and where a frame stands, its sync is right and its row and dc word give what stands behind it
+  module _ (hash : Bool) (e : take 1932 (drop at b) ≡ frame hash n row dc) where
+    sync-there : take 30 (drop at b) ≡ bits (sync hash n)
+    sync-there = sym (take-take 30 1932 (drop at b) (omega arith)) ∙ ap (take 30) e ∙ frame-sync hash n row dc
+
+    pub read-sync : (syncRight n b at ≡ true) × (hashAt b at ≡ hash)
+    read-sync = (sync-is-right n b at hash sync-there, hash-as-read n b at hash sync-there)
+
+    body-there : take 1902 (drop (at + 30) b) ≡ body hash n row dc
+    body-there =
+        ap (take 1902) (sym (drop-drop 30 at b))
+        ∙ append-cancel-left (bits (sync hash n)) (take 1902 (drop 30 (drop at b))) (body hash n row dc)
+        (ap (λ (l : List ℕ). l ++ take 1902 (drop 30 (drop at b))) (sym sync-there) ∙ sym (take-add 30 1902 (drop at b)) ∙ e ∙ frame-parts hash n row dc)
+
+    pub read-body : length row ≡ 155 → Bytes row → dc < 2 ^ 28 → RowGives n row dc (take 1902 (drop (at + 30) b)) (nextHash n row dc)
+    read-body size bytes small = rw body-there (row-gives n row dc size bytes small)

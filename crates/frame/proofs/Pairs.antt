@@ -7,7 +7,7 @@ use lib.ListN.{length, getD, set}
 use Rattle.laws.proofs.Fill.{Upto, upto-none, upto-more}
 use Rattle.modulation.proofs.Pairs.{filled-pairs, filled-twos}
 use Rattle.frame.specs.FrameBits.{frameBit, frameBits}
-use Rattle.frame.specs.Written.{PairsOf}
+use Rattle.frame.specs.Slices.{PairsOf}
 use Rattle.frame.proofs.FrameBits.{length-frame-bits, getD-frame-bits, frame-bits-bits}
 
 -- the number of pair k
@@ -29,8 +29,11 @@ module _ {row : List ℕ} {dc : ℕ} where
   pub pairs-all : {k : ℕ} {l : List ℕ} → 634 ≤ k → PairsUpto row dc k l → PairsOf row dc l
   pairs-all {k} {l} h u =
       record {
-        size = u .upto .size;
-        pairs = filled-pairs 634 (frameBits row dc) l (length-frame-bits row dc) (u .upto .size) (frame-bits-bits row dc) filled;
+        whole =
+            record {
+              size = u .upto .size;
+              are-pairs = filled-pairs 634 (frameBits row dc) l (length-frame-bits row dc) (u .upto .size) (frame-bits-bits row dc) filled;
+            };
         are = filled-twos 634 (frameBits row dc) l (length-frame-bits row dc) (u .upto .size) (frame-bits-bits row dc) filled;
       }
     where

@@ -25,7 +25,8 @@ use Rattle.frame.specs.Frame.{framePairs, nextHash}
 use Rattle.frame.specs.Same.{same}
 use Rattle.frame.specs.declared.FrameRead.{FrameRead}
 use Rattle.frame.specs.declared.FrameRead.the-variants.{Found, NoFrame}
-use Rattle.frame.specs.Reading.{BitsGive, RowGives, Reads, bitsRead, readable, frameRead, rowRead, bitsIn}
+use Rattle.frame.specs.Reading.{BitsGive, RowGives, StrictlyRead, bitsRead, readable, frameRead, rowRead}
+use Rattle.frame.specs.Slices.{bitsIn}
 use Rattle.frame.proofs.Same.{same-true, same-refl}
 use Rattle.frame.proofs.FrameBits.{length-frame-bits, frame-bits-bits, frame-bits-back, frame-bits-inj, length-row, bytes-row, dc-word-lt}
 use Rattle.frame.proofs.Unweaving.{data-bits, bits-in, length-bits-in}
@@ -134,7 +135,7 @@ readable-iff n m hash = (λ e. (bitsRead n m hash, readable-gives n m hash e), �
 
 -- ---- the reader's answer
 
-module _ {n : FS} {m : List ℕ} {hash : Bool} {before after : List ℕ} {answer : FrameRead} (r : Reads n m hash before answer after) where
+module _ {n : FS} {m : List ℕ} {hash : Bool} {before after : List ℕ} {answer : FrameRead} (r : StrictlyRead n m hash before answer after) where
   -- a row and a dc word that give m and # are what is answered
   pub read-row : {row : List ℕ} {dc : ℕ} → RowGives n row dc m hash → (answer ≡ Found dc) × (after ≡ row)
   read-row {row} {dc} g = go answer refl
@@ -165,7 +166,7 @@ no-found : {dc : ℕ} → Found dc ≡ NoFrame → ⊥
 no-found e = let z : _≡_ {A = ℕ} 0 1 = cc in omega arith
 
 module _ {n : FS} {m : List ℕ} {hash x : Bool} {l : List ℕ} (d : Demodulated (lastBit false (syncId n)) m hash 634 x l) where
-  none-read : {before : List ℕ} → x ≡ false → Reads n m hash before NoFrame before
+  none-read : {before : List ℕ} → x ≡ false → StrictlyRead n m hash before NoFrame before
   none-read e = record { found = λ dc f. absurd (no-found (sym f)); none = λ _. (refl, λ b g. d .none e .1 (pairs b) (g .gives)) }
 
   -- the data bits of the pairs found
@@ -178,7 +179,7 @@ module _ {n : FS} {m : List ℕ} {hash x : Bool} {l : List ℕ} (d : Demodulated
         gives = subst (λ (ds : List Two). Gives (lastBit false (syncId n)) ds m hash) (sym (pairs-dataBits (twos l))) (d .found e);
       }
 
-  found-read : {dc : ℕ} {before after : List ℕ} → x ≡ true → after ≡ rowOf (bitsIn l) → dc ≡ dcOf (bitsIn l) → Reads n m hash before (Found dc) after
+  found-read : {dc : ℕ} {before after : List ℕ} → x ≡ true → after ≡ rowOf (bitsIn l) → dc ≡ dcOf (bitsIn l) → StrictlyRead n m hash before (Found dc) after
   found-read {dc} {before} {after} e er ed =
       record { found = λ v f. let same : v ≡ dcOf (bitsIn l) = cc in rw (er, same) (bits-row (found-bits e)); none = λ f. absurd (no-found f) }
 
@@ -190,9 +191,9 @@ module _ (n : FS) (bs : List ℕ) (p : ℕ) {b hash x : Bool} {k : ℕ} {l : Lis
       subst (λ (j : ℕ). Demodulated (lastBit false (syncId n)) (take (3 * j) (drop p bs)) hash j x l) ek
       (subst (λ (c : Bool). Demodulated c (take (3 * k) (drop p bs)) hash k x l) eb d)
 
-  pub reads-none : {before : List ℕ} → x ≡ false → Reads n (take 1902 (drop p bs)) hash before NoFrame before
+  pub reads-none : {before : List ℕ} → x ≡ false → StrictlyRead n (take 1902 (drop p bs)) hash before NoFrame before
   reads-none e = none-read answered e
 
   pub reads-found : {dc : ℕ} {before after : List ℕ} → x ≡ true → after ≡ rowOf (bitsIn l) → dc ≡ dcOf (bitsIn l)
-      → Reads n (take 1902 (drop p bs)) hash before (Found dc) after
+      → StrictlyRead n (take 1902 (drop p bs)) hash before (Found dc) after
   reads-found e er ed = found-read answered e er ed

@@ -23,9 +23,8 @@ use Rattle.modulation.proofs.Streams.{length-sync}
 use Rattle.demodulator.specs.Ahead.{Inside, groupsAt}
 use Rattle.demodulator.proofs.Groups.{length-groupsAt, bits-groupsAt}
 use Rattle.demodulator.proofs.Follow.{group-read}
-use Rattle.frame.specs.Sync.{syncGroup}
+use Rattle.frame.specs.Sync.{syncGroup, hashAt, syncRight}
 use Rattle.frame.specs.Same.{same}
-use Rattle.frame.specs.Reading.{hashAt, syncRight}
 use Rattle.frame.proofs.Same.{same-true, same-refl}
 
 -- ---- what is compared

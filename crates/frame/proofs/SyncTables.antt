@@ -1,15 +1,16 @@
 -- The code's tables are those of Figures 39 and 41. Assumes nothing.
 use mathlib.Core.Path.{_≡_, refl, sym, ap, _∙_}
-use mathlib.Core.Bool.{Bool, false}
+use mathlib.Core.Bool.{Bool, false, Bool·beq}
 use mathlib.Core.List.{List, [], _∷_}
-use Prim.Native.Nat.{ℕ, zero, suc, _/_, _%_, _<_}
+use Prim.Native.Nat.{ℕ, suc, _-_, _/_, _%_, _<_}
 use native.Mathlib.Nat.{mod-lt, zero-lt-suc}
 use native.Mathlib.Omega.{arith}
 use lib.Dec.{eqb}
 use lib.ListN.{getD}
-use Rattle.laws.proofs.Finite.{all, equal-below, bounded-below}
+use Rattle.laws.proofs.Finite.{all, all-at, equal-below, bounded-below}
 use Rattle.modulation.specs.Modulation.{lastBit}
-use Rattle.modulation.specs.Sync.{FS, FS0, syncId, syncNumbers, syncNumber}
+use Rattle.modulation.specs.Sync.{FS, FS0, FS1, FS2, FS3, FS4, FS5, FS6, syncId, syncNumbers, syncNumber}
+use Rattle.modulation.proofs.Tests.{beq-same}
 use Rattle.frame.specs.Sync.{fs, fsNumber, syncGroup}
 
 -- ---- Figure 41
@@ -25,45 +26,43 @@ number-at n = (
   bounded-below 31 7 (λ k. getD numberTable k 0) tt (n % 31) (mod-lt n (zero-lt-suc 30)),
 )
 
+-- a sync is that of its number
+pub fs-number : (n : FS) → fs (fsNumber n) ≡ n
+unfolding fs
+fs-number FS0 = refl
+fs-number FS1 = refl
+fs-number FS2 = refl
+fs-number FS3 = refl
+fs-number FS4 = refl
+fs-number FS5 = refl
+fs-number FS6 = refl
+
 -- ---- Figure 39
 
 abbrev pub bodyTable : List ℕ
-bodyTable = 0b001 ∷ 0b010 ∷ 0b000 ∷ 0b000 ∷ 0b010 ∷ 0b000 ∷ 0b000 ∷ 0b010 ∷ []
+bodyTable = 0b010 ∷ 0b000 ∷ 0b000 ∷ 0b010 ∷ 0b000 ∷ 0b000 ∷ 0b010 ∷ []
 
 abbrev pub idTable : List ℕ
 idTable = 0b000001 ∷ 0b010010 ∷ 0b101000 ∷ 0b100001 ∷ 0b000100 ∷ 0b001001 ∷ 0b010000 ∷ []
 
--- a statement on the seven sync numbers
-each-number : (P : ℕ → Type 0) → P 0 → P 1 → P 2 → P 3 → P 4 → P 5 → P 6 → (k : ℕ) → k < 7 → P k
-each-number P p0 p1 p2 p3 p4 p5 p6 zero h = p0
-each-number P p0 p1 p2 p3 p4 p5 p6 (suc zero) h = p1
-each-number P p0 p1 p2 p3 p4 p5 p6 (suc (suc zero)) h = p2
-each-number P p0 p1 p2 p3 p4 p5 p6 (suc (suc (suc zero))) h = p3
-each-number P p0 p1 p2 p3 p4 p5 p6 (suc (suc (suc (suc zero)))) h = p4
-each-number P p0 p1 p2 p3 p4 p5 p6 (suc (suc (suc (suc (suc zero))))) h = p5
-each-number P p0 p1 p2 p3 p4 p5 p6 (suc (suc (suc (suc (suc (suc zero)))))) h = p6
-each-number P p0 p1 p2 p3 p4 p5 p6 (suc (suc (suc (suc (suc (suc (suc k))))))) h = absurd (omega arith)
-
 -- the bit behind which the frame's first word stands
 pub end-at : (number : ℕ) → number < 7 → eqb (getD idTable number 0 % 2) 1 ≡ lastBit false (syncId (fs number))
-unfolding fs
-end-at = each-number (λ k. eqb (getD idTable k 0 % 2) 1 ≡ lastBit false (syncId (fs k))) refl refl refl refl refl refl refl
+unfolding all fs
+end-at number h = beq-same _ _ (all-at 7 (λ k. Bool·beq (eqb (getD idTable k 0 % 2) 1) (lastBit false (syncId (fs k)))) tt number h)
 
--- # is the first bit of group 0; groups 1 to 7 are the same in each sync; groups 8 and 9 are the ID
-pub body-at : (hash : Bool) (n : FS) (j : ℕ) → (j ≡ 0 → ⊥) → (j ≡ 8 → ⊥) → (j ≡ 9 → ⊥) → j < 10 → getD bodyTable j 0 ≡ syncGroup n hash j
-unfolding syncGroup
-body-at hash n zero e f g h = absurd (e refl)
-body-at hash n (suc j) e f g h =
-    each-number (λ k. getD bodyTable (suc k) 0 ≡ syncGroup n hash (suc k)) refl refl refl refl refl refl refl j (omega arith)
+-- groups 1 to 7 are the same in each sync; groups 8 and 9 are the ID
+pub body-at : (hash : Bool) (n : FS) (j : ℕ) → (j ≡ 0 → ⊥) → (j ≡ 8 → ⊥) → (j ≡ 9 → ⊥) → j < 10 → getD bodyTable (j - 1) 0 ≡ syncGroup n hash j
+unfolding all syncGroup
+body-at hash n j e f g h =
+    let back : suc (j - 1) ≡ j = omega arith in
+    equal-below 7 (λ k. getD bodyTable k 0) (λ k. syncGroup n hash (suc k)) tt (j - 1) (omega arith) ∙ ap (syncGroup n hash) back
 
 pub high-at : (hash : Bool) (number j : ℕ) → number < 7 → j ≡ 8 → getD idTable number 0 / 8 ≡ syncGroup (fs number) hash j
-unfolding fs syncGroup
+unfolding all fs syncGroup
 high-at hash number j h e =
-    each-number (λ k. getD idTable k 0 / 8 ≡ syncGroup (fs k) hash 8) refl refl refl refl refl refl refl number h
-    ∙ sym (ap (syncGroup (fs number) hash) e)
+    equal-below 7 (λ k. getD idTable k 0 / 8) (λ k. syncGroup (fs k) hash 8) tt number h ∙ sym (ap (syncGroup (fs number) hash) e)
 
 pub low-at : (hash : Bool) (number j : ℕ) → number < 7 → j ≡ 9 → getD idTable number 0 % 8 ≡ syncGroup (fs number) hash j
-unfolding fs syncGroup
+unfolding all fs syncGroup
 low-at hash number j h e =
-    each-number (λ k. getD idTable k 0 % 8 ≡ syncGroup (fs k) hash 9) refl refl refl refl refl refl refl number h
-    ∙ sym (ap (syncGroup (fs number) hash) e)
+    equal-below 7 (λ k. getD idTable k 0 % 8) (λ k. syncGroup (fs k) hash 9) tt number h ∙ sym (ap (syncGroup (fs number) hash) e)

@@ -20,7 +20,7 @@ use Rattle.modulation.specs.Pairs.{Pairs, twos, numbers}
 use Rattle.modulation.proofs.Bits.{length-dataBits}
 use Rattle.modulation.proofs.Pairs.{length-twos, pairs-numbers, twos-numbers, slice-bits}
 use Rattle.frame.specs.FrameBits.{dataPlace, dcPlace, rowOf, dcOf}
-use Rattle.frame.specs.Reading.{Whole, bitsIn}
+use Rattle.frame.specs.Slices.{Whole, bitsIn}
 use Rattle.frame.proofs.FrameBits.{length-row}
 
 -- ---- a bit of the pairs
@@ -106,8 +106,7 @@ dcBit b i = getD b (dcPlace i) 0
 
 pub row-byte : (b : List ℕ) (k v : ℕ) → k < 155 → v ≡ number (tabulate 8 (rowBit b k)) → v ≡ getD (rowOf b) k 0
 unfolding rowOf rowBit
-row-byte b k v h e =
-    e ∙ sym (getD-packed all k (omega (arith, size)) ∙ ap number (is-tabulate 0 8 (rowBit b k) (take 8 (drop (8 * k) all)) (length-take-le 8 (drop (8 * k) all) (omega (arith, length-drop (8 * k) all, size))) at))
+row-byte b k v h e = e ∙ sym (getD-packed all k (omega (arith, size)) ∙ ap number eight)
   where
     all : List ℕ
     all = tabulate 1240 (λ p. getD b (dataPlace p) 0)
@@ -115,8 +114,13 @@ row-byte b k v h e =
     size : length all ≡ 1240
     size = length-tabulate 1240 (λ p. getD b (dataPlace p) 0)
 
-    at : (i : ℕ) → i < 8 → getD (take 8 (drop (8 * k) all)) i 0 ≡ getD b (dataPlace (8 * k + i)) 0
-    at i hi = getD-take 8 (drop (8 * k) all) i 0 hi ∙ getD-drop (8 * k) all i 0 ∙ getD-tabulate 1240 (λ p. getD b (dataPlace p) 0) (8 * k + i) 0 (omega arith)
+    eight : take 8 (drop (8 * k) all) ≡ tabulate 8 (rowBit b k)
+    eight =
+        is-tabulate 0 8 (rowBit b k) (take 8 (drop (8 * k) all)) (length-take-le 8 (drop (8 * k) all) (omega (arith, length-drop (8 * k) all, size)))
+        (λ i hi.
+        getD-take 8 (drop (8 * k) all) i 0 hi
+        ∙ getD-drop (8 * k) all i 0
+        ∙ getD-tabulate 1240 (λ p. getD b (dataPlace p) 0) (8 * k + i) 0 (omega arith))
 
 pub dc-word : (b : List ℕ) {v : ℕ} → v ≡ number (tabulate 28 (dcBit b)) → v ≡ dcOf b
 unfolding dcOf dcBit

@@ -17,7 +17,8 @@ use Rattle.modulation.proofs.Bits.{bits-append, length-bits}
 use Rattle.modulation.proofs.Streams.{length-sync}
 use Rattle.frame.specs.Sync.{syncGroup}
 use Rattle.frame.specs.Frame.{framePairs, frame, frameGroups}
-use Rattle.frame.specs.Written.{SyncWritten, PairsOf, FrameWritten}
+use Rattle.frame.specs.Written.{SyncWritten, FrameWritten}
+use Rattle.frame.specs.Slices.{PairsOf}
 
 -- ---- the sync
 

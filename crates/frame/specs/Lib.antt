@@ -1,7 +1,8 @@
--- Recording frames: data bits and dc-control bits, frame sync and modulation bits.
-pub mod Sync
+-- Recording frames: data bits and dc-control bits, frame sync and modulation bits, and back.
 pub mod FrameBits
-pub mod Frame
 pub mod Same
+pub mod Sync
+pub mod Frame
 pub mod Written
 pub mod Reading
+pub mod Slices

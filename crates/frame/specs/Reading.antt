@@ -1,35 +1,22 @@
--- A frame read back: its sync, and the row and the dc word, if any, that give the 1,902 modulation bits behind it and # of the next sync.
+-- A frame read strictly: the row and the dc word, if any, that give the 1,902 modulation bits behind its sync and # of the next sync.
 use mathlib.Core.Bool.{Bool, false, _&&_, Bool·beq, cond}
 use mathlib.Core.List.{List}
 use mathlib.Core.Path.{_≡_}
 use Prim.Native.Nat.{ℕ, _^_, _<_}
 use lib.Dec.{eqb}
-use lib.ListN.{length, getD, take, drop}
+use lib.ListN.{length}
 use Rattle.laws.specs.Bytes.{Bytes}
 use Rattle.bits.specs.Bits.{Bits}
 use Rattle.modulation.specs.Modulation.{lastBit}
 use Rattle.modulation.specs.Bits.{pairs, dataBits, groups, bits, Gives}
-use Rattle.modulation.specs.Sync.{FS, sync, syncId}
+use Rattle.modulation.specs.Sync.{FS, syncId}
 use Rattle.modulation.specs.Stream.{modulated}
 use Rattle.modulation.specs.Demodulator.{demodulate}
-use Rattle.modulation.specs.Pairs.{Pairs, twos}
 use Rattle.frame.specs.Same.{same}
 use Rattle.frame.specs.FrameBits.{rowOf, dcOf}
 use Rattle.frame.specs.Frame.{framePairs, nextHash}
 use Rattle.frame.specs.declared.FrameRead.{FrameRead}
 use Rattle.frame.specs.declared.FrameRead.the-variants.{Found, NoFrame}
-
--- ---- the sync
-
--- # of the sync from bit `at` on
-abbrev pub hashAt : List ℕ → ℕ → Bool
-hashAt b at = eqb (getD b at 0) 1
-
--- the 30 bits from `at` on are sync n, with its # as it stands there
-unfoldable pub syncRight : FS → List ℕ → ℕ → Bool
-syncRight n b at = same (take 30 (drop at b)) (bits (sync (hashAt b at) n))
-
--- ---- the frame
 
 -- the 1,268 bits b give the modulation bits m behind sync n, and # of the next sync
 pub record BitsGive (n : FS) (b m : List ℕ) (hash : Bool) : Type 0 where
@@ -46,7 +33,7 @@ pub record RowGives (n : FS) (row : List ℕ) (dc : ℕ) (m : List ℕ) (hash : 
   pub next-is : nextHash n row dc ≡ hash
 
 -- the strict reader's answer on m: a dc word, with its row in the slice, or that no 1,268 bits give m, with the slice as it was
-pub record Reads (n : FS) (m : List ℕ) (hash : Bool) (before : List ℕ) (answer : FrameRead) (after : List ℕ) : Type 0 where
+pub record StrictlyRead (n : FS) (m : List ℕ) (hash : Bool) (before : List ℕ) (answer : FrameRead) (after : List ℕ) : Type 0 where
   pub found : (dc : ℕ) → answer ≡ Found dc → RowGives n after dc m hash
   pub none : answer ≡ NoFrame → (after ≡ before) × ((b : List ℕ) → BitsGive n b m hash → ⊥)
 
@@ -68,14 +55,3 @@ frameRead n m hash = cond (readable n m hash) (Found (dcOf (bitsRead n m hash)))
 
 unfoldable pub rowRead : FS → List ℕ → Bool → List ℕ → List ℕ
 rowRead n m hash before = cond (readable n m hash) (rowOf (bitsRead n m hash)) before
-
--- ---- a frame's pairs in a slice
-
--- 634 pairs as numbers
-pub record Whole (l : List ℕ) : Type 0 where
-  pub size : length l ≡ 634
-  pub are-pairs : Pairs l
-
--- their data bits
-unfoldable pub bitsIn : List ℕ → List ℕ
-bitsIn l = dataBits (twos l)

@@ -1,10 +1,13 @@
--- Frame syncs by number (13.17.4, Figures 39 and 41), and group by group.
+-- Frame syncs by number, and as they are read (13.17.4, Figures 39 and 41).
 use mathlib.Core.Bool.{Bool}
-use mathlib.Core.List.{[], _∷_}
+use mathlib.Core.List.{List, [], _∷_}
 use Prim.Native.Nat.{ℕ}
-use lib.ListN.{getD}
+use lib.Dec.{eqb}
+use lib.ListN.{getD, take, drop}
 use Rattle.modulation.specs.Modulation.{m000, threeNumber}
+use Rattle.modulation.specs.Bits.{bits}
 use Rattle.modulation.specs.Sync.{FS, FS0, FS1, FS2, FS3, FS4, FS5, FS6, sync}
+use Rattle.frame.specs.Same.{same}
 
 -- the frame sync of a number
 unfoldable pub fs : ℕ → FS
@@ -23,3 +26,11 @@ fsNumber FS6 = 6
 -- group j of ten, as a number
 unfoldable pub syncGroup : FS → Bool → ℕ → ℕ
 syncGroup n hash j = threeNumber (getD (sync hash n) j m000)
+
+-- # of the sync from bit `at` on
+abbrev pub hashAt : List ℕ → ℕ → Bool
+hashAt b at = eqb (getD b at 0) 1
+
+-- the 30 bits from `at` on are sync n, with # as it stands there
+unfoldable pub syncRight : FS → List ℕ → ℕ → Bool
+syncRight n b at = same (take 30 (drop at b)) (bits (sync (hashAt b at) n))

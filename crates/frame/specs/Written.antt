@@ -1,25 +1,17 @@
--- What writing a frame leaves: its pairs in a slice, and the image, `before` at entry and `after` at exit.
+-- What writing leaves in a slice: `before` at entry and `after` at exit.
 use mathlib.Core.Bool.{Bool}
 use mathlib.Core.List.{List}
 use mathlib.Core.Path.{_≡_}
 use Prim.Native.Nat.{ℕ}
-use lib.ListN.{length}
 use lib.Seq.{sets}
 use Rattle.bits.specs.Bits.{bitsOf}
 use Rattle.modulation.specs.Bits.{bits}
 use Rattle.modulation.specs.Sync.{FS, sync}
-use Rattle.modulation.specs.Pairs.{Pairs, twos}
-use Rattle.frame.specs.Frame.{framePairs, frame, nextHash}
+use Rattle.frame.specs.Frame.{frame, nextHash}
 
 -- sync n stands from bit `at` on, and all else is as it was
 pub record SyncWritten (n : FS) (hash : Bool) (before : List ℕ) (at : ℕ) (after : List ℕ) : Type 0 where
   pub bits-are : bitsOf after ≡ sets (bitsOf before) at (bits (sync hash n))
-
--- l holds the 634 pairs of the frame with row and dc word, as numbers
-pub record PairsOf (row : List ℕ) (dc : ℕ) (l : List ℕ) : Type 0 where
-  pub size : length l ≡ 634
-  pub pairs : Pairs l
-  pub are : twos l ≡ framePairs row dc
 
 -- the frame behind sync n stands from bit `at` on, and all else is as it was; the answer is # of the next sync
 pub record FrameWritten (n : FS) (hash : Bool) (row : List ℕ) (dc : ℕ) (before : List ℕ) (at : ℕ) (after : List ℕ) (answer : Bool) : Type 0 where

@@ -1,14 +1,13 @@
-// Frame syncs: the constants of Figures 39 and 41.
+// Frame syncs (13.17.4): the constants of Figures 39 and 41, a sync written and judged.
 ghost use mathlib.Core.Path.{_≡_};
-ghost use mathlib.Core.Bool.{Bool, false};
-ghost use Prim.Native.Nat.{_+_, _*_, _%_, _<_, _≤_};
-ghost use lib.ListN.{length, getD};
+ghost use mathlib.Core.Bool.{false};
+ghost use Prim.Native.Nat.{_+_, _*_, _<_, _≤_};
+ghost use lib.ListN.{length};
 ghost use Rattle.bits.specs.Bits.{bitsOf};
-ghost use Rattle.modulation.specs.Modulation.{m000, threeNumber, lastBit};
-ghost use Rattle.modulation.specs.Sync.{sync, syncId, syncNumber};
-ghost use Rattle.frame.specs.Sync.{fs, fsNumber, syncGroup};
+ghost use Rattle.modulation.specs.Modulation.{lastBit};
+ghost use Rattle.modulation.specs.Sync.{syncId, syncNumber};
+ghost use Rattle.frame.specs.Sync.{fs, fsNumber, syncGroup, hashAt, syncRight};
 ghost use Rattle.frame.specs.Written.{SyncWritten};
-ghost use Rattle.frame.specs.Reading.{hashAt, syncRight};
 
 // The sync numbers of recording frames 0 to 30 of an address unit.
 const SYNC_NUMBERS: [usize; 31] = [
@@ -45,8 +44,8 @@ const SYNC_NUMBERS: [usize; 31] = [
     2,
 ];
 
-// The sync body, whose first bit, #, is ZERO here, in groups of three bits.
-const SYNC_BODY: [u8; 8] = [0b001, 0b010, 0b000, 0b000, 0b010, 0b000, 0b000, 0b010];
+// The sync body behind its first three bits, #01.
+const SYNC_BODY: [u8; 7] = [0b010, 0b000, 0b000, 0b010, 0b000, 0b000, 0b010];
 
 // The sync IDs of FS0 to FS6.
 const SYNC_IDS: [u8; 7] = [
@@ -59,14 +58,14 @@ const SYNC_IDS: [u8; 7] = [
     0b010_000,
 ];
 
-// The sync number of recording frame n of a cluster.
+// The sync number of recording frame n of a physical cluster.
 pub fn sync_number(n: usize) -> usize
     ensures { λ r. ⌜ (r ≡ fsNumber (syncNumber n)) × (r < 7) ⌝ }
 {
     SYNC_NUMBERS[n % 31]
 }
 
-// Group j of ten of a frame sync.
+// Group j of the ten of a frame sync: #01, the rest of the body, the ID.
 fn sync_group(hash: bool, number: usize, j: usize) -> u8
     requires { ⌜ (number < 7) × (j < 10) ⌝ }
     ensures { λ r. ⌜ r ≡ syncGroup (fs number) hash j ⌝ }
@@ -75,7 +74,7 @@ fn sync_group(hash: bool, number: usize, j: usize) -> u8
         0 => if hash { 0b101 } else { 0b001 },
         8 => SYNC_IDS[number] / 8,
         9 => SYNC_IDS[number] % 8,
-        _ => SYNC_BODY[j],
+        _ => SYNC_BODY[j - 1],
     }
 }
 
@@ -87,7 +86,7 @@ pub fn sync_end(number: usize) -> bool
     SYNC_IDS[number] % 2 == 1
 }
 
-// A frame sync, from bit `at` on.
+// A frame sync, from bit `at` on. For the crates of this repository.
 pub fn write_sync(hash: bool, number: usize, image: &mut [u8], at: usize)
     requires { ⌜ (number < 7) × (at + 30 < 18446744073709551616) ⌝ }
     ensures { λ _. ⌜ SyncWritten (fs number) hash (now (image .entry)) at (now (image .exit)) ⌝ }
@@ -106,7 +105,7 @@ pub fn hash_at(image: &[u8], at: usize) -> bool
     bits::read_bit(image, at) == 1
 }
 
-// Whether the 30 bits from `at` on are the frame sync of a number; its # is not judged.
+// Whether the 30 bits from `at` on are the frame sync of a number; its # is not judged. For the crates of this repository.
 pub fn sync_right(image: &[u8], at: usize, number: usize) -> bool
     requires { ⌜ (number < 7) × ((at + 30 ≤ 8 * length (now image)) × (at + 30 < 18446744073709551616)) ⌝ }
     ensures { λ r. ⌜ r ≡ syncRight (fs number) (bitsOf (now (image .entry))) at ⌝ }

@@ -1,13 +1,12 @@
-// Data bits and dc-control bits of a recording frame (13.15).
+// The bits of a recording frame, two by two: woven of data bits and dc-control bits, and taken apart (13.15).
 ghost use mathlib.Core.Path.{_≡_};
 ghost use Prim.Native.Nat.{_+_, _*_, _<_};
 ghost use lib.ListN.{length, getD};
 ghost use Rattle.frame.specs.FrameBits.{frameBit, rowOf, dcOf};
-ghost use Rattle.frame.specs.Written.{PairsOf};
-ghost use Rattle.frame.specs.Reading.{Whole, bitsIn};
+ghost use Rattle.frame.specs.Slices.{Whole, PairsOf, bitsIn};
 
 // Bit j of the frame with a row's bytes and a dc word.
-pub fn frame_bit(row: &[u8], dc: u32, j: usize) -> u8
+fn frame_bit(row: &[u8], dc: u32, j: usize) -> u8
     requires { ⌜ j < 1268 ⌝ }
     ensures { λ r. ⌜ (r ≡ frameBit (now (row .entry)) dc j) × (r < 2) ⌝ }
 {
@@ -38,7 +37,7 @@ pub fn frame_pairs(row: &[u8], dc: u32, pairs: &mut [u8])
     }
 }
 
-// Bit j of the frame with these pairs.
+// Bit j of the frame with the pairs given.
 fn bit_in(pairs: &[u8], j: usize) -> u8
     requires { ⌜ Whole (now pairs) × (j < 1268) ⌝ }
     ensures { λ r. ⌜ (r ≡ getD (bitsIn (now (pairs .entry))) j 0) × (r < 2) ⌝ }

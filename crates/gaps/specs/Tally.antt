@@ -9,8 +9,7 @@ use Rattle.frame.specs.Frame.{frame}
 use Rattle.gaps.specs.declared.Tally.{Tally}
 use Rattle.gaps.specs.Gaps.{gapCounts}
 
--- # (00h or 01h), sync number, dc word in four bytes, 155 frame bytes
-
+-- the input is # (00h or 01h), a sync number from 0 to 6, a dc word of at most 0FFFFFFFh in four bytes, and 155 frame bytes
 abbrev pub dcIn : List ℕ → ℕ
 dcIn input = ((getD input 2 0 * 256 + getD input 3 0) * 256 + getD input 4 0) * 256 + getD input 5 0
 

@@ -1,7 +1,7 @@
 // How often each gap length occurs in a frame, and the answer of the tally program (document 01).
 ghost use mathlib.Core.Path.{_≡_};
 ghost use Prim.Native.Nat.{_*_, _<_, _≤_};
-ghost use lib.ListN.{length, take, drop};
+ghost use lib.ListN.{length, take};
 ghost use Rattle.bits.specs.Bits.{bitsOf};
 ghost use Rattle.frame.specs.Sync.{fs};
 ghost use Rattle.frame.specs.Frame.{frame};
@@ -32,7 +32,7 @@ fn count_bit(counts: &mut [u32], zeros: usize, bit: u8) -> usize
     0
 }
 
-// How often the gap lengths 1 to 8 occur in the first n bits of a slice.
+// How often the gap lengths 1 to 8 occur in the first n bits of a slice. In front of the first one `zeros` is above 8: it ends no gap.
 fn gap_counts(bytes: &[u8], n: usize) -> [u32; 8]
     requires { ⌜ (n ≤ 8 * length (now bytes)) × (n < 4294967296) ⌝ }
     ensures { λ r. ⌜ r ≡ gapCounts (take n (bitsOf (now (bytes .entry)))) ⌝ }
@@ -47,13 +47,14 @@ fn gap_counts(bytes: &[u8], n: usize) -> [u32; 8]
     counts
 }
 
+// Room for a frame.
 fn blank() -> [u8; 242]
     ensures { λ r. ⌜ length r ≡ 242 ⌝ }
 {
     [0u8; 242]
 }
 
-// The counts of the frame of a row and a dc word.
+// The counts of the frame of a row and a dc word. For the crates of this repository.
 pub fn frame_counts(row: &[u8], dc: u32, number: usize, hash: bool) -> [u32; 8]
     requires { ⌜ (length (now row) ≡ 155) × (number < 7) ⌝ }
     ensures { λ r. ⌜ r ≡ gapCounts (frame hash (fs number) (now (row .entry)) dc) ⌝ }

@@ -1,78 +1,57 @@
+-- `tally_of` meets its contract, case by case of the definition (TallyCases). Assumes nothing.
 use Rattle.gaps.proofs.TallyCases.{refused-length, refused-hash, refused-number, refused-dc, tallied-counts}
 use borrow.Author.Needs.{needs}
 use Rattle.gaps.proofs.tally_of.Statement.{statement}
 use Rattle.gaps.proofs.tally_of.Tie as tie
-use Rattle.gaps.proofs.tally_of.Reads as reads
-use Rattle.gaps.proofs.tally_of.Lts as lts
-use Rattle.gaps.proofs.dc_in.Reads as dc-in-reads
-use Rattle.gaps.proofs.frame_counts.Reads as frame-counts-reads
-use Rattle.gaps.proofs.refused.Reads as refused-reads
 
--- src/tally.rt:93:9
 refused-requires : tie.Need-refused-requires
 refused-requires c κs = search needs
 
--- src/tally.rt:93:9
 returns : tie.Need-returns
 returns c = search (refused-length)
 
--- src/tally.rt:95:16
 shared-slice-read-hash : tie.Need-shared-slice-read-hash
 shared-slice-read-hash c = search needs
 
--- src/tally.rt:97:9
 refused-requires-2 : tie.Need-refused-requires-2
 refused-requires-2 c κs = search needs
 
--- src/tally.rt:97:9
 returns-2 : tie.Need-returns-2
 returns-2 c = search (refused-hash)
 
--- src/tally.rt:99:18
 shared-slice-read-number : tie.Need-shared-slice-read-number
 shared-slice-read-number c = search needs
 
--- src/tally.rt:101:9
 refused-requires-3 : tie.Need-refused-requires-3
 refused-requires-3 c κs = search needs
 
--- src/tally.rt:101:9
 returns-3 : tie.Need-returns-3
 returns-3 c = search (refused-number)
 
--- src/tally.rt:103:9
 dc-in-requires : tie.Need-dc-in-requires
 dc-in-requires c κs = search needs
 
--- src/tally.rt:105:9
 refused-requires-4 : tie.Need-refused-requires-4
 refused-requires-4 c κs = search needs
 
--- src/tally.rt:105:9
 returns-4 : tie.Need-returns-4
 returns-4 c = search (refused-dc)
 
--- src/tally.rt:109:30
 sub-frame-counts : tie.Need-sub-frame-counts
 sub-frame-counts c = search needs
 
--- src/tally.rt:109:30
 part-frame-counts-start : tie.Need-part-frame-counts-start
 part-frame-counts-start c = search needs
 
--- src/tally.rt:109:30
 part-frame-counts-end : tie.Need-part-frame-counts-end
 part-frame-counts-end c = search needs
 
--- src/tally.rt:109:47
 cast-frame-counts : tie.Need-cast-frame-counts
 cast-frame-counts c = search needs
 
--- src/tally.rt:109:17
 frame-counts-requires : tie.Need-frame-counts-requires
 frame-counts-requires c κs = search needs
 
--- src/tally.rt:89:1
 returns-5 : tie.Need-returns-5
 returns-5 c = search (tallied-counts)
 

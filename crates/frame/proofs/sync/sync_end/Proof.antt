@@ -1,15 +1,12 @@
+-- `sync_end` meets its contract: the last bit of the table's ID (SyncTables). Assumes nothing.
 use Rattle.frame.proofs.SyncTables.{end-at}
 use borrow.Author.Needs.{needs}
 use Rattle.frame.proofs.sync.sync_end.Statement.{statement}
 use Rattle.frame.proofs.sync.sync_end.Tie as tie
-use Rattle.frame.proofs.sync.sync_end.Reads as reads
-use Rattle.frame.proofs.sync.sync_end.Lts as lts
 
--- src/sync.rt:53:5
 array-read-result : tie.Need-array-read-result
 array-read-result c = search needs
 
--- src/sync.rt:49:1
 returns : tie.Need-returns
 returns c = end-at (c .args .number) (c .pre)
 

@@ -1,45 +1,38 @@
-use Rattle.frame.proofs.SyncTables.{body-at, high-at, low-at}
+-- `sync_group` meets its contract: the groups of the tables are those of Figure 39 (SyncTables). Assumes nothing.
 use Rattle.frame.specs.Sync.{fs, syncGroup}
+use Rattle.frame.proofs.SyncTables.{high-at, low-at, body-at}
 use borrow.Author.Needs.{needs}
 use Rattle.frame.proofs.sync.sync_group.Statement.{statement}
 use Rattle.frame.proofs.sync.sync_group.Tie as tie
-use Rattle.frame.proofs.sync.sync_group.Reads as reads
-use Rattle.frame.proofs.sync.sync_group.Lts as lts
 
--- src/sync.rt:38:14
 array-read-result : tie.Need-array-read-result
 array-read-result c = search needs
 
--- src/sync.rt:39:14
 array-read-result-2 : tie.Need-array-read-result-2
 array-read-result-2 c = search needs
 
--- src/sync.rt:40:14
+sub-result : tie.Need-sub-result
+sub-result c = search needs
+
 array-read-result-3 : tie.Need-array-read-result-3
 array-read-result-3 c = search needs
 
--- src/sync.rt:32:1
 returns : tie.Need-returns
 unfolding syncGroup
 returns c = search needs
 
--- src/sync.rt:32:1
 returns-2 : tie.Need-returns-2
 unfolding syncGroup
 returns-2 c = search needs
 
--- src/sync.rt:32:1
 returns-3 : tie.Need-returns-3
 returns-3 c = let args = c .before .args in high-at (args .hash) (args .number) (args .j) (c .before .pre .0) (c .match .keys2)
 
--- src/sync.rt:32:1
 returns-4 : tie.Need-returns-4
 returns-4 c = let args = c .before .args in low-at (args .hash) (args .number) (args .j) (c .before .pre .0) (c .match .keys3)
 
--- src/sync.rt:32:1
 returns-5 : tie.Need-returns-5
-returns-5 c =
-    let args = c .before .args in
+returns-5 c = let args = c .before .args in
     let none = c .match .rest in
     body-at (args .hash) (fs (args .number)) (args .j) (none .0 .0 .1) (none .0 .1) (none .1) (c .before .pre .1)
 
@@ -49,6 +42,7 @@ sync-group-spec =
     (tie.spec
     array-read-result
     array-read-result-2
+    sub-result
     array-read-result-3
     returns
     returns-2

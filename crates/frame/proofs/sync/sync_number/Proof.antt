@@ -1,19 +1,15 @@
+-- `sync_number` meets its contract: the table is that of Figure 41 (SyncTables). Assumes nothing.
 use Rattle.frame.proofs.SyncTables.{number-at}
 use borrow.Author.Needs.{needs}
 use Rattle.frame.proofs.sync.sync_number.Statement.{statement}
 use Rattle.frame.proofs.sync.sync_number.Tie as tie
-use Rattle.frame.proofs.sync.sync_number.Reads as reads
-use Rattle.frame.proofs.sync.sync_number.Lts as lts
 
--- src/sync.rt:28:5
 mul-result : tie.Need-mul-result
 mul-result c = search needs
 
--- src/sync.rt:28:5
 array-read-result : tie.Need-array-read-result
 array-read-result c = search needs
 
--- src/sync.rt:25:1
 returns : tie.Need-returns
 returns c = number-at (c .args .n)
 

@@ -1,3 +1,4 @@
+-- `sync_right` meets its contract: group by group, up to one that differs (SyncRight). Assumes nothing.
 use Prim.Native.Nat.{_-_}
 use native.Mathlib.Omega.{arith}
 use borrow.Author.Needs.{needs}
@@ -5,11 +6,6 @@ use Rattle.frame.specs.Sync.{fs}
 use Rattle.frame.proofs.SyncRight.{Agrees, agrees-none, agrees-more, agrees-not, agrees-all}
 use Rattle.frame.proofs.sync.sync_right.Statement.{statement}
 use Rattle.frame.proofs.sync.sync_right.Tie as tie
-use Rattle.frame.proofs.sync.sync_right.Reads as reads
-use Rattle.frame.proofs.sync.sync_right.Lts as lts
-use Rattle.bits.proofs.read_three.Reads as read-three-reads
-use Rattle.frame.proofs.sync.hash_at.Reads as hash-at-reads
-use Rattle.frame.proofs.sync.sync_group.Reads as sync-group-reads
 
 abbrev Inv-loop : tie.InvT-loop
 Inv-loop image at number hash j₀ j = Agrees (fs number) hash image at j
@@ -17,43 +13,33 @@ Inv-loop image at number hash j₀ j = Agrees (fs number) hash image at j
 abbrev μ-loop : tie.MeasureT-loop
 μ-loop image at number hash j₀ j = 10 - j
 
--- src/sync.rt:115:9
 hash-at-requires : tie.Need-hash-at-requires Inv-loop μ-loop
 hash-at-requires c κs = search needs
 
--- src/sync.rt:117:5
 loop-holds : tie.Need-loop-holds Inv-loop μ-loop
 loop-holds c = search (agrees-none, needs)
 
--- src/sync.rt:118:49
 mul-read-three : tie.Need-mul-read-three Inv-loop μ-loop
 mul-read-three c = search needs
 
--- src/sync.rt:118:44
 add-read-three : tie.Need-add-read-three Inv-loop μ-loop
 add-read-three c = search needs
 
--- src/sync.rt:118:13
 read-three-requires : tie.Need-read-three-requires Inv-loop μ-loop
 read-three-requires c κs = search needs
 
--- src/sync.rt:119:26
 sync-group-requires : tie.Need-sync-group-requires Inv-loop μ-loop
 sync-group-requires c κs = search needs
 
--- src/sync.rt:120:13
 returns : tie.Need-returns Inv-loop μ-loop
 returns c = search (agrees-not)
 
--- src/sync.rt:122:9
 add-j : tie.Need-add-j Inv-loop μ-loop
 add-j c = search needs
 
--- src/sync.rt:117:5
 loop-less : tie.Need-loop-less Inv-loop μ-loop
 loop-less c = search needs
 
--- src/sync.rt:117:5
 loop-again : tie.Need-loop-again Inv-loop μ-loop
 loop-again c =
     let grouped = c .before .before in

@@ -1,14 +1,10 @@
+-- `write_sync` meets its contract: group by group (Writing). Assumes nothing.
 use Prim.Native.Nat.{_-_}
-use native.Mathlib.Omega.{arith}
 use borrow.Author.Needs.{needs}
 use Rattle.frame.specs.Sync.{fs}
 use Rattle.frame.proofs.Writing.{SyncUpto, sync-none, sync-more, sync-all, sync-length}
 use Rattle.frame.proofs.sync.write_sync.Statement.{statement}
 use Rattle.frame.proofs.sync.write_sync.Tie as tie
-use Rattle.frame.proofs.sync.write_sync.Reads as reads
-use Rattle.frame.proofs.sync.write_sync.Lts as lts
-use Rattle.bits.proofs.write_three.Reads as write-three-reads
-use Rattle.frame.proofs.sync.sync_group.Reads as sync-group-reads
 
 abbrev Inv-loop : tie.InvT-loop
 Inv-loop hash number image₀ at j₀ image j = SyncUpto (fs number) hash image₀ at image j
@@ -16,43 +12,33 @@ Inv-loop hash number image₀ at j₀ image j = SyncUpto (fs number) hash image�
 abbrev μ-loop : tie.MeasureT-loop
 μ-loop hash number image₀ at j₀ image j = 10 - j
 
--- src/sync.rt:58:5
 loop-holds : tie.Need-loop-holds Inv-loop μ-loop
 loop-holds c = sync-none
 
--- src/sync.rt:59:39
 mul-write-three : tie.Need-mul-write-three Inv-loop μ-loop
 mul-write-three c = search needs
 
--- src/sync.rt:59:34
 add-write-three : tie.Need-add-write-three Inv-loop μ-loop
 add-write-three c = search needs
 
--- src/sync.rt:59:46
 sync-group-requires : tie.Need-sync-group-requires Inv-loop μ-loop
 sync-group-requires c κs = search needs
 
--- src/sync.rt:59:9
 write-three-requires : tie.Need-write-three-requires Inv-loop μ-loop
 write-three-requires c κs = search needs
 
--- src/sync.rt:60:9
 add-j : tie.Need-add-j Inv-loop μ-loop
 add-j c = search needs
 
--- src/sync.rt:58:5
 loop-less : tie.Need-loop-less Inv-loop μ-loop
 loop-less c = search needs
 
--- src/sync.rt:58:5
 loop-again : tie.Need-loop-again Inv-loop μ-loop
 loop-again c = search (sync-more)
 
--- src/sync.rt:53:1
 same-length : tie.Need-same-length Inv-loop μ-loop
 same-length c = search (sync-length)
 
--- src/sync.rt:53:1
 returns : tie.Need-returns Inv-loop μ-loop
 returns c = search (sync-all)
 

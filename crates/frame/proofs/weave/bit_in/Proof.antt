@@ -1,19 +1,15 @@
+-- `bit_in` meets its contract: the high or the low bit of a pair (Unweaving). Assumes nothing.
 use Rattle.frame.proofs.Unweaving.{even-in, odd-in}
 use borrow.Author.Needs.{needs}
 use Rattle.frame.proofs.weave.bit_in.Statement.{statement}
 use Rattle.frame.proofs.weave.bit_in.Tie as tie
-use Rattle.frame.proofs.weave.bit_in.Reads as reads
-use Rattle.frame.proofs.weave.bit_in.Lts as lts
 
--- src/weave.rt:46:16
 shared-slice-read-pair : tie.Need-shared-slice-read-pair
 shared-slice-read-pair c = search needs
 
--- src/weave.rt:42:1
 returns : tie.Need-returns
 returns c = let start = c .before .before in even-in (start .args .pairs .now) (start .pre .0 .are-pairs) (start .args .j) (c .if1 .taken)
 
--- src/weave.rt:42:1
 returns-2 : tie.Need-returns-2
 returns-2 c = let start = c .before .before in odd-in (start .args .pairs .now) (start .pre .0 .are-pairs) (start .args .j) (c .if1 .left)
 

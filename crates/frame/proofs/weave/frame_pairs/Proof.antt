@@ -1,12 +1,10 @@
+-- `frame_pairs` meets its contract: pair by pair (Pairs). Assumes nothing.
 use Prim.Native.Nat.{_-_}
 use native.Mathlib.Omega.{arith}
 use borrow.Author.Needs.{needs}
 use Rattle.frame.proofs.Pairs.{PairsUpto, pairs-none, pairs-more, pairs-all}
 use Rattle.frame.proofs.weave.frame_pairs.Statement.{statement}
 use Rattle.frame.proofs.weave.frame_pairs.Tie as tie
-use Rattle.frame.proofs.weave.frame_pairs.Reads as reads
-use Rattle.frame.proofs.weave.frame_pairs.Lts as lts
-use Rattle.frame.proofs.weave.frame_pair.Reads as frame-pair-reads
 
 abbrev Inv-loop : tie.InvT-loop
 Inv-loop row dc pairs₀ k₀ pairs k = PairsUpto row dc k pairs
@@ -14,35 +12,27 @@ Inv-loop row dc pairs₀ k₀ pairs k = PairsUpto row dc k pairs
 abbrev μ-loop : tie.MeasureT-loop
 μ-loop row dc pairs₀ k₀ pairs k = 634 - k
 
--- src/weave.rt:34:5
 loop-holds : tie.Need-loop-holds Inv-loop μ-loop
 loop-holds c = search (pairs-none)
 
--- src/weave.rt:35:20
 frame-pair-requires : tie.Need-frame-pair-requires Inv-loop μ-loop
 frame-pair-requires c κs = search needs
 
--- src/weave.rt:35:9
 slice-write-pairs : tie.Need-slice-write-pairs Inv-loop μ-loop
 slice-write-pairs c = search needs
 
--- src/weave.rt:36:9
 add-k : tie.Need-add-k Inv-loop μ-loop
 add-k c = search needs
 
--- src/weave.rt:34:5
 loop-less : tie.Need-loop-less Inv-loop μ-loop
 loop-less c = search needs
 
--- src/weave.rt:34:5
 loop-again : tie.Need-loop-again Inv-loop μ-loop
 loop-again c = search (pairs-more)
 
--- src/weave.rt:29:1
 same-length : tie.Need-same-length Inv-loop μ-loop
 same-length c = omega arith
 
--- src/weave.rt:29:1
 returns : tie.Need-returns Inv-loop μ-loop
 returns c = search (pairs-all)
 

@@ -1,13 +1,11 @@
+-- `row_byte` meets its contract: a number made bit by bit (Unweaving). Assumes nothing.
 use Prim.Native.Nat.{_-_}
 use native.Mathlib.Omega.{arith}
 use borrow.Author.Needs.{needs}
-use Rattle.frame.specs.Reading.{bitsIn}
+use Rattle.frame.specs.Slices.{bitsIn}
 use Rattle.frame.proofs.Unweaving.{rowBit, NumberTo, number-none, number-more, number-all, number-room, row-byte}
 use Rattle.frame.proofs.weave.row_byte.Statement.{statement}
 use Rattle.frame.proofs.weave.row_byte.Tie as tie
-use Rattle.frame.proofs.weave.row_byte.Reads as reads
-use Rattle.frame.proofs.weave.row_byte.Lts as lts
-use Rattle.frame.proofs.weave.bit_in.Reads as bit-in-reads
 
 abbrev Inv-loop : tie.InvT-loop
 Inv-loop pairs k byte₀ i₀ byte i = NumberTo (rowBit (bitsIn pairs) k) 8 i byte
@@ -15,52 +13,40 @@ Inv-loop pairs k byte₀ i₀ byte i = NumberTo (rowBit (bitsIn pairs) k) 8 i by
 abbrev μ-loop : tie.MeasureT-loop
 μ-loop pairs k byte₀ i₀ byte i = 8 - i
 
--- src/weave.rt:57:5
 loop-holds : tie.Need-loop-holds Inv-loop μ-loop
 loop-holds c = number-none
 
--- src/weave.rt:58:17
 mul-p : tie.Need-mul-p Inv-loop μ-loop
 mul-p c = search needs
 
--- src/weave.rt:58:17
 add-p : tie.Need-add-p Inv-loop μ-loop
 add-p c = search needs
 
--- src/weave.rt:59:16
 mul-byte : tie.Need-mul-byte Inv-loop μ-loop
 mul-byte c = omega (arith, number-room (c .before .loop .inv) 7 (omega arith))
 
--- src/weave.rt:59:46
 add-bit-in : tie.Need-add-bit-in Inv-loop μ-loop
 add-bit-in c = search needs
 
--- src/weave.rt:59:41
 add-bit-in-2 : tie.Need-add-bit-in-2 Inv-loop μ-loop
 add-bit-in-2 c = search needs
 
--- src/weave.rt:59:27
 bit-in-requires : tie.Need-bit-in-requires Inv-loop μ-loop
 bit-in-requires c κs = search needs
 
--- src/weave.rt:59:16
 add-byte : tie.Need-add-byte Inv-loop μ-loop
 add-byte c = omega (arith, number-room (c .before .before .loop .inv) 7 (omega arith))
 
--- src/weave.rt:60:9
 add-i : tie.Need-add-i Inv-loop μ-loop
 add-i c = search needs
 
--- src/weave.rt:57:5
 loop-less : tie.Need-loop-less Inv-loop μ-loop
 loop-less c = search needs
 
--- src/weave.rt:57:5
 loop-again : tie.Need-loop-again Inv-loop μ-loop
 unfolding rowBit
 loop-again c = search (number-more)
 
--- src/weave.rt:51:1
 returns : tie.Need-returns Inv-loop μ-loop
 returns c = search (number-all, row-byte)
 
