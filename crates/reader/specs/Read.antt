@@ -1,15 +1,18 @@
 -- What the steps of reading find and leave: `before` at entry, `after` at exit.
 use mathlib.Core.Path.{_≡_}
-use mathlib.Core.Bool.{true}
+use mathlib.Core.Bool.{true, false}
 use mathlib.Core.List.{List, _++_}
 use Prim.Native.Nat.{ℕ, _*_, _≤_}
 use lib.ListN.{length, take, drop}
-use Rattle.modulation.specs.Sync.{syncNumber}
 use Rattle.frame.specs.FrameBits.{rowOf}
 use Rattle.frame.specs.declared.FrameRead.{FrameRead}
 use Rattle.frame.specs.declared.FrameRead.the-variants.{Found, NoFrame}
 use Rattle.answer.specs.declared.Answer.the-variants.{Done}
 use Rattle.answer.specs.declared.Answer.{Answer}
+use Rattle.sector.specs.Scrambling.{scramblingOf}
+use Rattle.bis.specs.Reading.{sideIn}
+use Rattle.cluster.specs.Multiplex.{bisIn}
+use Rattle.cluster.specs.Reading.{userIn}
 use Rattle.reader.specs.Reading.{noFrame, frameBitsIn, dcWordIn, firstNoFrame, clusterIn, dcIn}
 use Rattle.reader.specs.Outcome.{imageAnswer, psnOf}
 
@@ -33,3 +36,17 @@ pub record ImageRead (b : List ℕ) (answer : Answer) (psn : ℕ) (dc work : Lis
   pub dc-is : answer ≡ Done → dc ≡ dcIn b
   pub work-is : answer ≡ Done → work ≡ clusterIn b
   pub size : length work ≡ 76880
+
+-- slices of the right lengths
+pub record Sized (image user side dc work : List ℕ) : Type 0 where
+  pub image-size : length image ≡ 119788
+  pub user-size : length user ≡ 65536
+  pub side-size : length side ≡ 592
+  pub dc-size : length dc ≡ 496
+  pub work-size : length work ≡ 76880
+
+-- what the cluster of a PSN was made of, with the dc words that were read
+pub record Given (work : List ℕ) (psn : ℕ) (words user side dc : List ℕ) : Type 0 where
+  pub user-is : user ≡ userIn (scramblingOf psn) work
+  pub side-is : side ≡ sideIn (bisIn work)
+  pub dc-is : dc ≡ words
