@@ -2,3 +2,5 @@
 pub mod Judging
 pub mod Frames
 pub mod Reading
+pub mod Writing
+pub mod Accepting
