@@ -1,16 +1,16 @@
 -- An image that passes every test is the image of what is read in it. Assumes nothing.
-use mathlib.Core.Path.{_≡_, refl, sym, ap, ap₂, subst, _∙_}
-use mathlib.Core.Bool.{Bool, true, false, _&&_, not, cond}
+use mathlib.Core.Path.{_≡_, refl, sym, ap, ap₂, _∙_}
+use mathlib.Core.Bool.{Bool, true, false, _&&_, not}
 use mathlib.Core.List.{List, [], _∷_, _++_}
-use Prim.Native.Nat.{ℕ, zero, suc, _+_, _*_, _/_, _%_, _^_, _<_, _≤_}
+use Prim.Native.Nat.{ℕ, zero, suc, _+_, _*_, _/_, _%_, _<_, _≤_}
 use native.Mathlib.Numerals.{add-one}
 use native.Mathlib.Omega.{arith}
 use borrow.Author.Tests.{eqb-true, not-false, not-true}
 use lib.Dec.{eqb}
-use lib.ListN.{length, getD, take, drop, length-drop, take-append-drop, drop-of-length-le}
-use lib.Seq.{ext-getD, getD-take, getD-drop, take-add, drop-cons, length-take-le}
+use lib.ListN.{length, getD, take, drop, take-append-drop, drop-of-length-le}
+use lib.Seq.{ext-getD, getD-take, getD-drop, take-add, drop-cons}
 use Rattle.laws.specs.Bytes.{Bytes}
-use Rattle.laws.proofs.First.{first-none, first-all}
+use Rattle.laws.proofs.First.{first-all}
 use Rattle.laws.proofs.Bytes.{bytes-tabulate}
 use Rattle.laws.proofs.Tabulate.{length-tabulate, getD-tabulate}
 use Rattle.bits.specs.Bits.{bitsOf, packed}
@@ -21,7 +21,7 @@ use Rattle.modulation.specs.Sync.{sync, syncNumber}
 use Rattle.modulation.specs.Stream.{Recording, hash, recorded, run, stream}
 use Rattle.modulation.proofs.Bits.{bits-append}
 use Rattle.modulation.proofs.Tests.{and-left, and-right}
-use Rattle.frame.specs.FrameBits.{rowOf, dcOf}
+use Rattle.frame.specs.FrameBits.{rowOf}
 use Rattle.frame.specs.Frame.{frame}
 use Rattle.frame.specs.Sync.{hashAt, syncRight}
 use Rattle.frame.specs.Reading.{RowGives}
@@ -29,7 +29,7 @@ use Rattle.frame.proofs.Frame.{frame-as-read}
 use Rattle.frame.proofs.Reading.{bits-row, readable-gives}
 use Rattle.frame.proofs.SyncRight.{sync-as-read}
 use Rattle.cluster.specs.EccCluster as Ecc
-use Rattle.image.specs.Image.{Input, IsAccepted, cluster, recordingOf, imageBitsFrom, imageBits, image}
+use Rattle.image.specs.Image.{recordingOf, imageBitsFrom, image}
 use Rattle.image.proofs.Recordings.{length-row}
 use Rattle.reader.specs.Reading.{lastZero, wrongSync, firstWrongSync, modulatedAt, hashBehind, noFrame, firstNoFrame, frameBitsIn, clusterByte, clusterIn, dcWordIn, dcIn}
 use Rattle.reader.proofs.Frames.{readable-is}

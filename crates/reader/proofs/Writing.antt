@@ -1,26 +1,25 @@
 -- The bits of an accepted input's image: every test is passed, and the ECC cluster and the dc words are read. Assumes nothing.
 use mathlib.Core.Path.{_≡_, refl, sym, ap, ap₂, _∙_}
-use mathlib.Core.Bool.{Bool, true, false, _&&_, not, cond}
+use mathlib.Core.Bool.{Bool, true, false, _&&_, not}
 use mathlib.Core.List.{List, [], _∷_, _++_}
-use Prim.Native.Nat.{ℕ, zero, suc, _+_, _*_, _/_, _%_, _^_, _<_, _≤_}
+use Prim.Native.Nat.{ℕ, suc, _+_, _*_, _/_, _%_, _^_, _<_, _≤_}
 use native.Mathlib.Numerals.{add-one}
 use native.Mathlib.Omega.{arith}
-use borrow.Author.Tests.{eq-eqb}
 use lib.Dec.{eqb}
 use lib.ListN.{length, getD, take, drop, length-drop}
-use lib.Seq.{ext-getD, getD-append-add, getD-take, getD-drop, take-append-le, drop-append-le}
+use lib.Seq.{getD-append-add, getD-take, getD-drop, take-append-le, drop-append-le}
 use Rattle.laws.specs.Bytes.{Bytes}
 use Rattle.laws.proofs.First.{first-none}
 use Rattle.laws.proofs.Tabulate.{is-tabulate}
 use Rattle.bits.specs.Bits.{bitsOf}
 use Rattle.modulation.specs.Bits.{bits}
 use Rattle.modulation.specs.Sync.{sync, syncNumber}
-use Rattle.modulation.specs.Stream.{Recording, hash, recorded, stream}
+use Rattle.modulation.specs.Stream.{Recording, hash, stream}
 use Rattle.modulation.proofs.Streams.{frame-bits, sync-bits}
 use Rattle.frame.specs.FrameBits.{frameBits, rowOf, dcOf}
 use Rattle.frame.specs.Frame.{frame}
-use Rattle.frame.specs.Sync.{hashAt, syncRight}
-use Rattle.frame.specs.Reading.{RowGives, bitsRead, readable}
+use Rattle.frame.specs.Sync.{hashAt}
+use Rattle.frame.specs.Reading.{RowGives}
 use Rattle.frame.proofs.FrameBits.{row-back, dc-word-back}
 use Rattle.frame.proofs.Frame.{read-body}
 use Rattle.frame.proofs.Reading.{row-bits, bits-read, gives-readable}
