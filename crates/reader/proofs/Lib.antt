@@ -2,3 +2,7 @@
 pub mod Judging
 pub mod Frames
 pub mod Reading
+pub mod Clusters
+pub mod Writing
+pub mod Accepting
+pub mod Statements

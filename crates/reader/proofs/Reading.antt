@@ -3,7 +3,6 @@ use mathlib.Core.Path.{_≡_, refl, sym, ap, ap₂, _∙_}
 use mathlib.Core.Bool.{Bool, true, false, not, cond}
 use mathlib.Core.List.{List}
 use Prim.Native.Nat.{ℕ, _<_, _≤_}
-use native.Mathlib.Omega.{arith}
 use borrow.Author.Tests.{eq-eqb, not-false, not-true}
 use lib.ListN.{length}
 use Rattle.laws.specs.Tabulate.{tabulate}
@@ -11,7 +10,7 @@ use Rattle.bits.specs.Bits.{bitsOf}
 use Rattle.answer.specs.declared.Answer.{Answer}
 use Rattle.answer.specs.declared.Answer.the-variants.{Done, LastBits, Sync, Frame}
 use Rattle.answer.specs.Answer.{isDone, lengthsAnswer}
-use Rattle.answer.proofs.Tests.{done-is, lengths-done}
+use Rattle.answer.proofs.Tests.{done-is, done-not, lengths-done}
 use Rattle.sector.specs.Scrambling.{scramblingOf}
 use Rattle.bis.specs.Reading.{sideIn, sideOut}
 use Rattle.cluster.specs.Multiplex.{bisIn}
@@ -29,7 +28,7 @@ refusal-read b a r psn dc work e is f size =
     record { answer-is = e ∙ is; psn-is = λ d. absurd (no d); dc-is = λ d. absurd (no d); work-is = λ d. absurd (no d); size = size }
   where
     no : a ≡ Done → ⊥
-    no d = let z : _≡_ {A = Bool} false true = sym f ∙ ap isDone (sym e ∙ d) in let n : _≡_ {A = ℕ} 0 1 = cc in omega arith
+    no d = done-not r f (sym e ∙ d)
 
 module _ (b : List ℕ) (z : Bool) (ez : z ≡ lastZero b) (a : Answer) (psn : ℕ) (dc work : List ℕ) where
   pub last-read : not z ≡ true → a ≡ LastBits → length work ≡ 76880 → ImageRead b a psn dc work

@@ -36,15 +36,15 @@ fn first_wrong_sync(image: &[u8]) -> usize
     if frame::hash_at(image, 0) {
         return 0;
     }
-    let mut n = 0;
-    while n < 497 {
-        let number = frame::sync_number(n);
-        if !frame::sync_right(image, 1932 * n, number) {
-            return n;
+    let mut sync = 0;
+    while sync < 497 {
+        let number = frame::sync_number(sync);
+        if !frame::sync_right(image, 1932 * sync, number) {
+            return sync;
         }
-        n += 1;
+        sync += 1;
     }
-    n
+    sync
 }
 
 // Frame n, its row into its place of the cluster.

@@ -11,10 +11,10 @@ use Rattle.reader.proofs.first_wrong_sync.Statement.{statement}
 use Rattle.reader.proofs.first_wrong_sync.Tie as tie
 
 abbrev Inv-loop : tie.InvT-loop
-Inv-loop image n₀ n = (n ≤ 497) × Passed (wrongSync (bitsOf image)) n
+Inv-loop image sync₀ sync = (sync ≤ 497) × Passed (wrongSync (bitsOf image)) sync
 
 abbrev μ-loop : tie.MeasureT-loop
-μ-loop image n₀ n = 497 - n
+μ-loop image sync₀ sync = 497 - sync
 
 hash-at-requires : tie.Need-hash-at-requires Inv-loop μ-loop
 hash-at-requires c κs = search needs
@@ -38,8 +38,8 @@ returns-2 : tie.Need-returns-2 Inv-loop μ-loop
 unfolding firstWrongSync
 returns-2 c = search (first-here, sync-judged)
 
-add-n : tie.Need-add-n Inv-loop μ-loop
-add-n c = search needs
+add-sync : tie.Need-add-sync Inv-loop μ-loop
+add-sync c = search needs
 
 loop-less : tie.Need-loop-less Inv-loop μ-loop
 loop-less c = search needs
@@ -49,7 +49,7 @@ loop-again c = (omega arith, search (passed-more, sync-judged))
 
 returns-3 : tie.Need-returns-3 Inv-loop μ-loop
 unfolding firstWrongSync
-returns-3 c = let all : c .before .loop .n ≡ 497 = omega arith in all ∙ first-past (omega arith) (c .before .loop .inv .1)
+returns-3 c = let all : c .before .loop .sync ≡ 497 = omega arith in all ∙ first-past (omega arith) (c .before .loop .inv .1)
 
 pub first-wrong-sync-spec : {M : Type 1} → statement M
 first-wrong-sync-spec =
@@ -64,7 +64,7 @@ first-wrong-sync-spec =
     mul-sync-right
     sync-right-requires
     returns-2
-    add-n
+    add-sync
     loop-less
     loop-again
     returns-3)
