@@ -22,7 +22,7 @@ fn print_verdict(verdict: Verdict) {
             io::write_all(1, b"\n");
         }
         Verdict::OtherUser(n) => differs(b"user byte ", n),
-        Verdict::OtherSide(n) => differs(b"byte of the side data ", n),
+        Verdict::OtherSide(n) => differs(b"side byte ", n),
     }
 }
 
