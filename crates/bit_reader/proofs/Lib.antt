@@ -1,0 +1,2 @@
+-- What is shown of the image reader.
+pub mod Statements
