@@ -1,4 +1,5 @@
--- `step_from` meets its contract: a walk of its MIR. The reader is made in a local and lent to `ImageReader::step` for a lifetime within the image's; once that is over the local is had again at its last value, and its position is read.
+-- `step_from` meets its contract: a walk of its MIR. The reader is made in a local and lent to `ImageReader::step` for a lifetime
+-- within the image's; once that is over the local is had again at its last value, and its position is read.
 -- Of `step` only its contract is used. Assumes nothing.
 use mathlib.Core.Path.{_≡_, refl, ap}
 use Prim.Native.Nat.{ℕ, _<_, _^_}
@@ -17,7 +18,8 @@ use ghost.Atoms.{Atoms, sem}
 use contract.BorrowLft.{meet-⊑-right}
 use contract.Monad.{Fun, fact}
 use contract.Running.{givenOf, tables, tablesOf}
-use types.Kit.{Given, ‵, raw, some, later, _⊛_, _$_, _∵_, !, qed, by, move, keep, drop, use1, use2, use3, split, join, pick, rewrite, fsplit, fjoin, fpick, fpack, suffices, frame, await, done}
+use types.Kit.{Given, ‵, raw, some, later, _⊛_, _$_, _∵_, !, qed, by, move, keep, drop, use1, use2, use3, split, join, pick, rewrite}
+use types.Kit.{fsplit, fjoin, fpick, fpack, suffices, frame, await, done}
 use types.Part.{agg, whole, sub, look-in}
 use types.Run.{look, init, forget, stop, fld, from, load, addr, of-opd, and-then, no-more, assigns, land, returns, enter, alloc1, alloc0, params1, pass1, pass0, free1, free0}
 use types.SemTy.{Body}
@@ -51,6 +53,7 @@ use Rattle.bits.proofs.Step as S
 use Rattle.bits.proofs.Step.Laws as S′
 use Rattle.bit_reader.specs.declared.ImageReader.{ImageReader}
 use Rattle.bit_reader.specs.Reader.{stepOf, stepped}
+use Rattle.bit_reader.proofs.Fields.{position-fits}
 use Rattle.bit_reader.proofs.ImageReader as T
 use Rattle.bit_reader.proofs.ImageReader.Laws as T′
 use Rattle.bit_reader.proofs.ImageReader.step as step
@@ -69,7 +72,8 @@ stayed = (stay-none-slice (0 ∷ []) tt (plain (λ _. u8)) yes, (stay-none (λ _
 abbrev StepC : {M : Type 1} (𝓤 : URA M) (H : Heap 𝓤) (A : Atoms 𝓤) (mem : Memory → SProp 𝓤) (run : Routine → Fun 𝓤) → Contract 𝓤
 StepC 𝓤 H A mem run = tripleOf 𝓤 H A step.signature (step.spec 𝓤 H A mem run)
 
-module _ {M : Type 1} (𝓤 : URA M) (H : Heap 𝓤) (A : Atoms 𝓤) (W : Given 𝓤 H A) (at-mem : Memory → SProp 𝓤) (run : Routine → Fun 𝓤) (κ : Lft) (q : Share) (s : RefT (List ℕ)) (n : ℕ) (n-fits : n < 2 ^ 64) where
+module _ {M : Type 1} (𝓤 : URA M) (H : Heap 𝓤) (A : Atoms 𝓤) (W : Given 𝓤 H A) (at-mem : Memory → SProp 𝓤) (run : Routine → Fun 𝓤)
+    (κ : Lft) (q : Share) (s : RefT (List ℕ)) (n : ℕ) (n-fits : n < 2 ^ 64) where
   -- the struct's type as `step` has it, and its laws
   abbrev α : NamedLft
   α = record { mir = named 1; lft = κ }
@@ -104,7 +108,8 @@ module _ {M : Type 1} (𝓤 : URA M) (H : Heap 𝓤) (A : Atoms 𝓤) (W : Given
 
   -- the struct, of the slice and the number
   makes : ent 𝓤 (sem 𝓤 H A OwnS) (sem 𝓤 H A (R .own h (T′.lowered h ∷ [])))
-  makes = qed W (‵ OwnS ∷ []) ∵ nothing ! $ owned ! usize (Is usize) (uint-makes 𝓤 H A W w64) n _ (refl, n-fits) $ fjoin ! $ move ! (1 ∷ 0 ∷ []) $ fjoin ! $ by ! (own-shut 𝓤 H A W D L (s, (n, tt)))
+  makes =
+      qed W (‵ OwnS ∷ []) ∵ nothing ! $ owned ! usize (Is usize) (uint-makes 𝓤 H A W w64) n _ (refl, n-fits) $ fjoin ! $ move ! (1 ∷ 0 ∷ []) $ fjoin ! $ by ! (own-shut 𝓤 H A W D L (s, (n, tt)))
 
   -- a reader in the local l, as its cell and what it owns, and as a borrow holds it
   lies : (l : ℕ) → ent 𝓤 (sep 𝓤 (H .at fullShare (T′.mir erased) l 0 (T′.lowered h)) (sem 𝓤 H A (R .own h (T′.lowered h ∷ [])))) (sem 𝓤 H A (partAt R fullShare h l 0))
@@ -142,9 +147,11 @@ module _ {M : Type 1} (𝓤 : URA M) (H : Heap 𝓤) (A : Atoms 𝓤) (W : Given
       → ent 𝓤 (sep 𝓤 (A .lft κ q) (sep 𝓤 (sem 𝓤 H A OwnS) (sem 𝓤 H A (owns (usize ∷ []) (n, tt) (vint w64 n ∷ [], tt))))) (Post (S′.lowered (given-back r z)))
   exits r z r-fits z-fits e =
       qed W (‵ (flft κ q) ∷ ‵ OwnS ∷ ‵ (owns (usize ∷ []) (n, tt) (vint w64 n ∷ [], tt)) ∷ []) ∵
-      suffices ! _ (ends-at 𝓤 H A step-from.ended stayed (step-from.clauses 𝓤 H A at-mem run) W (((κ, tt), (q, tt), tt, (s, (n, tt)), vals), tt) (S′.lowered (given-back r z)) (given-back r z) (tt, (tt, tt)) (tt, (tt, tt))) $
+      suffices ! _ (ends-at 𝓤 H A step-from.ended stayed (step-from.clauses 𝓤 H A at-mem run) W (((κ, tt), (q, tt), tt, (s, (n, tt)), vals), tt)
+      (S′.lowered (given-back r z)) (given-back r z) (tt, (tt, tt)) (tt, (tt, tt))) $
       says ! (λ i. given-back (e .0 i) (e .1 i)) $ nothing ! $ move ! (1 ∷ 0 ∷ []) $ join ! $ frame ! $ fjoin ! $ frame ! $
-      owned ! S.the-row (Is S.the-row) (LL.makes S.the-type S′.the-plain 𝓤 H A) (given-back r z) _ (LL.owes S.the-type S′.the-laws (given-back r z) ((refl, r-fits), ((refl, z-fits), tt))) $ done !
+      owned ! S.the-row (Is S.the-row) (LL.makes S.the-type S′.the-plain 𝓤 H A) (given-back r z) _
+      (LL.owes S.the-type S′.the-laws (given-back r z) ((refl, r-fits), ((refl, z-fits), tt))) $ done !
 
   module _ (C : Calls 𝓤 H) (Λ : Loops 𝓤 H) (fm : FmC 𝓤 H (W .laws) C) (known : Triple 𝓤 (C #step) (StepC 𝓤 H A at-mem run)) where
     walk : Is (ShrSlice (named 0) κ u8) s (v ∷ []) → ent 𝓤 (onEntry 𝓤 H A step-from.signature (κ, tt) (q, tt) (s, (n, tt)) vals) (WpFn 𝓤 H C Λ code.function (v ∷ vint w64 n ∷ []) Post)
@@ -166,34 +173,43 @@ module _ {M : Type 1} (𝓤 : URA M) (H : Heap 𝓤) (A : Atoms 𝓤) (W : Given
         -- [the borrow; the lender's part; the token of ν; its rest; the other half; …; what the slice owns; what the number owns; _6; …]
         move ! (2 ∷ 4 ∷ 0 ∷ []) $ use3 W (raw (StepC 𝓤 H A at-mem run .pre (to ν l₃ δ))) (goes ν l₃ δ) $
         calls-at ! fm (StepC 𝓤 H A at-mem run) known (to ν l₃ δ) (and-then ! (load ! (from ! (stop !)) (look ! 8 refl)) (no-more !)) (λ u.
-        use1 W (later (some (λ (r : ℕ). ((‵ (flft (ν ∷ κ) (PosShare·left q)) ⊛ ‵ (flft κ (PosShare·right q)) ⊛ ‵ ftrue) ⊛ ‵ (u8 .own r (u ∷ []))) ⊛ raw (ensured 𝓤 H A step.ended (step.clauses 𝓤 H A at-mem run) (ν ∷ κ, (κ, tt)) (lent l₃ δ, tt) tt r)))) (id⊢ 𝓤 _) $
+        use1 W (later (some (λ (r : ℕ). ((‵ (flft (ν ∷ κ) (PosShare·left q)) ⊛ ‵ (flft κ (PosShare·right q)) ⊛ ‵ ftrue) ⊛ ‵ (u8 .own r (u ∷ [])))
+        ⊛ raw (ensured 𝓤 H A step.ended (step.clauses 𝓤 H A at-mem run) (ν ∷ κ, (κ, tt)) (lent l₃ δ, tt) tt r)))) (id⊢ 𝓤 _) $
         await ! tt $ pick ! (λ r. split ! $ move ! (1 ∷ []) $
         use1 W (some (λ (zs : ImageReader × Unit {0}). ‵ (lasts step.ended (ν ∷ κ, (κ, tt)) (lent l₃ δ, tt) zs) ⊛ raw (fact 𝓤 (Said r (zs .0))))) (id⊢ 𝓤 _) $ pick ! (λ zs.
         split ! $ move ! (1 ∷ []) $ heard ! (Said r (zs .0)) (λ e. fsplit ! $ move ! (2 ∷ []) $ split ! $ move ! (1 ∷ []) $
         -- [the result; the tokens; the last value; …; the lender's part; the rest of ν's token; …; the slice's; the number's; _6; …; _5; …; _4; …; _3's end; _2; …; _1; …; room for _0; …]
-        peeks ! u8 (Is u8) (shows 𝓤 H A u8) r (u ∷ []) (λ is. land ! (from ! (stop !)) (init ! 13 refl (uint-lawful 𝓤 H A W w8 .typed r _ is .0)) $ rewrite ! 13 (λ (w : Val). ‵ (fat fullShare (tyInt w8) l₄ 0 w)) (ap only (is .0)) refl $ drop ! $
+        peeks ! u8 (Is u8) (shows 𝓤 H A u8) r (u ∷ []) (λ is.
+        land ! (from ! (stop !)) (init ! 13 refl (uint-lawful 𝓤 H A W w8 .typed r _ is .0)) $ rewrite ! 13 (λ (w : Val). ‵ (fat fullShare (tyInt w8) l₄ 0 w)) (ap only (is .0)) refl $ drop ! $
         -- the lifetime is ended, and the reader is had again at its last value
         split ! $ move ! (0 ∷ 5 ∷ []) $ use2 W (later (‵ (fdead (ν ∷ κ)) ⊛ ‵ (flft κ (PosShare·left q)))) (within-end 𝓤 H A W ν κ (PosShare·left q)) $ await ! tt $ split ! $
         move ! (0 ∷ 5 ∷ 3 ∷ []) $ use3 W (later (‵ (partAt R fullShare (zs .0) l₃ 0))) (ref-back 𝓤 H A W R (ν ∷ κ) δ (zs .0) l₃ 0) $ await ! tt $
         use1 W (‵ (fat fullShare (T′.mir erased) l₃ 0 (T′.lowered (zs .0))) ⊛ ‵ (R .own (zs .0) (T′.lowered (zs .0) ∷ []))) (taken (zs .0) l₃) $ split ! $ move ! (1 ∷ []) $
         peeks ! R (Is R) (shows 𝓤 H A R) (zs .0) (T′.lowered (zs .0) ∷ []) (λ was. drop ! $
         -- [_3; half a token; the other half; …; …; the slice's; the number's; _6; …; _5; …; _4; …; _3's end; _2; …; _1; …; room for _0; …]
-        assigns ! (of-opd ! (load ! (from ! (fld ! refl (stop !))) (look-in ! 0 (sub ! 1 refl (whole !))))) (from ! (stop !)) (init ! 7 refl (tt, record { fits = was .1 .1 .1 .0 .1 })) $
-        assigns ! (agg ! (and-then ! (load ! (from ! (stop !)) (look ! 11 refl)) (and-then ! (load ! (from ! (stop !)) (look ! 7 refl)) (no-more !)))) (from ! (stop !)) (init ! 18 refl (tt, (record { fits = is .1 }, (record { fits = was .1 .1 .1 .0 .1 }, tt)))) $
+        assigns ! (of-opd ! (load ! (from ! (fld ! refl (stop !))) (look-in ! 0 (sub ! 1 refl (whole !))))) (from ! (stop !)) (init ! 7 refl (tt, record { fits = position-fits α (zs .0) _ was })) $
+        assigns ! (agg ! (and-then ! (load ! (from ! (stop !)) (look ! 11 refl)) (and-then ! (load ! (from ! (stop !)) (look ! 7 refl)) (no-more !)))) (from ! (stop !))
+        (init ! 18 refl (tt, (record { fits = is .1 }, (record { fits = position-fits α (zs .0) _ was }, tt)))) $
         returns ! (look ! 18 refl) $ forget ! 0 refl $ forget ! 7 refl $ forget ! 9 refl $ forget ! 11 refl $ forget ! 14 refl $ forget ! 16 refl $ forget ! 18 refl $
-        move ! (18 ∷ 19 ∷ []) $ free1 ! $ move ! (16 ∷ 17 ∷ []) $ free1 ! $ move ! (14 ∷ 15 ∷ []) $ free1 ! $ move ! (0 ∷ 13 ∷ []) $ free1 ! $ move ! (10 ∷ 11 ∷ []) $ free1 ! $ move ! (8 ∷ 9 ∷ []) $ free1 ! $ move ! (6 ∷ 7 ∷ []) $ free1 ! $ free0 ! $
-        move ! (1 ∷ []) $ split ! $ move ! (2 ∷ 0 ∷ []) $ use2 W (‵ (flft κ q)) (W .lfts .lft-join κ q) $ keep ! (0 ∷ 4 ∷ 5 ∷ []) $ by ! (exits r (zs .0) (is .1) (was .1 .1 .1 .0 .1) e))))))))))))))))
+        move ! (18 ∷ 19 ∷ []) $ free1 ! $ move ! (16 ∷ 17 ∷ []) $ free1 ! $ move ! (14 ∷ 15 ∷ []) $ free1 ! $ move ! (0 ∷ 13 ∷ []) $ free1 ! $
+        move ! (10 ∷ 11 ∷ []) $ free1 ! $ move ! (8 ∷ 9 ∷ []) $ free1 ! $ move ! (6 ∷ 7 ∷ []) $ free1 ! $ free0 ! $
+        move ! (1 ∷ []) $ split ! $ move ! (2 ∷ 0 ∷ []) $ use2 W (‵ (flft κ q)) (W .lfts .lft-join κ q) $ keep ! (0 ∷ 4 ∷ 5 ∷ []) $
+        by ! (exits r (zs .0) (is .1) (position-fits α (zs .0) _ was) e))))))))))))))))
 
 module _ {M : Type 1} (𝓤 : URA M) (H : Heap 𝓤) (A : Atoms 𝓤) (W : Given 𝓤 H A) (mem : Memory → SProp 𝓤) (run : Routine → Fun 𝓤) where
-  step-from-walks : (C : Calls 𝓤 H) (Λ : Loops 𝓤 H) → FmC 𝓤 H (W .laws) C → Triple 𝓤 (C #step) (StepC 𝓤 H A mem run) → Walks 𝓤 H A step-from.ended stayed (WpFn 𝓤 H C Λ code.function) (step-from.clauses 𝓤 H A mem run)
-  step-from-walks C Λ fm known = walked 𝓤 H A step-from.ended stayed (step-from.clauses 𝓤 H A mem run) (WpFn 𝓤 H C Λ code.function) (λ κs. (slice-vals, (uint-vals w64, tt))) (λ κs. (shr-slice-tells (named 0) (κs .0) u8, (uint-tells w64, tt)))
+  step-from-walks : (C : Calls 𝓤 H) (Λ : Loops 𝓤 H) → FmC 𝓤 H (W .laws) C → Triple 𝓤 (C #step) (StepC 𝓤 H A mem run)
+      → Walks 𝓤 H A step-from.ended stayed (WpFn 𝓤 H C Λ code.function) (step-from.clauses 𝓤 H A mem run)
+  step-from-walks C Λ fm known =
+      walked 𝓤 H A step-from.ended stayed (step-from.clauses 𝓤 H A mem run) (WpFn 𝓤 H C Λ code.function)
+      (λ κs. (slice-vals, (uint-vals w64, tt))) (λ κs. (shr-slice-tells (named 0) (κs .0) u8, (uint-tells w64, tt)))
       (λ κs qs bounds a g are. via 𝓤 _ (fst∗ 𝓤 _ (emp 𝓤)) (walk 𝓤 H A W mem run (κs .0) (qs .0) (a .0) (a .1 .0) (are .1 .0 .1) C Λ fm known (are .0)))
 
-step-from-meets : {M : Type 1} (𝓤 : URA M) (H : Heap 𝓤) (A : Atoms 𝓤) (W : Given 𝓤 H A) (mem : Memory → SProp 𝓤) (run : Routine → Fun 𝓤) (𝓣 : Tables 𝓤 H) → Triple 𝓤 (𝓣 .C #step) (StepC 𝓤 H A mem run)
+step-from-meets : {M : Type 1} (𝓤 : URA M) (H : Heap 𝓤) (A : Atoms 𝓤) (W : Given 𝓤 H A) (mem : Memory → SProp 𝓤) (run : Routine → Fun 𝓤) (𝓣 : Tables 𝓤 H)
+    → Triple 𝓤 (𝓣 .C #step) (StepC 𝓤 H A mem run)
     → Meets 𝓤 H A step-from.signature (WpFn 𝓤 H (𝓣 .C) (𝓣 .Λ) code.function) (step-from.spec 𝓤 H A mem run)
 step-from-meets 𝓤 H A W mem run 𝓣 known =
-    walk-meets 𝓤 H A step-from.ended stayed W (goes-none-slice 𝓤 H A W 1 (0 ∷ []) tt (plain (λ _. u8)) yes, (goes-none 𝓤 H A W 1 (λ _. usize) yes (λ κs x f. refl), tt)) (step-from.clauses 𝓤 H A mem run)
-    (WpFn 𝓤 H (𝓣 .C) (𝓣 .Λ) code.function) (WpFn-mono 𝓤 H (W .laws) 𝓣 code.function) (step-from-walks 𝓤 H A W mem run (𝓣 .C) (𝓣 .Λ) (fmOf 𝓤 H (W .laws) 𝓣) known)
+    walk-meets 𝓤 H A step-from.ended stayed W (goes-none-slice 𝓤 H A W 1 (0 ∷ []) tt (plain (λ _. u8)) yes, (goes-none 𝓤 H A W 1 (λ _. usize) yes (λ κs x f. refl), tt))
+    (step-from.clauses 𝓤 H A mem run) (WpFn 𝓤 H (𝓣 .C) (𝓣 .Λ) code.function) (WpFn-mono 𝓤 H (W .laws) 𝓣 code.function) (step-from-walks 𝓤 H A W mem run (𝓣 .C) (𝓣 .Λ) (fmOf 𝓤 H (W .laws) 𝓣) known)
 
 pub step-from-spec : {M : Type 1} → stated.statement M
 unfolding code.routine tablesOf
