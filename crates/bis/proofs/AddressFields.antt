@@ -4,7 +4,6 @@ use mathlib.Core.Bool.{Bool, true, false, cond}
 use mathlib.Core.List.{List, [], _∷_, _++_}
 use Prim.Native.Nat.{ℕ, zero, suc, _+_, _*_, _-_, _/_, _%_, _^_, _<_}
 use native.Mathlib.Omega.{arith}
-use borrow.Author.Tests.{le-leb}
 use lib.Arith.{digits-mod}
 use lib.ListN.{length, getD, take, length-append}
 use lib.Seq.{getD-take, length-take-le}
@@ -15,21 +14,7 @@ use Rattle.laws.proofs.Finite.{all, equal-below, bounded-below}
 use Rattle.laws.proofs.Tabulate.{is-tabulate, getD-tabulate, length-tabulate}
 use Rattle.column.specs.Column.{hasRoots, parity}
 use Rattle.column.proofs.Parity.{parity-length, parity-bytes, parity-test, test-column}
-use Rattle.address.specs.declared.AunAnswer.{AunAnswer}
-use Rattle.address.specs.declared.Judged.{Judged}
-use Rattle.address.specs.declared.Judged.the-variants.{Accepted}
-use Rattle.address.specs.Judged.{judged, ifAccepted}
-use Rattle.address.specs.Conversions.{aunOf, psnToAun}
 use Rattle.bis.specs.AddressField.{reordered, information, primaryField, isInverted, invertedAt, partlyInverted, addressField, restored, aunIn, flagIn}
-
--- ---- the AUN of an accepted PSN
-
-pub aun-answered : (psn y : ℕ) {unit : AunAnswer} → y < 16 → judged psn ≡ Accepted → unit ≡ psnToAun psn y → unit .aun .0 ≡ aunOf psn y
-unfolding psnToAun
-aun-answered psn y h accepted e =
-    ap (λ (u : AunAnswer). u .aun .0) e
-    ∙ ap (λ (b : Bool). cond b (ifAccepted (judged psn) (aunOf psn y)) 0) (le-leb y 15 (omega arith))
-    ∙ ap (λ (j : Judged). ifAccepted j (aunOf psn y)) accepted
 
 -- ---- the order of bits
 

@@ -23,7 +23,7 @@ use Rattle.bis.specs.BisBlock.{accessColumn, codeWord, bisBlock, Block}
 use Rattle.bis.specs.Reading.{wrongColumn, firstWrongColumn, fieldIn, primaryIn, wrongField, firstWrongField, IsPsnOf, sideByteIn, sideIn}
 use Rattle.bis.proofs.Mapping.{field-place, control-place, field-at-lt, byte-at-lt, row-back, column-back, af-row-lt, af-column-lt}
 use Rattle.bis.proofs.AddressFields.{aun-back, flag-back, primary-roots, length-field, bytes-field, primary-back, field-only, bytes-inverted}
-use Rattle.bis.proofs.Psn.{aun-lt}
+use Rattle.address.proofs.Accepted.{aun-lt}
 
 -- ---- code words
 

@@ -15,7 +15,7 @@ use Rattle.address.specs.declared.Judged.the-variants.{Accepted, NoMultiple, No
 use Rattle.address.specs.declared.PsnAnswer.{PsnAnswer}
 use Rattle.address.specs.Judged.{judged, ifAccepted}
 use Rattle.address.specs.Conversions.{aunOf, psnToAun, aunToPsn}
-use Rattle.bis.proofs.AddressFields.{aun-answered}
+use Rattle.address.proofs.Accepted.{aun-answered}
 use Rattle.bis.specs.AddressField.{flagIn}
 use Rattle.bis.specs.AccessBlock.{rowOfUC, columnOfUC}
 use Rattle.bis.specs.Reading.{wrongColumn, primaryIn, wrongField, aunAt, isAccepted, otherUnit, firstOtherUnit, foundIf, psnIn, sideByteIn, sideIn, sideOut}

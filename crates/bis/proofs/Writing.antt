@@ -13,7 +13,7 @@ use Rattle.address.specs.declared.AunAnswer.{AunAnswer}
 use Rattle.address.specs.declared.Judged.the-variants.{Accepted}
 use Rattle.address.specs.Judged.{judged}
 use Rattle.address.specs.Conversions.{psnToAun}
-use Rattle.bis.proofs.AddressFields.{aun-answered}
+use Rattle.address.proofs.Accepted.{aun-answered}
 use Rattle.bis.specs.AddressField.{addressField}
 use Rattle.bis.specs.AccessBlock.{fieldOf, addressFields, fieldAt, byteAt, controlAt, accessByte}
 use Rattle.bis.specs.BisBlock.{codeWord, bisBlock}

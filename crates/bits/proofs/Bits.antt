@@ -1,7 +1,7 @@
 -- The bits of a list, one by one. Assumes nothing.
 use mathlib.Core.Path.{_≡_, ap, _∙_}
-use mathlib.Core.List.{List}
-use Prim.Native.Nat.{ℕ, _+_, _*_, _-_, _/_, _%_, _^_, _<_, _≤_}
+use mathlib.Core.List.{List, [], _∷_, _++_}
+use Prim.Native.Nat.{ℕ, zero, suc, _+_, _*_, _-_, _/_, _%_, _^_, _<_, _≤_}
 use native.Mathlib.Nat.{mod-lt, zero-lt-suc}
 use native.Mathlib.Decide.{decLt}
 use native.Mathlib.Omega.{arith}
@@ -36,3 +36,9 @@ bits-bits l p =
       | yes h ↦ rw (getD-bits l p h) (mod-lt (getD l (p / 8) 0 / 2 ^ (7 - p % 8)) (zero-lt-suc 1))
       | no h ↦ rw (getD-past l p (omega arith)) (omega arith)
     ]
+
+-- bits behind bits
+pub bits-then : (l m : List ℕ) → Bits l → Bits m → Bits (l ++ m)
+bits-then [] m bl bm i = bm i
+bits-then (x ∷ l) m bl bm zero = bl 0
+bits-then (x ∷ l) m bl bm (suc i) = bits-then l m (λ j. bl (suc j)) bm i

@@ -4,3 +4,4 @@ pub mod Number
 pub mod Write
 pub mod Read
 pub mod Pack
+pub mod Concat

@@ -9,6 +9,7 @@ use lib.ListN.{length, getD, take, length-append}
 use lib.Seq.{ext-getD, take-append-seam}
 use Rattle.laws.specs.Bytes.{Bytes}
 use Rattle.bits.specs.Bits.{Bits, bitsOf, packed}
+use Rattle.bits.proofs.Bits.{bits-then}
 use Rattle.bits.proofs.Pack.{bits-packed}
 use Rattle.modulation.specs.Stream.{stream}
 use Rattle.modulation.specs.Gaps.{LongGaps, Spaced, NoSeven}
@@ -110,11 +111,6 @@ unfolding imageBitsFrom
 image-size first input = length-stream (recording first input) 496 (full first input 496)
 
 -- ---- in bytes
-
-bits-then : (l m : List ℕ) → Bits l → Bits m → Bits (l ++ m)
-bits-then [] m bl bm i = bm i
-bits-then (x ∷ l) m bl bm zero = bl 0
-bits-then (x ∷ l) m bl bm (suc i) = bits-then l m (λ j. bl (suc j)) bm i
 
 -- the bits of the image's bytes are the 958,302 bits and two zeros
 pub image-bits : (input : Input) → bitsOf (image input) ≡ imageBits input ++ (0 ∷ 0 ∷ [])

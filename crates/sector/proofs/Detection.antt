@@ -13,9 +13,9 @@ use Rattle.bits.specs.Bits.{bitsOf, number}
 use Rattle.bits.proofs.Bits.{length-bits, bits-bits}
 use Rattle.bits.proofs.Number.{number-lt}
 use Rattle.sector.specs.Edc.{MultipleOfG, remainder, edcOf, fourBytes, edcBytes}
-use Rattle.sector.proofs.Xor.{xor-equal}
+use Rattle.laws.proofs.Xor.{xor-equal}
 use Rattle.sector.proofs.Division.{Leaves, leaves-self, leaves-add, leaves-one, leaves-zero, multiple-leaves, leaves-bits}
-use Rattle.sector.proofs.Concat.{number-bytes, number-byte, bytes-equal}
+use Rattle.bits.proofs.Concat.{number-bytes, number-byte, bytes-equal}
 
 -- ---- four bytes
 

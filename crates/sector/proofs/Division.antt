@@ -8,10 +8,9 @@ use native.Mathlib.Omega.{arith}
 use borrow.Author.Tests.{le-leb, lt-leb}
 use lib.Bits.{bitXor, xor-comm, xor-self, xor-zero-r, xor-lt, xor-block, xor-shifted}
 use lib.ListN.{length}
-use Rattle.laws.proofs.Xor.{xor-assoc, xor-cancel}
+use Rattle.laws.proofs.Xor.{xor-assoc, xor-cancel, xor-left, xor-equal, xor-scaled}
 use Rattle.bits.specs.Bits.{Bits, number}
 use Rattle.sector.specs.Edc.{generator, timesG, MultipleOfG, divided, remainder}
-use Rattle.sector.proofs.Xor.{xor-left, xor-equal, xor-scaled}
 use Rattle.sector.proofs.Polynomial.{times-zero, times-one, times-add, times-scaled, times-low}
 
 -- r is the remainder of p(x)

@@ -14,7 +14,7 @@ use Rattle.bits.proofs.Bits.{length-bits}
 use Rattle.sector.specs.Edc.{MultipleOfG, edcOf, edcBytes}
 use Rattle.sector.specs.Scrambling.{scramblingOf, scrambled}
 use Rattle.sector.specs.DataFrame.{dataFrame, sectorFrame, edcRight}
-use Rattle.sector.proofs.Concat.{bytes-equal}
+use Rattle.bits.proofs.Concat.{bytes-equal}
 use Rattle.sector.proofs.Detection.{length-edc, bytes-edc, number-edc, edc-completes, edc-only, code-completes, complete-is-code}
 use Rattle.sector.proofs.Stream.{length-scrambled, bytes-scrambled, bytes-scrambling, scrambled-twice, scrambled-inj}
 

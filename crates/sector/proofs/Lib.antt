@@ -1,8 +1,6 @@
 -- Laws of sectors.
-pub mod Xor
 pub mod Polynomial
 pub mod Division
-pub mod Concat
 pub mod Detection
 pub mod Steps
 pub mod Quotient

@@ -5,9 +5,8 @@ use native.Mathlib.Nat.{mul-comm, mul-assoc}
 use native.Mathlib.Omega.{arith}
 use lib.Arith.{bin-ind}
 use lib.Bits.{bitXor, xor-comm, xor-lt, xor-shifted}
-use Rattle.laws.proofs.Xor.{xor-assoc, xor-cancel}
+use Rattle.laws.proofs.Xor.{xor-assoc, xor-cancel, xor-left, xor-scaled}
 use Rattle.sector.specs.Edc.{generator, timesG}
-use Rattle.sector.proofs.Xor.{xor-left, xor-scaled}
 
 pub times-zero : timesG 0 ≡ 0
 unfolding timesG

@@ -5,9 +5,8 @@ use native.Mathlib.Nat.{mod-lt, add-comm, zero-mul, div-eq-of-lt}
 use native.Mathlib.Omega.{arith}
 use lib.Bits.{bitXor, xor-comm, xor-self, xor-zero-r, xor-lt, xor-shr}
 use lib.Pow.{pow-pos, split, shr-shr}
-use Rattle.laws.proofs.Xor.{xor-assoc, xor-cancel}
+use Rattle.laws.proofs.Xor.{xor-assoc, xor-cancel, xor-left, xor-twice, xor-equal, xor-scaled, raised}
 use Rattle.sector.specs.Edc.{timesG, edcOf, fourBytes}
-use Rattle.sector.proofs.Xor.{xor-left, xor-twice, xor-equal, xor-scaled, raised}
 use Rattle.sector.proofs.Division.{Leaves, leaves-one}
 use Rattle.sector.proofs.Steps.{four-leaves}
 

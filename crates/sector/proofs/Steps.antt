@@ -7,12 +7,11 @@ use native.Mathlib.Omega.{arith}
 use lib.Bits.{bitXor, xor-comm, xor-self, xor-lt, xor-shifted}
 use lib.ListN.{length}
 use lib.Pow.{pow-pos}
-use Rattle.laws.proofs.Xor.{xor-assoc}
+use Rattle.laws.proofs.Xor.{xor-assoc, xor-left, xor-twice, xor-scaled, raised}
 use Rattle.bits.specs.Bits.{bitsOf, number}
 use Rattle.sector.specs.Edc.{edcOf, fourBytes}
-use Rattle.sector.proofs.Xor.{xor-left, xor-twice, xor-scaled, raised}
 use Rattle.sector.proofs.Division.{Leaves, leaves-self, leaves-add, leaves-one, leaves-multiple, multiple-leaves, multiple-scaled}
-use Rattle.sector.proofs.Concat.{number-bytes, number-byte}
+use Rattle.bits.proofs.Concat.{number-bytes, number-byte}
 use Rattle.sector.proofs.Detection.{edc-leaves, edc-lt, number-of-four, four-lt, number-behind}
 
 -- four bytes that make w

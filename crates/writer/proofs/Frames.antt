@@ -13,13 +13,14 @@ use Rattle.bits.specs.Bits.{bitsOf, packed}
 use Rattle.bits.proofs.Bits as B
 use Rattle.bits.proofs.Pack.{packed-bits}
 use Rattle.modulation.specs.Bits.{bits}
-use Rattle.modulation.specs.Sync.{FS, FS0, FS1, FS2, FS3, FS4, FS5, FS6, sync, syncNumber}
+use Rattle.modulation.specs.Sync.{FS, sync, syncNumber}
 use Rattle.modulation.specs.Stream as Stream
 use Rattle.modulation.proofs.Bits.{bits-append, length-bits}
 use Rattle.modulation.proofs.Streams.{length-sync, length-recorded}
 use Rattle.frame.specs.Sync.{fs, fsNumber}
 use Rattle.frame.specs.Frame.{frame, frameGroups}
 use Rattle.frame.specs.Written.{SyncWritten, FrameWritten}
+use Rattle.frame.proofs.SyncTables.{fs-number}
 use Rattle.cluster.specs.EccCluster.{eccCluster, rowOf, shownRow}
 use Rattle.image.specs.Image.{Input, cluster, recordingOf, imageBitsFrom, image}
 use Rattle.image.proofs.Recordings.{length-row, full-of}
@@ -42,16 +43,6 @@ set-last l p size =
 
 -- ---- frames
 
-fs-back : (f : FS) → fs (fsNumber f) ≡ f
-unfolding fs
-fs-back FS0 = refl
-fs-back FS1 = refl
-fs-back FS2 = refl
-fs-back FS3 = refl
-fs-back FS4 = refl
-fs-back FS5 = refl
-fs-back FS6 = refl
-
 -- the row that is shown is the row
 row-is : (work row : List ℕ) (n : ℕ) → length work ≡ 76880 → n < 496 → row ≡ shownRow work n → row ≡ rowOf work n
 row-is work row n size h e = e ∙ rw (eq-eqb (length work) 76880 size, le-leb n 495 (omega arith))
@@ -62,7 +53,7 @@ row-size work row n size h e = ap (length {A = ℕ}) (row-is work row n size h e
 pub frame-put : (work row before after : List ℕ) (n number at dc : ℕ) (hash r : Bool) → length work ≡ 76880 → n < 496 → row ≡ shownRow work n
     → number ≡ fsNumber (syncNumber n) → FrameWritten (fs number) hash row dc before at after r → FrameWritten (syncNumber n) hash (rowOf work n) dc before at after r
 frame-put work row before after n number at dc hash r size h e f w =
-    subst₂ (λ (m : FS) (l : List ℕ). FrameWritten m hash l dc before at after r) (ap fs f ∙ fs-back (syncNumber n)) (row-is work row n size h e) w
+    subst₂ (λ (m : FS) (l : List ℕ). FrameWritten m hash l dc before at after r) (ap fs f ∙ fs-number (syncNumber n)) (row-is work row n size h e) w
 
 module _ (work dc : List ℕ) where
   abbrev c : Stream.Recording

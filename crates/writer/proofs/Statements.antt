@@ -12,7 +12,7 @@ use Rattle.laws.proofs.First.{first-none, first-all}
 use Rattle.image.specs.Image.{Input, IsAccepted, cluster, image}
 use Rattle.answer.specs.declared.Answer.{Answer}
 use Rattle.answer.specs.declared.Answer.the-variants.{Done, DcWord}
-use Rattle.answer.specs.Answer.{numberOf, placeOf, isDone, andThen, lowest, lengthsAnswer}
+use Rattle.answer.specs.Answer.{numberOf, placeOf, isDone, lowest}
 use Rattle.answer.proofs.Tests.{number-zero, done-or-not, then-next, right-lengths, lowest-none}
 use Rattle.writer.specs.Outcome.{psnAnswer, tooLarge, firstTooLarge, partsAnswer, answer, outcome}
 use Rattle.writer.proofs.Judging.{passed-all}
