@@ -21,7 +21,7 @@ pub examples : map (λ (psn : ℕ). numberOf (judged psn))
 unfolding judged
 examples = refl
 
--- the first clusters of the zones (the PAAs that clause 18 names)
+-- the first clusters of the zones (the PAAs that 15.8.3.3, 15.8.3.4 and clause 18 name)
 pub first-paas : map paaOf (zone0 .first ∷ zone1 .first ∷ zone2 .first ∷ []) ≡ 0x02_0000 ∷ 0x5E_EC80 ∷ 0x82_0000 ∷ []
 first-paas = refl
 

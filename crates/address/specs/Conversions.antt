@@ -1,4 +1,4 @@
--- Address unit numbers (AUN, 13.9.2.3), groove addresses (PAA, Figure 90), and what the conversions answer.
+-- Address unit numbers (AUN, 13.9.2.3), groove addresses (PAA, 17.2 and Figure 90), and what the conversions answer.
 -- A value is 0 where its input is refused.
 use mathlib.Core.Bool.{cond}
 use Prim.Native.Nat.{ℕ, _+_, _*_, _/_, _%_}

@@ -1,6 +1,5 @@
 -- Physical sector numbers (PSN) and the data zones (17.2).
-use mathlib.Core.Path.{_≡_}
-use mathlib.Core.Bool.{Bool, true, _&&_, _||_}
+use mathlib.Core.Bool.{Bool, _&&_, _||_}
 use Prim.Native.Nat.{ℕ, _%_}
 use lib.Dec.{leb, eqb}
 
@@ -27,8 +26,3 @@ inDataZone psn = within zone0 psn || (within zone1 psn || within zone2 psn)
 -- the PSN of a cluster's first sector is a multiple of 32
 abbrev pub firstOfCluster : ℕ → Bool
 firstOfCluster psn = eqb (psn % 32) 0
-
--- the PSNs of clusters that can be written: both tests
-pub record Accepted (psn : ℕ) : Type 0 where
-  pub multiple : firstOfCluster psn ≡ true
-  pub zone : inDataZone psn ≡ true

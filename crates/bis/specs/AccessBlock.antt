@@ -31,7 +31,8 @@ rowOfAF x y = 2 * (x / 3) + y / 8
 abbrev pub columnOfAF : ℕ → ℕ → ℕ
 columnOfAF x y = 3 * ((x / 3 + 16 - y) % 8) + (x - x / 3) % 3
 
--- the same the other way: in the first six rows, address field and byte of what stands in a row and a column
+-- the same the other way (proofs/Mapping: field-place, control-place): in the first six rows, address field and byte of what stands in a row
+-- and a column
 abbrev pub fieldAt : ℕ → ℕ → ℕ
 fieldAt row column = 8 * (row % 2) + (row / 2 + 16 - column / 3) % 8
 

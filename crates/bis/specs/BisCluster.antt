@@ -13,11 +13,11 @@ rowInUnit N = N / 2
 abbrev pub columnOf : ℕ → ℕ → ℕ
 columnOf N C = (C + N / 2) % 3
 
--- a unit has 31 rows
+-- formula 42's row: a unit has 31 rows
 abbrev pub rowOf : ℕ → ℕ → ℕ
 rowOf N C = 31 * unitOf N C + rowInUnit N
 
--- the same the other way: byte and code word of what stands in a row and a column of the cluster
+-- the same the other way (proofs/Mapping: word-place): byte and code word of what stands in a row and a column of the cluster
 abbrev pub byteAt : ℕ → ℕ
 byteAt row = 2 * (row % 31) + row / 31 / 8
 

@@ -21,11 +21,11 @@ pub record User (user : List ℕ) : Type 0 where
 abbrev pub sectorOf : List ℕ → ℕ → List ℕ
 sectorOf user F = take 2048 (drop (2048 * F) user)
 
--- data frame F (13.2, 13.3), scrambled with a stream
+-- data frame F (13.2, 13.3), scrambled with a stream (13.4)
 abbrev pub scrambledFrames : List ℕ → List ℕ → ℕ → List ℕ
 scrambledFrames stream user F = scrambled stream (dataFrame (sectorOf user F))
 
--- and with that of the PSN (13.4)
+-- and with that of the PSN
 abbrev pub frames : ℕ → List ℕ → ℕ → List ℕ
 frames psn user = scrambledFrames (scramblingOf psn) user
 

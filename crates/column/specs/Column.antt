@@ -71,6 +71,7 @@ unfoldable pub remainder : List ℕ → List ℕ → List ℕ → List ℕ
 remainder g register [] = register
 remainder g register (d ∷ ds) = remainder g (pushed g register d) ds
 
--- the remainder of the message, times x^r, divided by the generator
+-- the remainder of the message, times x^r, divided by the generator; the only r bytes that complete a multiple of it, with the roots
+-- α^0 to α^(r - 1) (proofs/Parity: parity-only)
 unfoldable pub parity : ℕ → List ℕ → List ℕ
 parity r message = remainder (drop 1 (generator r)) (tabulate r (λ _. 0)) message

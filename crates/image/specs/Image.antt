@@ -1,4 +1,4 @@
--- 13.14 to 13.17: the physical cluster of an input, 496 modulated recording frames and the frame sync that follows them.
+-- 13.14 to 13.17: the physical cluster of an input, 496 modulated recording frames, and the frame sync that follows it (14.2.3.2).
 use mathlib.Core.Path.{_≡_}
 use mathlib.Core.Bool.{Bool, false}
 use mathlib.Core.List.{List, [], _∷_, _++_}
@@ -48,7 +48,7 @@ recording first input = recordingOf first (cluster input) (input .dc)
 unfoldable pub imageBitsFrom : Bool → Input → List ℕ
 imageBitsFrom first input = bits (stream (recording first input) 496)
 
--- # of frame 0 is ZERO (document 01)
+-- # of frame 0 is ZERO: 14.2.2.4 leaves it free, document 01 does not
 abbrev pub imageBits : Input → List ℕ
 imageBits input = imageBitsFrom false input
 

@@ -1,7 +1,8 @@
 -- The entries that the standard prints of the data block (Figure 23) and the LDC cluster (Figure 26, where document 003's text is whole).
 use mathlib.Core.Path.{_≡_, refl}
 use mathlib.Core.List.{List, [], _∷_, map}
-use Prim.Native.Nat.{ℕ, _+_, _*_, _/_, _%_}
+use Prim.Native.Nat.{ℕ}
+use Rattle.ldc.specs.LdcBlock.{frameOf, byteOf, dataIndex}
 use Rattle.ldc.specs.LdcCluster.{shifted}
 
 -- a row and a column
@@ -17,7 +18,7 @@ abbrev entry : ℕ → ℕ → List ℕ
 entry a b = a ∷ b ∷ []
 
 -- Figure 23: byte and data frame of what stands in the data block
-pub figure-23 : map (λ (p : At). entry ((216 * p .column + p .row) % 2052) ((216 * p .column + p .row) / 2052))
+pub figure-23 : map (λ (p : At). entry (byteOf (dataIndex (p .column) (p .row))) (frameOf (dataIndex (p .column) (p .row))))
     (at 0 0 ∷ at 0 1 ∷ at 0 9 ∷ at 0 10 ∷ at 0 18 ∷ at 0 19 ∷ at 0 303 ∷
     at 215 0 ∷ at 215 1 ∷ at 215 9 ∷ at 215 10 ∷ at 215 18 ∷ at 215 19 ∷ at 215 303 ∷ [])
     ≡ (entry 0 0 ∷ entry 216 0 ∷ entry 1944 0 ∷ entry 108 1 ∷ entry 1836 1 ∷ entry 0 2 ∷ entry 1836 31 ∷

@@ -1,4 +1,5 @@
--- 13.8 the other way: the place of each byte of the LDC block in the LDC cluster, and code words and data frames out of a cluster.
+-- 13.8 the other way (proofs/Interleaving): the place of each byte of the LDC block in the LDC cluster, and code words and data frames out of
+-- a cluster.
 use mathlib.Core.List.{List}
 use Prim.Native.Nat.{ℕ, _+_, _*_, _-_, _/_, _%_}
 use Rattle.laws.specs.Tabulate.{tabulate}

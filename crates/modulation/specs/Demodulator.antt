@@ -1,5 +1,6 @@
 -- A demodulator, word by word: a word is the first of the rows whose groups stand there, whose condition agrees, and behind which the
--- frame can go on so. No promise rests on it: that it gives the data bits back, and when there are none, are theorems.
+-- frame can go on so. What is read is defined by it, and theorems take it away again: that it gives the data bits back, that no others give
+-- the frame, and when there are none.
 use mathlib.Core.Bool.{Bool, true, false, not, _&&_, Bool·beq}
 use mathlib.Core.List.{List, [], _∷_, _++_}
 use Prim.Native.Nat.{ℕ, zero, suc, _-_}

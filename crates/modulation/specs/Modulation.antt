@@ -1,4 +1,4 @@
--- 17PP modulation, 13.17.2: the rows of Figure 38, and at each word's start the longest that fits.
+-- 17PP modulation, 13.17.2: the rows of Figure 38, and at each word's start the longest that fits (document 01).
 -- Data bits stand two by two and modulation bits three by three, as the figure prints them.
 use mathlib.Core.Bool.{Bool, true, false, not, _&&_, _||_, cond}
 use mathlib.Core.List.{List, [], _∷_, _++_}

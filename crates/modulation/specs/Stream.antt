@@ -1,5 +1,5 @@
--- A run of recording frames, each behind its frame sync, and the sync that follows (13.16, 13.17.4): # of the first sync is free,
--- # of each other says how the frame before it ended.
+-- 13.16, 13.17.4: a run of recording frames, each behind its frame sync, and the sync that follows (14.2.3.2). # of the first sync is free
+-- (14.2.2.4), # of each other says how the frame before it ended.
 use mathlib.Core.Bool.{Bool, false}
 use mathlib.Core.List.{List, [], _++_}
 use mathlib.Core.Path.{_≡_}

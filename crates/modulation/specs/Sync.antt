@@ -9,10 +9,6 @@ use Rattle.modulation.specs.Modulation.{Three, m000, m001, m010, m100, m
 pub data FS : Type 0 where
   FS0 FS1 FS2 FS3 FS4 FS5 FS6 : FS
 
--- the sync of number 0 to 6
-abbrev pub fs : ℕ → FS
-fs n = getD (FS0 ∷ FS1 ∷ FS2 ∷ FS3 ∷ FS4 ∷ FS5 ∷ FS6 ∷ []) n FS0
-
 -- Figure 39: the 24-bit sync body, with # first; # is ONE where the frame before ended by a terminating row
 abbrev pub syncBody : Bool → List Three
 syncBody hash = cond hash m101 m001 ∷ m010 ∷ m000 ∷ m000 ∷ m010 ∷ m000 ∷ m000 ∷ m010 ∷ []

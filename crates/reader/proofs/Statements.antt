@@ -22,7 +22,7 @@ use Rattle.modulation.proofs.Tests.{and-left, and-right}
 use Rattle.frame.specs.Sync.{hashAt, syncRight}
 use Rattle.frame.proofs.SyncRight.{sync-as-read, hash-as-read, sync-is-right}
 use Rattle.frame.specs.Reading.{BitsGive, readable}
-use Rattle.frame.proofs.Reading.{readable-iff}
+use Rattle.frame.proofs.Reading.{bits-read, readable-iff}
 use Rattle.sector.specs.Scrambling.{scramblingOf}
 use Rattle.bis.specs.declared.PsnFound.{PsnFound}
 use Rattle.bis.specs.declared.PsnFound.the-variants.{Found, NotFound}
@@ -33,7 +33,7 @@ use Rattle.cluster.specs.Reading.{firstWrongWord, firstWrongSector, userIn, Rea
 use Rattle.cluster.proofs.Statements as Cluster
 use Rattle.image.specs.Image.{Input, IsAccepted, cluster, imageBits, image}
 use Rattle.image.proofs.Demand3.{image-bits, image-size}
-use Rattle.reader.specs.Reading.{lastZero, wrongSync, firstWrongSync, modulatedAt, hashBehind, noFrame, firstNoFrame, clusterIn}
+use Rattle.reader.specs.Reading.{lastZero, wrongSync, firstWrongSync, modulatedAt, hashBehind, noFrame, firstNoFrame, frameBitsIn, clusterIn}
 use Rattle.reader.specs.Outcome.{framesAnswer, psnAnswer, blockAnswer, dataAnswer, psnOf, clusterAnswer, imageAnswer, Lent, Outcome, accepted, cleared, judgedOutcome, sizesAnswer, outcome}
 use Rattle.reader.proofs.Clusters.{read-psn, reads-done, done-reads}
 use Rattle.reader.proofs.Writing.{last-zero, right-syncs, all-frames, cluster-there, dc-there}
@@ -54,6 +54,10 @@ no-frame-iff b n = (
     by : (t : Bool) → readable (syncNumber n) (modulatedAt b n) (hashBehind b n) ≡ t → ((d : List ℕ) → BitsGive (syncNumber n) d (modulatedAt b n) (hashBehind b n) → ⊥) → not (readable (syncNumber n) (modulatedAt b n) (hashBehind b n)) ≡ true
     by true e none = let some = readable-iff (syncNumber n) (modulatedAt b n) (hashBehind b n) .0 e in absurd (none (some .0) (some .1))
     by false e none = ap not e
+
+-- and where there are such bits, they are those that the cluster and the dc words are read from, and no others
+pub only-bits : (b : List ℕ) (n : ℕ) (d : List ℕ) → BitsGive (syncNumber n) d (modulatedAt b n) (hashBehind b n) → d ≡ frameBitsIn b n
+only-bits b n d g = bits-read (syncNumber n) (modulatedAt b n) (hashBehind b n) g
 
 -- ---- 10: a sync is right exactly where its bits stand, with # of either value, ZERO at frame 0
 

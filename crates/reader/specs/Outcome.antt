@@ -1,4 +1,4 @@
--- The reader's outcome: answer, PSN and the four lent slices at exit, from the image and the slices at entry.
+-- Document 01's table, reading: answer, PSN and the four lent slices at exit, from the image and the slices at entry.
 use mathlib.Core.Bool.{cond}
 use mathlib.Core.List.{List}
 use Prim.Native.Nat.{ℕ}

@@ -42,7 +42,7 @@ firstNoFrame b = first 496 (noFrame b)
 
 -- ---- the ECC cluster, row by row, and the dc words
 
--- the 1,268 bits of frame n
+-- the 1,268 bits of frame n, the only ones that give it (proofs/Statements: only-bits)
 abbrev pub frameBitsIn : List ℕ → ℕ → List ℕ
 frameBitsIn b n = bitsRead (syncNumber n) (modulatedAt b n) (hashBehind b n)
 

@@ -15,7 +15,8 @@ dataFrame user = user ++ edcBytes user
 abbrev pub sectorFrame : ℕ → List ℕ → List ℕ
 sectorFrame psn user = scrambled (scramblingOf psn) (dataFrame user)
 
--- 2,052 bytes, of which the last four are the error-detection code of those before
+-- 2,052 bytes, of which the last four are the error-detection code of those before; so exactly where they make a multiple of G
+-- (proofs/Frame: right-multiple, multiple-right)
 unfoldable pub edcRight : List ℕ → Bool
 edcRight frame = eqb (length frame) 2052 && eqb (number (bitsOf (drop 2048 frame))) (edcOf (take 2048 frame))
 

@@ -1,4 +1,4 @@
--- The writer's outcome: its answer and the two slices that it is lent to write, as they are at exit.
+-- Document 01's table, writing: the answer and the two slices that are lent to be written, as they are at exit.
 use mathlib.Core.Bool.{Bool, cond}
 use mathlib.Core.List.{List}
 use Prim.Native.Nat.{ℕ}
