@@ -1,0 +1,2 @@
+-- Laws of tests one after the other.
+pub mod Tests

@@ -1,0 +1,62 @@
+-- The numbers and places of document 01, and tests one after the other.
+use mathlib.Core.Bool.{Bool, cond}
+use Prim.Native.Nat.{ℕ}
+use lib.Dec.{eqb, ltb}
+use Rattle.answer.specs.declared.Answer.{Answer}
+use Rattle.answer.specs.declared.Answer.the-variants.{Done, WrongUser, WrongSide, WrongDc, WrongImage, WrongWork, NoMultiple, NoZone, DcWord, LastBits, Sync, Frame, BisColumn, AddressUnit, NoPsn, LdcColumn, Sector}
+
+abbrev pub numberOf : Answer → ℕ
+numberOf Done = 0
+numberOf WrongUser = 1
+numberOf WrongSide = 2
+numberOf WrongDc = 3
+numberOf WrongImage = 4
+numberOf WrongWork = 5
+numberOf NoMultiple = 6
+numberOf NoZone = 7
+numberOf (DcWord n) = 8
+numberOf LastBits = 9
+numberOf (Sync n) = 10
+numberOf (Frame n) = 11
+numberOf (BisColumn n) = 12
+numberOf (AddressUnit n) = 13
+numberOf NoPsn = 14
+numberOf (LdcColumn n) = 15
+numberOf (Sector n) = 16
+
+abbrev pub placeOf : Answer → ℕ
+placeOf Done = 0
+placeOf WrongUser = 0
+placeOf WrongSide = 0
+placeOf WrongDc = 0
+placeOf WrongImage = 0
+placeOf WrongWork = 0
+placeOf NoMultiple = 0
+placeOf NoZone = 0
+placeOf (DcWord n) = n
+placeOf LastBits = 0
+placeOf (Sync n) = n
+placeOf (Frame n) = n
+placeOf (BisColumn n) = n
+placeOf (AddressUnit n) = n
+placeOf NoPsn = 0
+placeOf (LdcColumn n) = n
+placeOf (Sector n) = n
+
+abbrev pub isDone : Answer → Bool
+isDone a = eqb (numberOf a) 0
+
+-- ---- tests
+
+-- two tests in rising order: the second speaks where the first is passed
+abbrev pub andThen : Answer → Answer → Answer
+andThen a next = cond (isDone a) next a
+
+-- a test of the indexes below n, of which i is the lowest that fails; i is n where none does
+abbrev pub lowest : (ℕ → Answer) → ℕ → ℕ → Answer
+lowest refusal n i = cond (ltb i n) (refusal i) Done
+
+-- 1 to 5: the lengths
+abbrev pub lengthsAnswer : ℕ → ℕ → ℕ → ℕ → ℕ → Answer
+lengthsAnswer user side dc image work =
+    cond (eqb user 65536) (cond (eqb side 592) (cond (eqb dc 496) (cond (eqb image 119788) (cond (eqb work 76880) Done WrongWork) WrongImage) WrongDc) WrongSide) WrongUser

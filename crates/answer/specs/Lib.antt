@@ -1,0 +1,2 @@
+-- The answers of document 01.
+pub mod Answer

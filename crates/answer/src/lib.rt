@@ -1,0 +1,106 @@
+// What the writer and the reader answer: a case for each row of document 01's table of returned numbers.
+ghost use mathlib.Core.Path.{_≡_};
+ghost use Rattle.answer.specs.Answer.{numberOf, placeOf, isDone, lengthsAnswer};
+
+pub enum Answer {
+    Done,
+    WrongUser,
+    WrongSide,
+    WrongDc,
+    WrongImage,
+    WrongWork,
+    NoMultiple,
+    NoZone,
+    // The lowest dc word above 0FFFFFFFh.
+    DcWord(usize),
+    LastBits,
+    // The lowest frame whose sync is wrong; 496 is the closing sync.
+    Sync(usize),
+    // The lowest frame that no 1,268 bits give.
+    Frame(usize),
+    BisColumn(usize),
+    AddressUnit(usize),
+    NoPsn,
+    LdcColumn(usize),
+    Sector(usize),
+}
+
+impl Answer {
+    // Document 01's number.
+    pub fn number(self) -> u32
+        ensures { λ r. ⌜ r ≡ numberOf self ⌝ }
+    {
+        match self {
+            Answer::Done => 0,
+            Answer::WrongUser => 1,
+            Answer::WrongSide => 2,
+            Answer::WrongDc => 3,
+            Answer::WrongImage => 4,
+            Answer::WrongWork => 5,
+            Answer::NoMultiple => 6,
+            Answer::NoZone => 7,
+            Answer::DcWord(_) => 8,
+            Answer::LastBits => 9,
+            Answer::Sync(_) => 10,
+            Answer::Frame(_) => 11,
+            Answer::BisColumn(_) => 12,
+            Answer::AddressUnit(_) => 13,
+            Answer::NoPsn => 14,
+            Answer::LdcColumn(_) => 15,
+            Answer::Sector(_) => 16,
+        }
+    }
+
+    // Its place, 0 where the table names none.
+    pub fn place(self) -> usize
+        ensures { λ r. ⌜ r ≡ placeOf self ⌝ }
+    {
+        match self {
+            Answer::Done => 0,
+            Answer::WrongUser => 0,
+            Answer::WrongSide => 0,
+            Answer::WrongDc => 0,
+            Answer::WrongImage => 0,
+            Answer::WrongWork => 0,
+            Answer::NoMultiple => 0,
+            Answer::NoZone => 0,
+            Answer::DcWord(n) => n,
+            Answer::LastBits => 0,
+            Answer::Sync(n) => n,
+            Answer::Frame(n) => n,
+            Answer::BisColumn(n) => n,
+            Answer::AddressUnit(n) => n,
+            Answer::NoPsn => 0,
+            Answer::LdcColumn(n) => n,
+            Answer::Sector(n) => n,
+        }
+    }
+
+    pub fn is_done(self) -> bool
+        ensures { λ r. ⌜ r ≡ isDone self ⌝ }
+    {
+        self.number() == 0
+    }
+}
+
+// Tests 1 to 5: the lengths of the lent slices.
+pub fn lengths(user: usize, side: usize, dc: usize, image: usize, work: usize) -> Answer
+    ensures { λ r. ⌜ r ≡ lengthsAnswer user side dc image work ⌝ }
+{
+    if user != 65536 {
+        return Answer::WrongUser;
+    }
+    if side != 592 {
+        return Answer::WrongSide;
+    }
+    if dc != 496 {
+        return Answer::WrongDc;
+    }
+    if image != 119788 {
+        return Answer::WrongImage;
+    }
+    if work != 76880 {
+        return Answer::WrongWork;
+    }
+    Answer::Done
+}

@@ -1,0 +1,59 @@
+-- What is read in the bits b of an image: answers 9 to 11 of document 01, the ECC cluster and the dc words.
+use mathlib.Core.Bool.{Bool, _&&_, not}
+use mathlib.Core.List.{List}
+use Prim.Native.Nat.{ℕ, _+_, _*_, _/_, _%_}
+use lib.Dec.{eqb}
+use lib.ListN.{getD, take, drop}
+use Rattle.laws.specs.First.{first}
+use Rattle.laws.specs.Tabulate.{tabulate}
+use Rattle.modulation.specs.Sync.{syncNumber}
+use Rattle.frame.specs.FrameBits.{rowOf, dcOf}
+use Rattle.frame.specs.Sync.{hashAt, syncRight}
+use Rattle.frame.specs.Reading.{bitsRead, readable}
+
+-- ---- 9: the last two bits are zero
+
+unfoldable pub lastZero : List ℕ → Bool
+lastZero b = eqb (getD b 958302 0) 0 && eqb (getD b 958303 0) 0
+
+-- ---- 10: the lowest frame whose sync is wrong, or 497; # is judged at frame 0 alone, where it is ZERO
+
+unfoldable pub wrongSync : List ℕ → ℕ → Bool
+wrongSync b n = not (syncRight (syncNumber n) b (1932 * n) && not (eqb n 0 && hashAt b 0))
+
+unfoldable pub firstWrongSync : List ℕ → ℕ
+firstWrongSync b = first 497 (wrongSync b)
+
+-- ---- 11: the lowest frame that no 1,268 bits give together with # of the next sync, or 496
+
+-- the 1,902 modulation bits behind the sync of frame n, and # of the sync behind them
+abbrev pub modulatedAt : List ℕ → ℕ → List ℕ
+modulatedAt b n = take 1902 (drop (1932 * n + 30) b)
+
+abbrev pub hashBehind : List ℕ → ℕ → Bool
+hashBehind b n = hashAt b (1932 * (n + 1))
+
+-- no such bits exist exactly where this test says so (proofs/Statements: no-frame-iff)
+unfoldable pub noFrame : List ℕ → ℕ → Bool
+noFrame b n = not (readable (syncNumber n) (modulatedAt b n) (hashBehind b n))
+
+unfoldable pub firstNoFrame : List ℕ → ℕ
+firstNoFrame b = first 496 (noFrame b)
+
+-- ---- the ECC cluster, row by row, and the dc words
+
+-- the 1,268 bits of frame n
+abbrev pub frameBitsIn : List ℕ → ℕ → List ℕ
+frameBitsIn b n = bitsRead (syncNumber n) (modulatedAt b n) (hashBehind b n)
+
+abbrev pub clusterByte : List ℕ → ℕ → ℕ
+clusterByte b k = getD (rowOf (frameBitsIn b (k / 155))) (k % 155) 0
+
+unfoldable pub clusterIn : List ℕ → List ℕ
+clusterIn b = tabulate 76880 (clusterByte b)
+
+abbrev pub dcWordIn : List ℕ → ℕ → ℕ
+dcWordIn b n = dcOf (frameBitsIn b n)
+
+unfoldable pub dcIn : List ℕ → List ℕ
+dcIn b = tabulate 496 (dcWordIn b)
