@@ -53,6 +53,14 @@ module _ (a next : Answer) where
       by true t = (done-is a t, sym (then-next (done-is a t)) ∙ e)
       by false t = let no = sym (then-here t) ∙ e in (no, sym (then-next no) ∙ e)
 
+-- as the code has them: r is what the first test answered, d whether it is `Done`
+module _ (a next r : Answer) (d : Bool) (hr : r ≡ a) (hd : d ≡ isDone r) where
+  pub goes-on : (n : Answer) → d ≡ true → n ≡ next → n ≡ andThen a next
+  goes-on n e hn = hn ∙ sym (then-next a next (sym hr ∙ done-is r (sym hd ∙ e)))
+
+  pub stops : d ≡ false → r ≡ andThen a next
+  stops e = hr ∙ sym (then-here a next (sym (ap isDone hr) ∙ sym hd ∙ e))
+
 -- ---- a test with a place
 
 module _ (refusal : ℕ → Answer) {n i : ℕ} where
@@ -117,3 +125,7 @@ lengths-done u s d i w e =
       image = eqb-true i 119788 (p4 .0);
       work = eqb-true w 76880 (p5 .0);
     }
+
+-- as the code has it
+pub sizes-passed : (u s d i w : ℕ) {r : Answer} {t : Bool} → r ≡ lengthsAnswer u s d i w → t ≡ isDone r → t ≡ true → Sizes u s d i w
+sizes-passed u s d i w hr ht e = lengths-done u s d i w (sym hr ∙ done-is _ (sym ht ∙ e))

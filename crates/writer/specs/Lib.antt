@@ -1,4 +1,3 @@
 -- What the writer answers and leaves.
-pub mod Answer
 pub mod Outcome
 pub mod Written

@@ -1,29 +1,25 @@
 -- The writer's outcome: its answer and the two slices that it is lent to write, as they are at exit.
-use mathlib.Core.Bool.{Bool, true, false, cond}
+use mathlib.Core.Bool.{Bool, cond}
 use mathlib.Core.List.{List}
 use Prim.Native.Nat.{ℕ}
-use lib.Dec.{eqb, ltb}
+use lib.Dec.{ltb}
 use lib.ListN.{length, getD}
 use Rattle.laws.specs.First.{first}
 use Rattle.address.specs.declared.Judged.{Judged}
 use Rattle.address.specs.declared.Judged.the-variants as J
 use Rattle.address.specs.Judged.{judged}
+use Rattle.answer.specs.declared.Answer.{Answer}
+use Rattle.answer.specs.declared.Answer.the-variants.{Done, NoMultiple, NoZone, DcWord}
+use Rattle.answer.specs.Answer.{isDone, andThen, lowest, lengthsAnswer}
 use Rattle.image.specs.Image.{Input, cluster, image}
-use Rattle.writer.specs.declared.Answer.{Answer}
-use Rattle.writer.specs.declared.Answer.the-variants.{Done, WrongUser, WrongSide, WrongDc, WrongImage, WrongWork, NoMultiple, NoZone, DcWord}
 
 -- ---- the tests 1 to 8, in rising order
 
--- 1 to 5: the lengths
-abbrev pub lengthsAnswer : ℕ → ℕ → ℕ → ℕ → ℕ → Answer → Answer
-lengthsAnswer user side dc image work next =
-    cond (eqb user 65536) (cond (eqb side 592) (cond (eqb dc 496) (cond (eqb image 119788) (cond (eqb work 76880) next WrongWork) WrongImage) WrongDc) WrongSide) WrongUser
-
 -- 6, 7: the PSN
-abbrev pub psnAnswer : Judged → Answer → Answer
-psnAnswer J.Accepted next = next
-psnAnswer J.NoMultiple next = NoMultiple
-psnAnswer J.NoZone next = NoZone
+abbrev pub psnAnswer : Judged → Answer
+psnAnswer J.Accepted = Done
+psnAnswer J.NoMultiple = NoMultiple
+psnAnswer J.NoZone = NoZone
 
 -- 8: the first dc word above 0FFFFFFFh
 unfoldable pub tooLarge : List ℕ → ℕ → Bool
@@ -32,25 +28,16 @@ tooLarge dc n = ltb 0x0FFF_FFFF (getD dc n 0)
 unfoldable pub firstTooLarge : List ℕ → ℕ
 firstTooLarge dc = first 496 (tooLarge dc)
 
-abbrev pub dcAnswer : ℕ → Answer
-dcAnswer n = cond (ltb n 496) (DcWord n) Done
+-- 6 to 8
+abbrev pub partsAnswer : ℕ → List ℕ → Answer
+partsAnswer psn dc = andThen (psnAnswer (judged psn)) (lowest DcWord 496 (firstTooLarge dc))
 
+-- 1 to 8; the lengths of image and work
 unfoldable pub answer : Input → ℕ → ℕ → Answer
 answer input image work =
-    lengthsAnswer (length (input .user)) (length (input .side)) (length (input .dc)) image work (psnAnswer (judged (input .psn)) (dcAnswer (firstTooLarge (input .dc))))
+    andThen (lengthsAnswer (length (input .user)) (length (input .side)) (length (input .dc)) image work) (partsAnswer (input .psn) (input .dc))
 
 -- ---- the outcome
-
-abbrev pub isDone : Answer → Bool
-isDone Done = true
-isDone WrongUser = false
-isDone WrongSide = false
-isDone WrongDc = false
-isDone WrongImage = false
-isDone WrongWork = false
-isDone NoMultiple = false
-isDone NoZone = false
-isDone (DcWord n) = false
 
 pub record Outcome : Type 0 where
   pub answer : Answer

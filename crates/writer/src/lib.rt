@@ -1,30 +1,17 @@
 // The writer: the image of a cluster, from its user bytes, PSN, side data and dc words.
 use address::Judged;
 use address::Psn;
+use answer::Answer;
 ghost use mathlib.Core.Path.{_≡_};
 ghost use Prim.Native.Nat.{_*_, _<_};
 ghost use lib.ListN.{length, getD};
-ghost use Rattle.address.specs.Judged.{judged};
+ghost use Rattle.answer.specs.Answer.{andThen, lengthsAnswer};
 ghost use Rattle.modulation.specs.Sync.{syncNumber};
 ghost use Rattle.frame.specs.Written.{FrameWritten};
 ghost use Rattle.cluster.specs.EccCluster.{rowOf};
 ghost use Rattle.image.specs.Image.{Input};
 ghost use Rattle.writer.specs.Written.{FramesWritten, ImageWritten, Passed, Filled};
-ghost use Rattle.writer.specs.Outcome.{lengthsAnswer, psnAnswer, dcAnswer, firstTooLarge, isDone, Outcome, outcome};
-
-// What the writer answers: document 01's numbers and places (numberOf, placeOf).
-pub enum Answer {
-    Done,
-    WrongUser,
-    WrongSide,
-    WrongDc,
-    WrongImage,
-    WrongWork,
-    NoMultiple,
-    NoZone,
-    // The first dc word above 0FFFFFFFh.
-    DcWord(usize),
-}
+ghost use Rattle.writer.specs.Outcome.{partsAnswer, firstTooLarge, Outcome, outcome};
 
 // Test 8: the first dc word above 0FFFFFFFh, or 496.
 fn first_too_large(dc: &[u32]) -> usize
@@ -79,7 +66,7 @@ fn put_image(work: &[u8], dc: &[u32], image: &mut [u8])
 // Tests 6 to 8: the PSN and the dc words.
 fn judge_parts(psn: Psn, dc: &[u32]) -> Answer
     requires { ⌜ length (now dc) ≡ 496 ⌝ }
-    ensures { λ r. ⌜ r ≡ psnAnswer (judged (psn .0)) (dcAnswer (firstTooLarge (now (dc .entry)))) ⌝ }
+    ensures { λ r. ⌜ r ≡ partsAnswer (psn .0) (now (dc .entry)) ⌝ }
 {
     let judged = psn.judge();
     match judged {
@@ -98,40 +85,13 @@ fn judge_parts(psn: Psn, dc: &[u32]) -> Answer
 
 // All tests, in rising order.
 fn judge(user: usize, psn: Psn, side: usize, dc: &[u32], image: usize, work: usize) -> Answer
-    ensures { λ r. ⌜ r ≡ lengthsAnswer user side (length (now (dc .entry))) image work (psnAnswer (judged (psn .0)) (dcAnswer (firstTooLarge (now (dc .entry))))) ⌝ }
+    ensures { λ r. ⌜ r ≡ andThen (lengthsAnswer user side (length (now (dc .entry))) image work) (partsAnswer (psn .0) (now (dc .entry))) ⌝ }
 {
-    if user != 65536 {
-        return Answer::WrongUser;
+    let lengths = answer::lengths(user, side, dc.len(), image, work);
+    if lengths.is_done() {
+        return judge_parts(psn, dc);
     }
-    if side != 592 {
-        return Answer::WrongSide;
-    }
-    if dc.len() != 496 {
-        return Answer::WrongDc;
-    }
-    if image != 119788 {
-        return Answer::WrongImage;
-    }
-    if work != 76880 {
-        return Answer::WrongWork;
-    }
-    judge_parts(psn, dc)
-}
-
-fn is_done(answer: Answer) -> bool
-    ensures { λ r. ⌜ r ≡ isDone answer ⌝ }
-{
-    match answer {
-        Answer::Done => true,
-        Answer::WrongUser => false,
-        Answer::WrongSide => false,
-        Answer::WrongDc => false,
-        Answer::WrongImage => false,
-        Answer::WrongWork => false,
-        Answer::NoMultiple => false,
-        Answer::NoZone => false,
-        Answer::DcWord(_) => false,
-    }
+    lengths
 }
 
 // The ECC cluster in work and the image of an input that passed the tests.
@@ -156,7 +116,7 @@ pub fn write_image(
         ≡ outcome (record { user = now (user .entry); psn = psn .0; side = now (side .entry); dc = now (dc .entry) }) (now (image .entry)) (now (work .entry)) ⌝ }
 {
     let answer = judge(user.len(), psn, side.len(), dc, image.len(), work.len());
-    if is_done(answer) {
+    if answer.is_done() {
         write(user, psn, side, dc, image, work);
         return Answer::Done;
     }

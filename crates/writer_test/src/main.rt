@@ -1,7 +1,7 @@
 // The five clusters of an independent program: image and ECC cluster written and compared, the ECC cluster read back; and each refusal.
 use address::Psn;
+use answer::Answer;
 use bis::PsnFound;
-use writer::Answer;
 ghost use mathlib.Core.Path.{_≡_};
 ghost use lib.ListN.{length};
 
@@ -96,25 +96,10 @@ fn report(text: &[u8], n: u64) {
 
 // The answer's number and place, as document 01 has them.
 fn print_answer(answer: Answer) {
-    let number = match answer {
-        Answer::Done => 0,
-        Answer::WrongUser => 1,
-        Answer::WrongSide => 2,
-        Answer::WrongDc => 3,
-        Answer::WrongImage => 4,
-        Answer::WrongWork => 5,
-        Answer::NoMultiple => 6,
-        Answer::NoZone => 7,
-        Answer::DcWord(_) => 8,
-    };
     io::write_all(1, b"  answer ");
-    io::print_decimal(1, number);
+    io::print_decimal(1, answer.number() as u64);
     io::write_all(1, b" ");
-    if let Answer::DcWord(n) = answer {
-        io::print_decimal(1, n as u64);
-    } else {
-        io::print_decimal(1, 0);
-    }
+    io::print_decimal(1, answer.place() as u64);
     io::write_all(1, b"\n");
 }
 

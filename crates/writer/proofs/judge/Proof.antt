@@ -1,35 +1,27 @@
--- `judge` meets its contract, test by test (Judging).
-use native.Mathlib.Omega.{arith}
-use mathlib.Core.Path.{_∙_}
+-- `judge` meets its contract: the lengths, then the other tests (answer, Tests).
+use Rattle.answer.proofs.Tests.{goes-on, stops, sizes-passed}
 use lib.ListN.{length}
-use Rattle.writer.proofs.Judging.{wrong-user, wrong-side, wrong-dc, wrong-image, wrong-work, right-lengths}
 use borrow.Author.Needs.{needs}
 use Rattle.writer.proofs.judge.Statement.{statement}
 use Rattle.writer.proofs.judge.Tie as tie
 
-returns : tie.Need-returns
-returns c = search (wrong-user)
+lengths-requires : tie.Need-lengths-requires
+lengths-requires c κs = search needs
 
-returns-2 : tie.Need-returns-2
-returns-2 c = search (wrong-side)
-
-returns-3 : tie.Need-returns-3
-returns-3 c = search (wrong-dc)
-
-returns-4 : tie.Need-returns-4
-returns-4 c = search (wrong-image)
-
-returns-5 : tie.Need-returns-5
-returns-5 c = search (wrong-work)
+is-done-requires : tie.Need-is-done-requires
+is-done-requires c κs = search needs
 
 judge-parts-requires : tie.Need-judge-parts-requires
-judge-parts-requires c κs = search needs
+judge-parts-requires c κs =
+    let args = c .before .before .before .before .args in
+    sizes-passed (args .user) (args .side) (length (args .dc .now)) (args .image) (args .work) (c .before .before .lengths .ensures) (c .before .is-done .ensures) (c .if1 .taken) .dc
 
-returns-6 : tie.Need-returns-6
-returns-6 c = let args = c .before .before .before .before .before .before .before .args in
-    c .judge-parts .ensures ∙ right-lengths (args .user) (args .side) (length (args .dc .now)) (args .image) (args .work) _ (omega arith) (omega arith) (omega arith) (omega arith) (omega arith)
+returns : tie.Need-returns
+returns c = search (goes-on)
+
+returns-2 : tie.Need-returns-2
+returns-2 c = search (stops)
 
 pub judge-spec : {M : Type 1} → statement M
 judge-spec =
-    tie.close
-    (tie.spec returns returns-2 returns-3 returns-4 returns-5 judge-parts-requires returns-6)
+    tie.close (tie.spec lengths-requires is-done-requires judge-parts-requires returns returns-2)

@@ -1,0 +1,70 @@
+-- What is promised: dc words written as bytes are read back, bytes read as dc words are written back, and PSNs as text. Assumes nothing.
+use mathlib.Core.Path.{_≡_, refl, sym, ap, ap₂, _∙_}
+use mathlib.Core.List.{List, [], _∷_}
+use Prim.Native.Nat.{ℕ, zero, suc, _+_, _*_, _/_, _%_, _<_}
+use native.Mathlib.Omega.{arith}
+use lib.ListN.{length, getD}
+use Rattle.laws.specs.Bytes.{Bytes}
+use Rattle.laws.specs.First.{first}
+use Rattle.laws.proofs.Tabulate.{is-tabulate, getD-tabulate}
+use Rattle.notation.specs.declared.PsnText.the-variants.{Number, NoNumber}
+use Rattle.notation.specs.Psn.{digitOf, valueTo, noDigit, psnOf}
+use Rattle.notation.specs.Words.{wordAt, wordsOf, byteOf, byteAt, bytesOf}
+
+-- ---- dc words
+
+module _ (words : List ℕ) (size : length words ≡ 496) (small : (n : ℕ) → getD words n 0 < 4294967296) where
+  byte : (n j : ℕ) → n < 496 → j < 4 → getD (bytesOf words) (4 * n + j) 0 ≡ byteOf (getD words n 0) j
+  unfolding bytesOf byteAt
+  byte n j h l =
+      let q : (4 * n + j) / 4 ≡ n = omega arith in
+      let r : (4 * n + j) % 4 ≡ j = omega arith in
+      getD-tabulate 1984 (byteAt words) (4 * n + j) 0 (omega arith) ∙ ap₂ (λ (m i : ℕ). byteOf (getD words m 0) i) q r
+
+  word : (n : ℕ) → n < 496 → getD words n 0 ≡ wordAt (bytesOf words) n
+  unfolding wordAt byteOf
+  word n h =
+      let w = small n in
+      let start : 4 * n + 0 ≡ 4 * n = omega arith in
+      let b0 = ap (λ (k : ℕ). getD (bytesOf words) k 0) (sym start) ∙ byte n 0 h (omega arith) in
+      let b1 = byte n 1 h (omega arith) in
+      let b2 = byte n 2 h (omega arith) in
+      let b3 = byte n 3 h (omega arith) in
+      omega arith
+
+  -- written as bytes and read back
+  pub words-back : wordsOf (bytesOf words) ≡ words
+  unfolding wordsOf
+  words-back = sym (is-tabulate 0 496 (wordAt (bytesOf words)) words size word)
+
+module _ (bytes : List ℕ) (size : length bytes ≡ 1984) (small : Bytes bytes) where
+  word-read : (k : ℕ) → k < 1984 → getD (wordsOf bytes) (k / 4) 0 ≡ wordAt bytes (k / 4)
+  unfolding wordsOf
+  word-read k h = getD-tabulate 496 (wordAt bytes) (k / 4) 0 (omega arith)
+
+  four : (k n m : ℕ) → k ≡ m → (getD bytes k 0 ≡ getD bytes m 0) × (getD bytes (4 * n) 0 < 256) × (getD bytes (4 * n + 1) 0 < 256) × (getD bytes (4 * n + 2) 0 < 256) × (getD bytes (4 * n + 3) 0 < 256)
+  four k n m e = (ap (λ (i : ℕ). getD bytes i 0) e, small (4 * n), small (4 * n + 1), small (4 * n + 2), small (4 * n + 3))
+
+  at : (k j n : ℕ) → j < 4 → k ≡ 4 * n + j → getD bytes k 0 ≡ byteOf (wordAt bytes n) j
+  unfolding wordAt byteOf
+  at k zero n l e = let known = four k n (4 * n) (omega arith) in omega arith
+  at k (suc zero) n l e = let known = four k n (4 * n + 1) (omega arith) in omega arith
+  at k (suc (suc zero)) n l e = let known = four k n (4 * n + 2) (omega arith) in omega arith
+  at k (suc (suc (suc zero))) n l e = let known = four k n (4 * n + 3) (omega arith) in omega arith
+  at k (suc (suc (suc (suc j)))) n l e = absurd (omega arith)
+
+  -- read as words and written back
+  pub bytes-back : bytesOf (wordsOf bytes) ≡ bytes
+  unfolding bytesOf byteAt
+  bytes-back = sym (is-tabulate 0 1984 (byteAt (wordsOf bytes)) bytes size (λ k h. at k (k % 4) (k / 4) (omega arith) (omega arith) ∙ ap (λ (w : ℕ). byteOf w (k % 4)) (sym (word-read k h))))
+
+-- ---- PSNs: `00100000`, `03EFFFE0` and `03effFe0`; a sign, a short text
+
+pub examples :
+    (psnOf (48 ∷ 48 ∷ 49 ∷ 48 ∷ 48 ∷ 48 ∷ 48 ∷ 48 ∷ []) ≡ Number (record { 0 = 0x0010_0000 }))
+    × (psnOf (48 ∷ 51 ∷ 69 ∷ 70 ∷ 70 ∷ 70 ∷ 69 ∷ 48 ∷ []) ≡ Number (record { 0 = 0x03EF_FFE0 }))
+    × (psnOf (48 ∷ 51 ∷ 101 ∷ 102 ∷ 102 ∷ 70 ∷ 101 ∷ 48 ∷ []) ≡ Number (record { 0 = 0x03EF_FFE0 }))
+    × (psnOf (45 ∷ 48 ∷ 49 ∷ 48 ∷ 48 ∷ 48 ∷ 48 ∷ 48 ∷ []) ≡ NoNumber)
+    × (psnOf (49 ∷ 48 ∷ 48 ∷ 48 ∷ 48 ∷ 48 ∷ []) ≡ NoNumber)
+unfolding psnOf valueTo digitOf noDigit first
+examples = (refl, refl, refl, refl, refl)

@@ -1,0 +1,107 @@
+// How the programs' arguments and files write a PSN and the dc words.
+use address::Psn;
+ghost use mathlib.Core.Path.{_≡_};
+ghost use Prim.Native.Nat.{_<_};
+ghost use lib.ListN.{length};
+ghost use Rattle.notation.specs.Psn.{digitOf, psnOf};
+ghost use Rattle.notation.specs.Words.{wordFrom, wordAt, byteOf, wordsRead, bytesRead};
+
+// A PSN, or a text that is not eight hexadecimal digits.
+pub enum PsnText {
+    Number(Psn),
+    NoNumber,
+}
+
+// The value of a hexadecimal digit, 16 for any other byte.
+fn digit(byte: u8) -> u32
+    ensures { λ r. ⌜ r ≡ digitOf byte ⌝ }
+{
+    match byte {
+        b'0'..=b'9' => (byte - 48) as u32,
+        b'A'..=b'F' => (byte - 55) as u32,
+        b'a'..=b'f' => (byte - 87) as u32,
+        _ => 16,
+    }
+}
+
+// Eight hexadecimal digits, the highest first.
+pub fn psn_of(text: &[u8]) -> PsnText
+    ensures { λ r. ⌜ r ≡ psnOf (now (text .entry)) ⌝ }
+{
+    if text.len() != 8 {
+        return PsnText::NoNumber;
+    }
+    let mut value: u32 = 0;
+    let mut k = 0;
+    while k < 8 {
+        let d = digit(text[k]);
+        if 16 <= d {
+            return PsnText::NoNumber;
+        }
+        value = value * 16 + d;
+        k += 1;
+    }
+    PsnText::Number(Psn(value))
+}
+
+// Four bytes, the highest first.
+fn word(a: u8, b: u8, c: u8, d: u8) -> u32
+    ensures { λ r. ⌜ r ≡ wordFrom a b c d ⌝ }
+{
+    ((a as u32 * 256 + b as u32) * 256 + c as u32) * 256 + d as u32
+}
+
+fn word_at(bytes: &[u8], n: usize) -> u32
+    requires { ⌜ (length (now bytes) ≡ 1984) × (n < 496) ⌝ }
+    ensures { λ r. ⌜ r ≡ wordAt (now (bytes .entry)) n ⌝ }
+{
+    let at = 4 * n;
+    word(bytes[at], bytes[at + 1], bytes[at + 2], bytes[at + 3])
+}
+
+// The 496 dc words of 1,984 bytes, high byte first. Slices of other lengths stay as they were.
+pub fn words_of(bytes: &[u8], words: &mut [u32])
+    ensures { λ _. ⌜ now (words .exit) ≡ wordsRead (now (bytes .entry)) (now (words .entry)) ⌝ }
+{
+    if bytes.len() != 1984 {
+        return;
+    }
+    if words.len() != 496 {
+        return;
+    }
+    let mut n = 0;
+    while n < 496 {
+        words[n] = word_at(bytes, n);
+        n += 1;
+    }
+}
+
+// Byte j of a word.
+fn byte_of(word: u32, j: usize) -> u8
+    requires { ⌜ j < 4 ⌝ }
+    ensures { λ r. ⌜ r ≡ byteOf word j ⌝ }
+{
+    match j {
+        0 => (word / 16777216) as u8,
+        1 => (word / 65536 % 256) as u8,
+        2 => (word / 256 % 256) as u8,
+        _ => (word % 256) as u8,
+    }
+}
+
+// The 1,984 bytes of 496 dc words. Slices of other lengths stay as they were.
+pub fn bytes_of(words: &[u32], bytes: &mut [u8])
+    ensures { λ _. ⌜ now (bytes .exit) ≡ bytesRead (now (words .entry)) (now (bytes .entry)) ⌝ }
+{
+    if words.len() != 496 {
+        return;
+    }
+    if bytes.len() != 1984 {
+        return;
+    }
+    let mut k = 0;
+    while k < 1984 {
+        bytes[k] = byte_of(words[k / 4], k % 4);
+        k += 1;
+    }
+}
