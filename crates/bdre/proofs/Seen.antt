@@ -1,0 +1,30 @@
+-- The parts that an exported function returns are those of the outcome below it. Assumes nothing.
+use mathlib.Core.Path.{_≡_, refl, sym, ap, _∙_}
+use mathlib.Core.List.{List}
+use Prim.Native.Nat.{ℕ}
+use Rattle.answer.specs.declared.Answer.{Answer}
+use Rattle.answer.specs.Answer as Answer
+use Rattle.address.specs.Judged as Judged
+use Rattle.address.specs.declared.PsnAnswer.{PsnAnswer}
+use Rattle.address.specs.declared.AunAnswer.{AunAnswer}
+use Rattle.address.specs.declared.PaaAnswer.{PaaAnswer}
+use Rattle.writer.specs.Outcome as writer
+use Rattle.bdre.specs.Seen.{Writing, Number, writing, psnSeen, aunSeen, paaSeen}
+
+pub same-writing : (number place : ℕ) (a : Answer) (image work : List ℕ) (o : writer.Outcome) → number ≡ Answer.numberOf a → place ≡ Answer.placeOf a
+    → record { answer = a; image = image; work = work } ≡ o → record { number = number; place = place; image = image; work = work } ≡ writing o
+same-writing number place a image work o hn hp ho =
+    ap (λ (n : ℕ). record { number = n; place = place; image = image; work = work }) hn
+    ∙ ap (λ (p : ℕ). record { number = Answer.numberOf a; place = p; image = image; work = work }) hp
+    ∙ ap writing ho
+
+-- ---- conversions: a is what the conversion gave, b what it is defined to give
+
+pub same-psn : (number : ℕ) (a b : PsnAnswer) → number ≡ Judged.numberOf (a .judged) → a ≡ b → record { number = number; value = a .psn .0 } ≡ psnSeen b
+same-psn number a b hn h = ap (λ (n : ℕ). record { number = n; value = a .psn .0 }) hn ∙ ap psnSeen h
+
+pub same-aun : (number : ℕ) (a b : AunAnswer) → number ≡ Judged.numberOf (a .judged) → a ≡ b → record { number = number; value = a .aun .0 } ≡ aunSeen b
+same-aun number a b hn h = ap (λ (n : ℕ). record { number = n; value = a .aun .0 }) hn ∙ ap aunSeen h
+
+pub same-paa : (number : ℕ) (a b : PaaAnswer) → number ≡ Judged.numberOf (a .judged) → a ≡ b → record { number = number; value = a .paa .0 } ≡ paaSeen b
+same-paa number a b hn h = ap (λ (n : ℕ). record { number = n; value = a .paa .0 }) hn ∙ ap paaSeen h

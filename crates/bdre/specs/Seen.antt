@@ -1,0 +1,33 @@
+-- What a caller in another language sees of an outcome: document 01's number and place instead of an enum, bare numbers instead of PSN, AUN and PAA.
+use mathlib.Core.List.{List}
+use Prim.Native.Nat.{ℕ}
+use Rattle.answer.specs.Answer as Answer
+use Rattle.address.specs.Judged as Judged
+use Rattle.address.specs.declared.PsnAnswer.{PsnAnswer}
+use Rattle.address.specs.declared.AunAnswer.{AunAnswer}
+use Rattle.address.specs.declared.PaaAnswer.{PaaAnswer}
+use Rattle.writer.specs.Outcome as writer
+
+-- of the writer: the answer, and the two slices that it is lent to write
+pub record Writing : Type 0 where
+  pub number : ℕ
+  pub place : ℕ
+  pub image : List ℕ
+  pub work : List ℕ
+
+abbrev pub writing : writer.Outcome → Writing
+writing o = record { number = Answer.numberOf (o .answer); place = Answer.placeOf (o .answer); image = o .image; work = o .work }
+
+-- of a conversion
+pub record Number : Type 0 where
+  pub number : ℕ
+  pub value : ℕ
+
+abbrev pub psnSeen : PsnAnswer → Number
+psnSeen a = record { number = Judged.numberOf (a .judged); value = a .psn .0 }
+
+abbrev pub aunSeen : AunAnswer → Number
+aunSeen a = record { number = Judged.numberOf (a .judged); value = a .aun .0 }
+
+abbrev pub paaSeen : PaaAnswer → Number
+paaSeen a = record { number = Judged.numberOf (a .judged); value = a .paa .0 }

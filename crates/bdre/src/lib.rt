@@ -1,0 +1,107 @@
+// The operations for programs in other languages, as a static library; include/bdre.h declares them for C. Numbers and slices only.
+use address::Aun;
+use address::Judged;
+use address::Paa;
+use address::Psn;
+ghost use mathlib.Core.Path.{_≡_};
+ghost use Rattle.image.specs.Image.{Input};
+ghost use Rattle.writer.specs.Outcome as writer;
+ghost use Rattle.address.specs.Conversions.{psnToPaa, paaToPsn, psnToAun, aunToPsn};
+ghost use Rattle.address.specs.Judged.{numberOf};
+ghost use Rattle.bdre.specs.Seen.{Writing, Number, writing, psnSeen, aunSeen, paaSeen};
+
+// Document 01's number and place.
+#[repr(C)]
+pub struct Answered {
+    pub number: u32,
+    pub place: usize,
+}
+
+// What a conversion answers: 0, 6 or 7, and the number asked for, 0 on refusal.
+#[repr(C)]
+pub struct Converted {
+    pub number: u32,
+    pub value: u32,
+}
+
+fn number_of(judged: Judged) -> u32
+    ensures { λ r. ⌜ r ≡ numberOf judged ⌝ }
+{
+    match judged {
+        Judged::Accepted => 0,
+        Judged::NoMultiple => 6,
+        Judged::NoZone => 7,
+    }
+}
+
+// Writes the image of a cluster.
+#[no_mangle]
+pub extern "C" fn bdre_write_image(
+    user: &[u8],
+    psn: u32,
+    side: &[u8],
+    dc: &[u32],
+    image: &mut [u8],
+    work: &mut [u8],
+) -> Answered
+    ensures { λ r. ⌜ record { number = r .number; place = r .place; image = now (image .exit); work = now (work .exit) }
+        ≡ writing (writer.outcome (record { user = now (user .entry); psn = psn; side = now (side .entry); dc = now (dc .entry) }) (now (image .entry)) (now (work .entry))) ⌝ }
+{
+    let answer = writer::write_image(user, Psn(psn), side, dc, image, work);
+    Answered {
+        number: answer.number(),
+        place: answer.place(),
+    }
+}
+
+// The PAA of the first word of the cluster at a PSN.
+#[no_mangle]
+pub extern "C" fn bdre_psn_to_paa(psn: u32) -> Converted
+    ensures { λ r. ⌜ record { number = r .number; value = r .value } ≡ paaSeen (psnToPaa psn) ⌝ }
+{
+    let answer = Psn(psn).paa();
+    let judged = answer.judged;
+    Converted {
+        number: number_of(judged),
+        value: answer.paa.0,
+    }
+}
+
+// The AUN of an address unit, 0 to 15, of the cluster at a PSN; 0 for a unit above 15.
+#[no_mangle]
+pub extern "C" fn bdre_psn_to_aun(psn: u32, unit: u32) -> Converted
+    ensures { λ r. ⌜ record { number = r .number; value = r .value } ≡ aunSeen (psnToAun psn unit) ⌝ }
+{
+    let answer = Psn(psn).aun(unit);
+    let judged = answer.judged;
+    Converted {
+        number: number_of(judged),
+        value: answer.aun.0,
+    }
+}
+
+// The PSN of the cluster whose first word has a PAA.
+#[no_mangle]
+pub extern "C" fn bdre_paa_to_psn(paa: u32) -> Converted
+    ensures { λ r. ⌜ record { number = r .number; value = r .value } ≡ psnSeen (paaToPsn paa) ⌝ }
+{
+    let answer = Paa(paa).psn();
+    let judged = answer.judged;
+    Converted {
+        number: number_of(judged),
+        value: answer.psn.0,
+    }
+}
+
+// The PSN of the cluster that holds the address unit with an AUN.
+#[no_mangle]
+pub extern "C" fn bdre_aun_to_psn(aun: u32) -> Converted
+    ensures { λ r. ⌜ record { number = r .number; value = r .value } ≡ psnSeen (aunToPsn aun) ⌝ }
+{
+    let answer = Aun(aun).psn();
+    let judged = answer.judged;
+    Converted {
+        number: number_of(judged),
+        value: answer.psn.0,
+    }
+}
