@@ -9,7 +9,8 @@ use Rattle.address.specs.declared.PsnAnswer.{PsnAnswer}
 use Rattle.address.specs.declared.AunAnswer.{AunAnswer}
 use Rattle.address.specs.declared.PaaAnswer.{PaaAnswer}
 use Rattle.writer.specs.Outcome as writer
-use Rattle.bdre.specs.Seen.{Writing, Number, writing, psnSeen, aunSeen, paaSeen}
+use Rattle.reader.specs.Outcome as reader
+use Rattle.bdre.specs.Seen.{Writing, Reading, Number, writing, reading, psnSeen, aunSeen, paaSeen}
 
 pub same-writing : (number place : ℕ) (a : Answer) (image work : List ℕ) (o : writer.Outcome) → number ≡ Answer.numberOf a → place ≡ Answer.placeOf a
     → record { answer = a; image = image; work = work } ≡ o → record { number = number; place = place; image = image; work = work } ≡ writing o
@@ -17,6 +18,13 @@ same-writing number place a image work o hn hp ho =
     ap (λ (n : ℕ). record { number = n; place = place; image = image; work = work }) hn
     ∙ ap (λ (p : ℕ). record { number = Answer.numberOf a; place = p; image = image; work = work }) hp
     ∙ ap writing ho
+
+pub same-reading : (number place psn : ℕ) (a : Answer) (lent : reader.Lent) (o : reader.Outcome) → number ≡ Answer.numberOf a → place ≡ Answer.placeOf a
+    → record { answer = a; psn = psn; lent = lent } ≡ o → record { number = number; place = place; psn = psn; lent = lent } ≡ reading o
+same-reading number place psn a lent o hn hp ho =
+    ap (λ (n : ℕ). record { number = n; place = place; psn = psn; lent = lent }) hn
+    ∙ ap (λ (p : ℕ). record { number = Answer.numberOf a; place = p; psn = psn; lent = lent }) hp
+    ∙ ap reading ho
 
 -- ---- conversions: a is what the conversion gave, b what it is defined to give
 

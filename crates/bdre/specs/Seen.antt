@@ -7,6 +7,7 @@ use Rattle.address.specs.declared.PsnAnswer.{PsnAnswer}
 use Rattle.address.specs.declared.AunAnswer.{AunAnswer}
 use Rattle.address.specs.declared.PaaAnswer.{PaaAnswer}
 use Rattle.writer.specs.Outcome as writer
+use Rattle.reader.specs.Outcome as reader
 
 -- of the writer: the answer, and the two slices that it is lent to write
 pub record Writing : Type 0 where
@@ -17,6 +18,16 @@ pub record Writing : Type 0 where
 
 abbrev pub writing : writer.Outcome → Writing
 writing o = record { number = Answer.numberOf (o .answer); place = Answer.placeOf (o .answer); image = o .image; work = o .work }
+
+-- of the reader: the answer, the PSN, and the four slices that it is lent to write
+pub record Reading : Type 0 where
+  pub number : ℕ
+  pub place : ℕ
+  pub psn : ℕ
+  pub lent : reader.Lent
+
+abbrev pub reading : reader.Outcome → Reading
+reading o = record { number = Answer.numberOf (o .answer); place = Answer.placeOf (o .answer); psn = o .psn; lent = o .lent }
 
 -- of a conversion
 pub record Number : Type 0 where

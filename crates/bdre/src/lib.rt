@@ -6,14 +6,23 @@ use address::Psn;
 ghost use mathlib.Core.Path.{_≡_};
 ghost use Rattle.image.specs.Image.{Input};
 ghost use Rattle.writer.specs.Outcome as writer;
+ghost use Rattle.reader.specs.Outcome as reader;
 ghost use Rattle.address.specs.Conversions.{psnToPaa, paaToPsn, psnToAun, aunToPsn};
 ghost use Rattle.address.specs.Judged.{numberOf};
-ghost use Rattle.bdre.specs.Seen.{Writing, Number, writing, psnSeen, aunSeen, paaSeen};
+ghost use Rattle.bdre.specs.Seen.{Writing, Reading, Number, writing, reading, psnSeen, aunSeen, paaSeen};
 
 // Document 01's number and place.
 #[repr(C)]
 pub struct Answered {
     pub number: u32,
+    pub place: usize,
+}
+
+// What the reader answers; the PSN is 0 on refusal.
+#[repr(C)]
+pub struct ReadAnswered {
+    pub number: u32,
+    pub psn: u32,
     pub place: usize,
 }
 
@@ -50,6 +59,27 @@ pub extern "C" fn bdre_write_image(
     let answer = writer::write_image(user, Psn(psn), side, dc, image, work);
     Answered {
         number: answer.number(),
+        place: answer.place(),
+    }
+}
+
+// Reads an image strictly.
+#[no_mangle]
+pub extern "C" fn bdre_read_image(
+    image: &[u8],
+    user: &mut [u8],
+    side: &mut [u8],
+    dc: &mut [u32],
+    work: &mut [u8],
+) -> ReadAnswered
+    ensures { λ r. ⌜ record { number = r .number; place = r .place; psn = r .psn; lent = record { user = now (user .exit); side = now (side .exit); dc = now (dc .exit); work = now (work .exit) } }
+        ≡ reading (reader.outcome (now (image .entry)) (record { user = now (user .entry); side = now (side .entry); dc = now (dc .entry); work = now (work .entry) })) ⌝ }
+{
+    let read = reader::read_image(image, user, side, dc, work);
+    let answer = read.answer;
+    ReadAnswered {
+        number: answer.number(),
+        psn: read.psn.0,
         place: answer.place(),
     }
 }
