@@ -36,11 +36,17 @@ done-is a e = number-zero a (eqb-true (numberOf a) 0 e)
 pub done-or-not : (a : Answer) → (numberOf a ≡ 0 → ⊥) → isDone a ≡ false
 done-or-not a h = ne-eqb (numberOf a) 0 h
 
+pub done-not : (a : Answer) → isDone a ≡ false → a ≡ Done → ⊥
+done-not a f e = let z : _≡_ {A = Bool} false true = sym f ∙ ap isDone e in let n : _≡_ {A = ℕ} 0 1 = cc in omega arith
+
 -- ---- two tests
 
 module _ (a next : Answer) where
   pub then-next : a ≡ Done → andThen a next ≡ next
   then-next e = ap (λ (x : Answer). andThen x next) e
+
+  pub then-both : a ≡ Done → next ≡ Done → andThen a next ≡ Done
+  then-both e f = then-next e ∙ f
 
   pub then-here : isDone a ≡ false → andThen a next ≡ a
   then-here e = ap (λ (t : Bool). cond t next a) e
@@ -70,12 +76,24 @@ module _ (refusal : ℕ → Answer) {n i : ℕ} where
   pub lowest-none : n ≤ i → lowest refusal n i ≡ Done
   lowest-none h = rw (le-ltb i n h)
 
+  pub lowest-end : i ≡ n → lowest refusal n i ≡ Done
+  lowest-end e = lowest-none (omega (arith, e))
+
   pub lowest-done : ((k : ℕ) → isDone (refusal k) ≡ false) → lowest refusal n i ≡ Done → n ≤ i
   lowest-done r e =
       elim (decLt i n) [
-        | yes h ↦ let no : _≡_ {A = Bool} false true = sym (r i) ∙ ap isDone (sym (lowest-here h) ∙ e) in let z : _≡_ {A = ℕ} 0 1 = cc in absurd (omega arith)
+        | yes h ↦ absurd (done-not (refusal i) (r i) (sym (lowest-here h) ∙ e))
         | no h ↦ omega arith
       ]
+
+-- ---- as the code has it: i is what was found, j what the definition names
+
+module _ (refusal : ℕ → Answer) (next : Answer) {n i j : ℕ} (e : i ≡ j) where
+  pub stop-here : isDone (refusal i) ≡ false → i < n → refusal i ≡ andThen (lowest refusal n j) next
+  stop-here r h = sym (ap (λ (k : ℕ). andThen (lowest refusal n k) next) (sym e) ∙ ap (λ (x : Answer). andThen x next) (lowest-here refusal h) ∙ then-here (refusal i) next r)
+
+  pub go-on : n ≤ i → next ≡ andThen (lowest refusal n j) next
+  go-on h = sym (ap (λ (k : ℕ). andThen (lowest refusal n k) next) (sym e) ∙ ap (λ (x : Answer). andThen x next) (lowest-none refusal h))
 
 -- ---- the lengths
 
@@ -106,10 +124,19 @@ pub record Sizes (u s d i w : ℕ) : Type 0 where
   pub image : i ≡ 119788
   pub work : w ≡ 76880
 
+-- the number of a refusal by 1 to 5
+pub lengths-number : (u s d i w : ℕ) → numberOf (lengthsAnswer u s d i w) ≤ 5
+lengths-number u s d i w =
+    by (eqb u 65536) _ WrongUser (by (eqb s 592) _ WrongSide (by (eqb d 496) _ WrongDc (by (eqb i 119788) _ WrongImage (by (eqb w 76880) Done WrongWork (omega arith) (omega arith)) (omega arith)) (omega arith)) (omega arith)) (omega arith)
+  where
+    by : (t : Bool) (x y : Answer) → numberOf x ≤ 5 → numberOf y ≤ 5 → numberOf (cond t x y) ≤ 5
+    by true x y hx hy = hx
+    by false x y hx hy = hy
+
 -- a test that is passed: its refusal is no `Done`
 passed : (t : Bool) (next refusal : Answer) → isDone refusal ≡ false → cond t next refusal ≡ Done → (t ≡ true) × (next ≡ Done)
 passed true next refusal r e = (refl, e)
-passed false next refusal r e = let no : _≡_ {A = Bool} false true = sym r ∙ ap isDone e in let z : _≡_ {A = ℕ} 0 1 = cc in absurd (omega arith)
+passed false next refusal r e = absurd (done-not refusal r e)
 
 pub lengths-done : (u s d i w : ℕ) → lengthsAnswer u s d i w ≡ Done → Sizes u s d i w
 lengths-done u s d i w e =

@@ -1,1 +1,8 @@
--- The reader's proofs.
+-- The reader's tests, the frames read one after the other, and what is promised (Statements).
+pub mod Judging
+pub mod Frames
+pub mod Reading
+pub mod Clusters
+pub mod Writing
+pub mod Accepting
+pub mod Statements

@@ -1,5 +1,5 @@
 -- The reader's outcome: answer, PSN and the four lent slices at exit, from the image and the slices at entry.
-use mathlib.Core.Bool.{Bool, cond}
+use mathlib.Core.Bool.{cond}
 use mathlib.Core.List.{List}
 use Prim.Native.Nat.{ℕ}
 use lib.ListN.{length}

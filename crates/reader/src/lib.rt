@@ -36,15 +36,15 @@ fn first_wrong_sync(image: &[u8]) -> usize
     if frame::hash_at(image, 0) {
         return 0;
     }
-    let mut n = 0;
-    while n < 497 {
-        let number = frame::sync_number(n);
-        if !frame::sync_right(image, 1932 * n, number) {
-            return n;
+    let mut sync = 0;
+    while sync < 497 {
+        let number = frame::sync_number(sync);
+        if !frame::sync_right(image, 1932 * sync, number) {
+            return sync;
         }
-        n += 1;
+        sync += 1;
     }
-    n
+    sync
 }
 
 // Frame n, its row into its place of the cluster.
@@ -60,8 +60,8 @@ fn read_row(image: &[u8], n: usize, work: &mut [u8]) -> FrameRead
 }
 
 // Test 11: the lowest frame that no 1,268 bits give, or 496; then all rows stand in the cluster and the dc words in dc.
-fn read_frames(image: &[u8], dc: &mut [u32; 496], work: &mut [u8]) -> usize
-    requires { ⌜ (length (now image) ≡ 119788) × (length (now work) ≡ 76880) ⌝ }
+fn read_frames(image: &[u8], dc: &mut [u32], work: &mut [u8]) -> usize
+    requires { ⌜ (length (now image) ≡ 119788) × ((length (now dc) ≡ 496) × (length (now work) ≡ 76880)) ⌝ }
     ensures { λ r. ⌜ FramesRead (bitsOf (now (image .entry))) r (now (dc .exit)) (now (work .exit)) ⌝ }
 {
     let mut n = 0;
@@ -153,8 +153,8 @@ fn refused(answer: Answer) -> Read
 }
 
 // Tests 9 to 16; where all are passed the cluster stands in work and its dc words in dc.
-fn judge_image(image: &[u8], dc: &mut [u32; 496], work: &mut [u8]) -> Read
-    requires { ⌜ (length (now image) ≡ 119788) × (length (now work) ≡ 76880) ⌝ }
+fn judge_image(image: &[u8], dc: &mut [u32], work: &mut [u8]) -> Read
+    requires { ⌜ (length (now image) ≡ 119788) × ((length (now dc) ≡ 496) × (length (now work) ≡ 76880)) ⌝ }
     ensures { λ r. ⌜ ImageRead (bitsOf (now (image .entry))) (r .answer) (r .psn .0) (now (dc .exit)) (now (work .exit)) ⌝ }
 {
     if !last_zero(image) {
@@ -173,7 +173,7 @@ fn judge_image(image: &[u8], dc: &mut [u32; 496], work: &mut [u8]) -> Read
 
 // What a cluster was made of, into the caller's slices.
 fn give(work: &[u8], psn: Psn, words: &[u32; 496], user: &mut [u8], side: &mut [u8], dc: &mut [u32])
-    requires { ⌜ ((length (now work) ≡ 76880) × (length (now user) ≡ 65536)) × ((length (now side) ≡ 592) × (length (now dc) ≡ 496)) ⌝ }
+    requires { ⌜ ((length (now work) ≡ 76880) × (length (now user) ≡ 65536)) × ((length (now side) ≡ 592) × ((length (now words) ≡ 496) × (length (now dc) ≡ 496))) ⌝ }
     ensures { λ _. ⌜ Given (now (work .entry)) (psn .0) (now (words .entry)) (now (user .exit)) (now (side .exit)) (now (dc .exit)) ⌝ }
 {
     let stream = sector::scrambling(psn);
@@ -190,7 +190,13 @@ fn no_words() -> [u32; 496]
 }
 
 // Reads with slices of the right lengths.
-fn read(image: &[u8], user: &mut [u8], side: &mut [u8], dc: &mut [u32], work: &mut [u8]) -> Read
+fn read_sized(
+    image: &[u8],
+    user: &mut [u8],
+    side: &mut [u8],
+    dc: &mut [u32],
+    work: &mut [u8],
+) -> Read
     requires { ⌜ Sized (now image) (now user) (now side) (now dc) (now work) ⌝ }
     ensures { λ r. ⌜ record { answer = r .answer; psn = r .psn .0; lent = record { user = now (user .exit); side = now (side .exit); dc = now (dc .exit); work = now (work .exit) } }
         ≡ judgedOutcome (bitsOf (now (image .entry))) (record { user = now (user .entry); side = now (side .entry); dc = now (dc .entry); work = now (work .entry) }) ⌝ }
@@ -224,7 +230,7 @@ pub fn read_image(
 {
     let sizes = answer::lengths(user.len(), side.len(), dc.len(), image.len(), work.len());
     if sizes.is_done() {
-        return read(image, user, side, dc, work);
+        return read_sized(image, user, side, dc, work);
     }
     refused(sizes)
 }
