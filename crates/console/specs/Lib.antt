@@ -1,0 +1,2 @@
+-- File names among the arguments.
+pub mod Names

@@ -1,0 +1,2 @@
+-- The verdict's tests, and what a pass says (Statements).
+pub mod Judging

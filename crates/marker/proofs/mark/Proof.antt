@@ -1,0 +1,46 @@
+-- `mark` meets its contract: the lengths of what is given, then the verdict on what is read (Judging).
+use Rattle.marker.proofs.Judging.{given-right, is-marked, is-wrong}
+use borrow.Author.Needs.{needs}
+use Rattle.marker.proofs.mark.Statement.{statement}
+use Rattle.marker.proofs.mark.Tie as tie
+
+judge-given-requires : tie.Need-judge-given-requires
+judge-given-requires c κs = search needs
+
+is-done-requires : tie.Need-is-done-requires
+is-done-requires c κs = search needs
+
+mark-sized-requires : tie.Need-mark-sized-requires
+mark-sized-requires c κs = given-right _ _ (c .before .before .before .before .before .before .judge-given .ensures) (c .before .before .before .before .before .is-done .ensures) (c .before .before .before .before .if1 .taken)
+
+same-length : tie.Need-same-length
+same-length c = search needs
+
+same-length-2 : tie.Need-same-length-2
+same-length-2 c = search needs
+
+same-length-3 : tie.Need-same-length-3
+same-length-3 c = search needs
+
+same-length-4 : tie.Need-same-length-4
+same-length-4 c = search needs
+
+returns : tie.Need-returns
+returns c = search (is-marked)
+
+returns-2 : tie.Need-returns-2
+returns-2 c = search (is-wrong)
+
+pub mark-spec : {M : Type 1} → statement M
+mark-spec =
+    tie.close
+    (tie.spec
+    judge-given-requires
+    is-done-requires
+    mark-sized-requires
+    same-length
+    same-length-2
+    same-length-3
+    same-length-4
+    returns
+    returns-2)

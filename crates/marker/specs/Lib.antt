@@ -1,0 +1,2 @@
+-- The marker's verdict.
+pub mod Marked
