@@ -10,7 +10,9 @@ use Rattle.address.specs.declared.AunAnswer.{AunAnswer}
 use Rattle.address.specs.declared.PaaAnswer.{PaaAnswer}
 use Rattle.writer.specs.Outcome as writer
 use Rattle.reader.specs.Outcome as reader
-use Rattle.bdre.specs.Seen.{Writing, Reading, Number, writing, reading, psnSeen, aunSeen, paaSeen}
+use Rattle.marker.specs.declared.Verdict.{Verdict}
+use Rattle.marker.specs.Marked as marker
+use Rattle.bdre.specs.Seen.{Writing, Reading, Marking, Number, kindOf, refusalIn, psnIn, placeIn, writing, reading, marking, psnSeen, aunSeen, paaSeen}
 
 pub same-writing : (number place : ℕ) (a : Answer) (image work : List ℕ) (o : writer.Outcome) → number ≡ Answer.numberOf a → place ≡ Answer.placeOf a
     → record { answer = a; image = image; work = work } ≡ o → record { number = number; place = place; image = image; work = work } ≡ writing o
@@ -25,6 +27,15 @@ same-reading number place psn a lent o hn hp ho =
     ap (λ (n : ℕ). record { number = n; place = place; psn = psn; lent = lent }) hn
     ∙ ap (λ (p : ℕ). record { number = Answer.numberOf a; place = p; psn = psn; lent = lent }) hp
     ∙ ap reading ho
+
+pub same-marking : (kind number psn place : ℕ) (v : Verdict) (lent : reader.Lent) (m : marker.Marked) → kind ≡ kindOf v → number ≡ refusalIn v → psn ≡ psnIn v → place ≡ placeIn v
+    → record { verdict = v; lent = lent } ≡ m → record { verdict = kind; number = number; psn = psn; place = place; lent = lent } ≡ marking m
+same-marking kind number psn place v lent m hk hn hs hp hm =
+    ap (λ (k : ℕ). record { verdict = k; number = number; psn = psn; place = place; lent = lent }) hk
+    ∙ ap (λ (n : ℕ). record { verdict = kindOf v; number = n; psn = psn; place = place; lent = lent }) hn
+    ∙ ap (λ (s : ℕ). record { verdict = kindOf v; number = refusalIn v; psn = s; place = place; lent = lent }) hs
+    ∙ ap (λ (p : ℕ). record { verdict = kindOf v; number = refusalIn v; psn = psnIn v; place = p; lent = lent }) hp
+    ∙ ap marking hm
 
 -- ---- conversions: a is what the conversion gave, b what it is defined to give
 

@@ -3,13 +3,15 @@ use address::Aun;
 use address::Judged;
 use address::Paa;
 use address::Psn;
+use marker::Verdict;
 ghost use mathlib.Core.Path.{_≡_};
 ghost use Rattle.image.specs.Image.{Input};
 ghost use Rattle.writer.specs.Outcome as writer;
 ghost use Rattle.reader.specs.Outcome as reader;
+ghost use Rattle.marker.specs.Marked.{marked};
 ghost use Rattle.address.specs.Conversions.{psnToPaa, paaToPsn, psnToAun, aunToPsn};
 ghost use Rattle.address.specs.Judged.{numberOf};
-ghost use Rattle.bdre.specs.Seen.{Writing, Reading, Number, writing, reading, psnSeen, aunSeen, paaSeen};
+ghost use Rattle.bdre.specs.Seen.{Writing, Reading, Marking, Number, kindOf, refusalIn, psnIn, placeIn, writing, reading, marking, psnSeen, aunSeen, paaSeen};
 
 // Document 01's number and place.
 #[repr(C)]
@@ -21,6 +23,16 @@ pub struct Answered {
 // What the reader answers; the PSN is 0 on refusal.
 #[repr(C)]
 pub struct ReadAnswered {
+    pub number: u32,
+    pub psn: u32,
+    pub place: usize,
+}
+
+// What the marker answers: 0 pass; 1 refused, with the reader's number and place; 2 another PSN, with the image's own; 3 other user bytes and
+// 4 other side data, with the first place that differs.
+#[repr(C)]
+pub struct Marking {
+    pub verdict: u32,
     pub number: u32,
     pub psn: u32,
     pub place: usize,
@@ -43,6 +55,54 @@ fn number_of(judged: Judged) -> u32
     }
 }
 
+fn kind(verdict: Verdict) -> u32
+    ensures { λ r. ⌜ r ≡ kindOf verdict ⌝ }
+{
+    match verdict {
+        Verdict::Pass => 0,
+        Verdict::Refused(_) => 1,
+        Verdict::OtherPsn(_) => 2,
+        Verdict::OtherUser(_) => 3,
+        Verdict::OtherSide(_) => 4,
+    }
+}
+
+fn refusal(verdict: Verdict) -> u32
+    ensures { λ r. ⌜ r ≡ refusalIn verdict ⌝ }
+{
+    match verdict {
+        Verdict::Pass => 0,
+        Verdict::Refused(answer) => answer.number(),
+        Verdict::OtherPsn(_) => 0,
+        Verdict::OtherUser(_) => 0,
+        Verdict::OtherSide(_) => 0,
+    }
+}
+
+fn own_psn(verdict: Verdict) -> u32
+    ensures { λ r. ⌜ r ≡ psnIn verdict ⌝ }
+{
+    match verdict {
+        Verdict::Pass => 0,
+        Verdict::Refused(_) => 0,
+        Verdict::OtherPsn(psn) => psn.0,
+        Verdict::OtherUser(_) => 0,
+        Verdict::OtherSide(_) => 0,
+    }
+}
+
+fn place(verdict: Verdict) -> usize
+    ensures { λ r. ⌜ r ≡ placeIn verdict ⌝ }
+{
+    match verdict {
+        Verdict::Pass => 0,
+        Verdict::Refused(answer) => answer.place(),
+        Verdict::OtherPsn(_) => 0,
+        Verdict::OtherUser(n) => n,
+        Verdict::OtherSide(n) => n,
+    }
+}
+
 // Writes the image of a cluster.
 #[no_mangle]
 pub extern "C" fn bdre_write_image(
@@ -56,10 +116,10 @@ pub extern "C" fn bdre_write_image(
     ensures { λ r. ⌜ record { number = r .number; place = r .place; image = now (image .exit); work = now (work .exit) }
         ≡ writing (writer.outcome (record { user = now (user .entry); psn = psn; side = now (side .entry); dc = now (dc .entry) }) (now (image .entry)) (now (work .entry))) ⌝ }
 {
-    let answer = writer::write_image(user, Psn(psn), side, dc, image, work);
+    let written = writer::write_image(user, Psn(psn), side, dc, image, work);
     Answered {
-        number: answer.number(),
-        place: answer.place(),
+        number: written.number(),
+        place: written.place(),
     }
 }
 
@@ -81,6 +141,30 @@ pub extern "C" fn bdre_read_image(
         number: answer.number(),
         psn: read.psn.0,
         place: answer.place(),
+    }
+}
+
+// Marks an image: whether it is that of these user bytes, this side data and this PSN under some dc words. The other slices are lent to read it.
+#[no_mangle]
+pub extern "C" fn bdre_mark_image(
+    psn: u32,
+    user: &[u8],
+    side: &[u8],
+    image: &[u8],
+    bytes: &mut [u8],
+    control: &mut [u8],
+    dc: &mut [u32],
+    work: &mut [u8],
+) -> Marking
+    ensures { λ r. ⌜ record { verdict = r .verdict; number = r .number; psn = r .psn; place = r .place; lent = record { user = now (bytes .exit); side = now (control .exit); dc = now (dc .exit); work = now (work .exit) } }
+        ≡ marking (marked psn (now (user .entry)) (now (side .entry)) (now (image .entry)) (record { user = now (bytes .entry); side = now (control .entry); dc = now (dc .entry); work = now (work .entry) })) ⌝ }
+{
+    let verdict = marker::mark(Psn(psn), user, side, image, bytes, control, dc, work);
+    Marking {
+        verdict: kind(verdict),
+        number: refusal(verdict),
+        psn: own_psn(verdict),
+        place: place(verdict),
     }
 }
 
