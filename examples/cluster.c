@@ -1,10 +1,11 @@
-/* Writes the image of a cluster, reads it back, and has a damaged image and a wrong PSN refused. */
+/* Writes the image of a cluster, reads it back, marks it, and has a damaged image and a wrong PSN refused. */
 #include "bdre.h"
 
 #include <stdio.h>
 #include <string.h>
 
 static uint8_t user[BDRE_USER], side[BDRE_SIDE], image[BDRE_IMAGE], work[BDRE_WORK];
+static uint8_t given_user[BDRE_USER], given_side[BDRE_SIDE];
 static uint32_t dc[BDRE_DC];
 
 static struct bdre_answer write_at(uint32_t psn) {
@@ -13,6 +14,11 @@ static struct bdre_answer write_at(uint32_t psn) {
 
 static struct bdre_read_answer read_back(void) {
     return bdre_read_image(image, BDRE_IMAGE, user, BDRE_USER, side, BDRE_SIDE, dc, BDRE_DC, work, BDRE_WORK);
+}
+
+static struct bdre_marking mark_at(uint32_t psn) {
+    return bdre_mark_image(psn, given_user, BDRE_USER, given_side, BDRE_SIDE, image, BDRE_IMAGE, user, BDRE_USER, side, BDRE_SIDE, dc,
+                           BDRE_DC, work, BDRE_WORK);
 }
 
 int main(void) {
@@ -27,6 +33,12 @@ int main(void) {
     struct bdre_read_answer found = read_back();
     printf("read: %u, PSN %08X, \"%.14s\", dc word 7 is %07X\n", (unsigned)found.number, (unsigned)found.psn, (const char *)user,
            (unsigned)dc[7]);
+
+    memcpy(given_user, "reference disk", 14);
+    printf("marked: %u\n", (unsigned)mark_at(0x00100000).verdict);
+    given_user[10] = 'D';
+    struct bdre_marking marking = mark_at(0x00100000);
+    printf("marked by other user data: %u, place %zu\n", (unsigned)marking.verdict, marking.place);
 
     image[60000] ^= 0x10;
     found = read_back();

@@ -1,4 +1,4 @@
-//! Writes the image of a cluster, reads it back, and has a damaged image and a wrong PSN refused.
+//! Writes the image of a cluster, reads it back, marks it, and has a damaged image and a wrong PSN refused.
 #[path = "../include/bdre.rs"]
 #[allow(dead_code)]
 mod bdre;
@@ -20,6 +20,14 @@ fn main() {
     let found = bdre::read_image(&image, &mut user, &mut side, &mut dc, &mut work);
     let text = String::from_utf8_lossy(&user[..14]);
     println!("read: {}, PSN {:08X}, {text:?}, dc word 7 is {:07X}", found.number, found.psn, dc[7]);
+
+    let (mut given, control) = (user.clone(), side.clone());
+    let psn = 0x0010_0000;
+    let marking = bdre::mark_image(psn, &given, &control, &image, &mut user, &mut side, &mut dc, &mut work);
+    println!("marked: {}", marking.verdict);
+    given[10] = b'D';
+    let marking = bdre::mark_image(psn, &given, &control, &image, &mut user, &mut side, &mut dc, &mut work);
+    println!("marked by other user data: {}, place {}", marking.verdict, marking.place);
 
     image[60000] ^= 0x10;
     let found = bdre::read_image(&image, &mut user, &mut side, &mut dc, &mut work);

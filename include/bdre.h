@@ -1,4 +1,4 @@
-/* BD-RE clusters (ISO/IEC 30193:2021, clause 13) written and strictly read: the functions of libbdre.a.
+/* BD-RE clusters (ISO/IEC 30193:2021, clause 13) written, strictly read and marked: the functions of libbdre.a.
  *
  * A slice is a pointer and the number of its elements. Two things are asked of a caller, here and nowhere else: each pointer is valid
  * (not null, even for 0 elements) for that many elements, and a slice that a call writes overlaps no other slice of that call. Every
@@ -42,6 +42,13 @@ struct bdre_read_answer {
     size_t place;
 };
 
+struct bdre_marking {
+    uint32_t verdict; /* 0: pass. 1: refused. 2: another PSN. 3: other user data. 4: other side data */
+    uint32_t number;  /* at 1, the number of the refusal; else 0 */
+    uint32_t psn;     /* at 2, the image's own PSN; else 0 */
+    size_t place;     /* at 1, the place of the refusal; at 3 and 4, the first byte that differs; else 0 */
+};
+
 struct bdre_conversion {
     uint32_t number;
     uint32_t value; /* 0 unless number is 0 */
@@ -57,6 +64,14 @@ struct bdre_answer bdre_write_image(const uint8_t *user, size_t user_length, uin
  * are as they were. 9 to 16: work is all zeros, the others are as they were. */
 struct bdre_read_answer bdre_read_image(const uint8_t *image, size_t image_length, uint8_t *user, size_t user_length, uint8_t *side,
                                         size_t side_length, uint32_t *dc, size_t dc_length, uint8_t *work, size_t work_length);
+
+/* Marks an image: whether it is the image of this PSN, this user data and this side data, under any dc words at all. It is read into the
+ * four slices lent for that, which are left as bdre_read_image leaves them; where user or side has a wrong length (verdict 1, number 1 or
+ * 2) they are as they were. */
+struct bdre_marking bdre_mark_image(uint32_t psn, const uint8_t *user, size_t user_length, const uint8_t *side, size_t side_length,
+                                    const uint8_t *image, size_t image_length, uint8_t *user_read, size_t user_read_length,
+                                    uint8_t *side_read, size_t side_read_length, uint32_t *dc_read, size_t dc_read_length,
+                                    uint8_t *work, size_t work_length);
 
 /* The groove address (PAA) of the first word of the cluster at a PSN. 0, 6 or 7. */
 struct bdre_conversion bdre_psn_to_paa(uint32_t psn);

@@ -1,4 +1,4 @@
-//! BD-RE clusters (ISO/IEC 30193:2021, clause 13) written and strictly read: safe calls of the functions of libbdre.a. Nothing is asked of
+//! BD-RE clusters (ISO/IEC 30193:2021, clause 13) written, strictly read and marked: safe calls of the functions of libbdre.a. Nothing is asked of
 //! the caller. bdre.h lists the numbers that are answered.
 
 /// User data: 32 sectors of 2,048 bytes.
@@ -30,6 +30,19 @@ pub struct ReadAnswer {
 
 #[repr(C)]
 #[derive(Clone, Copy, Debug, PartialEq, Eq)]
+pub struct Marking {
+    /// 0: pass. 1: refused. 2: another PSN. 3: other user data. 4: other side data.
+    pub verdict: u32,
+    /// At 1, the number of the refusal; else 0.
+    pub number: u32,
+    /// At 2, the image's own PSN; else 0.
+    pub psn: u32,
+    /// At 1, the place of the refusal; at 3 and 4, the first byte that differs; else 0.
+    pub place: usize,
+}
+
+#[repr(C)]
+#[derive(Clone, Copy, Debug, PartialEq, Eq)]
 pub struct Conversion {
     pub number: u32,
     /// 0 unless `number` is 0.
@@ -37,7 +50,7 @@ pub struct Conversion {
 }
 
 mod c {
-    use super::{Answer, Conversion, ReadAnswer};
+    use super::{Answer, Conversion, Marking, ReadAnswer};
 
     #[link(name = "bdre", kind = "static")]
     extern "C" {
@@ -66,6 +79,23 @@ mod c {
             work: *mut u8,
             work_length: usize,
         ) -> ReadAnswer;
+        pub fn bdre_mark_image(
+            psn: u32,
+            user: *const u8,
+            user_length: usize,
+            side: *const u8,
+            side_length: usize,
+            image: *const u8,
+            image_length: usize,
+            user_read: *mut u8,
+            user_read_length: usize,
+            side_read: *mut u8,
+            side_read_length: usize,
+            dc_read: *mut u32,
+            dc_read_length: usize,
+            work: *mut u8,
+            work_length: usize,
+        ) -> Marking;
         pub fn bdre_psn_to_paa(psn: u32) -> Conversion;
         pub fn bdre_paa_to_psn(paa: u32) -> Conversion;
         pub fn bdre_psn_to_aun(psn: u32, unit: u32) -> Conversion;
@@ -121,6 +151,41 @@ pub fn read_image(
             side.len(),
             dc.as_mut_ptr(),
             dc.len(),
+            work.as_mut_ptr(),
+            work.len(),
+        )
+    }
+}
+
+/// Marks an image: whether it is the image of this PSN, this user data and this side data, under any dc words at all. It is read into the
+/// four slices lent for that, which are left as `read_image` leaves them; where `user` or `side` has a wrong length (verdict 1, number 1 or
+/// 2) they are as they were.
+#[allow(clippy::too_many_arguments)]
+pub fn mark_image(
+    psn: u32,
+    user: &[u8],
+    side: &[u8],
+    image: &[u8],
+    user_read: &mut [u8],
+    side_read: &mut [u8],
+    dc_read: &mut [u32],
+    work: &mut [u8],
+) -> Marking {
+    unsafe {
+        c::bdre_mark_image(
+            psn,
+            user.as_ptr(),
+            user.len(),
+            side.as_ptr(),
+            side.len(),
+            image.as_ptr(),
+            image.len(),
+            user_read.as_mut_ptr(),
+            user_read.len(),
+            side_read.as_mut_ptr(),
+            side_read.len(),
+            dc_read.as_mut_ptr(),
+            dc_read.len(),
             work.as_mut_ptr(),
             work.len(),
         )

@@ -53,6 +53,19 @@ fn read_both(image: &[u8], before: &Lent, fast: &mut Fast, by_plain: bool, what:
     (a, ours)
 }
 
+/// The marker and the reference on the same image, the same given data and the same slices.
+fn mark_both(given: &Cluster, image: &[u8], before: &Lent, fast: &mut Fast, what: &str) -> u32 {
+    let (mut ours, mut theirs) = (before.clone(), before.clone());
+    let (psn, user, side) = (given.psn, &given.user, &given.side);
+    let o = &mut ours;
+    let a = bdre::mark_image(psn, user, side, image, &mut o.user, &mut o.side, &mut o.dc, &mut o.work);
+    let t = &mut theirs;
+    let b = plain::mark(psn, user, side, &mut t.user, &mut t.side, |u, s| fast.read(image, u, s, &mut t.dc, &mut t.work));
+    agree((a.verdict, a.number, a.psn, a.place) == b, || format!("{what}: marked {a:?}, by the reference {b:?}"));
+    agree(ours == theirs, || format!("{what}: slices of the marker, at {a:?}"));
+    a.verdict
+}
+
 /// What document 01's table says of the slices on a refusal, beside what the reference does.
 fn untouched(a: bdre::ReadAnswer, ours: &Lent, before: &Lent, what: &str) {
     let same = ours.user == before.user && ours.side == before.side && ours.dc == before.dc;
@@ -88,8 +101,14 @@ fn lengths(r: &Random, fast: &mut Fast) {
             let (number, _) = write_both(&cluster, &before, &what);
             calls[0][number as usize] += 1;
 
-            let before = Lent { user: cluster.user, side: cluster.side, dc: cluster.dc, work: before.work };
             let image = r.bytes(n[3]);
+            let lent = Lent { user: r.bytes(n[0]), side: r.bytes(n[1]), dc: cluster.dc.clone(), work: before.work.clone() };
+            mark_both(&cluster, &image, &lent, fast, &what);
+            let given = Cluster { psn, user: vec![0; USER], side: vec![0; SIDE], dc: vec![] };
+            mark_both(&given, &image, &lent, fast, &what);
+            mark_both(&cluster, &image, &Lent::random(r), fast, &what);
+
+            let before = Lent { user: cluster.user, side: cluster.side, dc: cluster.dc, work: before.work };
             let (a, ours) = read_both(&image, &before, fast, true, &what);
             untouched(a, &ours, &before, &what);
             calls[1][a.number as usize] += 1;
@@ -97,6 +116,7 @@ fn lengths(r: &Random, fast: &mut Fast) {
     }
     println!("wrong lengths, writer: refused by 1 to 5 {:?} times", &calls[0][1..]);
     println!("wrong lengths, reader: refused by 1 to 5 {:?} times", &calls[1][1..]);
+    println!("wrong lengths, marker: given, lent and both, {} times", 3 * 31 * 6);
 }
 
 /// PSNs at and around the ends of the zones, random ones, and dc words that are too large.
@@ -175,6 +195,31 @@ fn clusters(r: &Random, fast: &mut Fast, count: usize, plain_every: usize) {
     println!("clusters: {count} written and read back, {zones:?} in the three zones");
 }
 
+/// Given data that an image was made of, or not, under the image's own dc words and under others; at times the image is damaged.
+fn marks(r: &Random, fast: &mut Fast, count: usize) {
+    let mut verdicts = [0; 5];
+    for i in 0..count {
+        let mut w = Written::random(r, fast, i);
+        let mut given = Cluster { psn: w.cluster.psn, user: w.cluster.user.clone(), side: w.cluster.side.clone(), dc: vec![] };
+        let mut what = format!("mark {i}");
+        if i % 5 == 0 {
+            what += &format!(", {}", damage(r, fast, &mut w));
+        }
+        if r.below(4) == 0 {
+            given.psn = r.pick(&[ZONES[1].0, r.word(), given.psn + 32, given.psn ^ 1]);
+        }
+        for _ in 0..r.pick(&[0, 0, 1, 2]) {
+            given.user[r.pick(&[0, USER - 1, r.below(USER), r.below(USER)])] ^= 1 << r.below(8);
+        }
+        for _ in 0..r.pick(&[0, 0, 1, 2]) {
+            given.side[r.pick(&[0, 15, 16, SIDE - 1, r.below(SIDE)])] ^= 1 << r.below(8);
+        }
+        verdicts[mark_both(&given, &w.image, &Lent::random(r), fast, &what) as usize] += 1;
+    }
+    println!("marks: {count}; pass, refused, other PSN, other user data, other side data {verdicts:?} times");
+    agree(verdicts.iter().all(|&n| n > 0), || "a verdict did not occur".into());
+}
+
 fn damaged(r: &Random, fast: &mut Fast, count: usize, plain_every: usize) {
     let mut answers = [0; 17];
     for i in 0..count {
@@ -200,7 +245,8 @@ fn main() {
     lengths(r, &mut fast);
     refused_inputs(r, if short { 200 } else { 2000 });
     conversions(r, 1_000_000);
-    clusters(r, &mut fast, if short { 40 } else { 300 }, if short { 4 } else { 1 });
-    damaged(r, &mut fast, if short { 300 } else { 3000 }, if short { 10 } else { 1 });
+    clusters(r, &mut fast, if short { 30 } else { 240 }, if short { 4 } else { 1 });
+    damaged(r, &mut fast, if short { 200 } else { 2000 }, if short { 10 } else { 1 });
+    marks(r, &mut fast, if short { 30 } else { 300 });
     println!("the library and the reference agree ({:.0} s)", start.elapsed().as_secs_f64());
 }

@@ -486,3 +486,34 @@ pub fn read(
         Err((a, p)) => (a, p, 0),
     }
 }
+
+/// The marker, over either reader: verdict (0 pass, 1 refused, 2 another PSN, 3 other user data, 4 other side data), number, PSN, place.
+pub fn mark(
+    psn: u32,
+    user: &[u8],
+    side: &[u8],
+    user_read: &mut [u8],
+    side_read: &mut [u8],
+    read: impl FnOnce(&mut [u8], &mut [u8]) -> (u32, usize, u32),
+) -> (u32, u32, u32, usize) {
+    if user.len() != USER {
+        return (1, 1, 0, 0);
+    }
+    if side.len() != SIDE {
+        return (1, 2, 0, 0);
+    }
+    let (number, place, own) = read(user_read, side_read);
+    if number != 0 {
+        return (1, number, 0, place);
+    }
+    if own != psn {
+        return (2, 0, own, 0);
+    }
+    if let Some(i) = (0..USER).find(|&i| user[i] != user_read[i]) {
+        return (3, 0, 0, i);
+    }
+    if let Some(i) = (0..SIDE).find(|&i| side[i] != side_read[i]) {
+        return (4, 0, 0, i);
+    }
+    (0, 0, 0, 0)
+}
