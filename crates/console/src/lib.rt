@@ -3,7 +3,6 @@ use answer::Answer;
 ghost use mathlib.Core.Path.{_≡_};
 ghost use lib.ListN.{length};
 ghost use Rattle.io.specs.Counts.{Counts};
-ghost use Rattle.console.specs.Names.{isDash, PartAdded};
 
 // ---- buffers, zero
 
@@ -149,15 +148,6 @@ fn load_path(path: &[u8], bytes: &mut [u8]) -> bool {
     whole
 }
 
-fn is_dash(path: &[u8]) -> bool
-    ensures { λ r. ⌜ r ≡ isDash (now (path .entry)) ⌝ }
-{
-    if path.len() != 1 {
-        return false;
-    }
-    path[0] == b'-'
-}
-
 // Fills bytes from the file that argument i names.
 pub fn load(i: usize, bytes: &mut [u8]) -> bool {
     let mut name = io::buffer();
@@ -172,32 +162,13 @@ pub fn load(i: usize, bytes: &mut [u8]) -> bool {
 pub fn load_unless_dash(i: usize, bytes: &mut [u8]) -> bool {
     let mut name = io::buffer();
     let n = file_name(i, &mut name);
-    if is_dash(&name[..n]) {
+    if notation::is_dash(&name[..n]) {
         return true;
     }
     load(i, bytes)
 }
 
 // ---- a result is written to NAME.part, and gets its name when it is whole
-
-// `.part` behind the first n bytes of name; how many there are then, 0 where there is no room.
-fn add_part(name: &mut [u8], n: usize) -> usize
-    ensures { λ r. ⌜ Counts r (now (name .exit)) ⌝ }
-    ensures { λ r. ⌜ PartAdded (now (name .entry)) n (now (name .exit)) r ⌝ }
-{
-    if name.len() < 5 {
-        return 0;
-    }
-    if name.len() - 5 < n {
-        return 0;
-    }
-    name[n] = b'.';
-    name[n + 1] = b'p';
-    name[n + 2] = b'a';
-    name[n + 3] = b'r';
-    name[n + 4] = b't';
-    n + 5
-}
 
 fn put(path: &[u8], fd: i32, bytes: &[u8]) -> bool {
     if !io::write_all(fd, bytes) {
@@ -233,7 +204,7 @@ pub fn write_part(i: usize, bytes: &[u8]) -> bool {
     if n == 0 {
         return false;
     }
-    let m = add_part(&mut name, n);
+    let m = notation::add_part(&mut name, n);
     if m == 0 {
         no_name();
         return false;
@@ -244,7 +215,7 @@ pub fn write_part(i: usize, bytes: &[u8]) -> bool {
 pub fn remove_part(i: usize) {
     let mut name = io::buffer();
     let n = file_name(i, &mut name);
-    let m = add_part(&mut name, n);
+    let m = notation::add_part(&mut name, n);
     os::unlink(&name[..m]);
 }
 
@@ -263,6 +234,6 @@ fn rename(part: &[u8], i: usize) -> bool {
 pub fn keep_part(i: usize) -> bool {
     let mut name = io::buffer();
     let n = file_name(i, &mut name);
-    let m = add_part(&mut name, n);
+    let m = notation::add_part(&mut name, n);
     rename(&name[..m], i)
 }

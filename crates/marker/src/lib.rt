@@ -2,10 +2,11 @@
 use address::Psn;
 use answer::Answer;
 ghost use mathlib.Core.Path.{_≡_};
+ghost use mathlib.Core.Logic.{_↔_};
 ghost use Prim.Native.Nat.{_≤_};
 ghost use lib.ListN.{length};
 ghost use Rattle.reader.specs.Outcome.{Lent, outcome};
-ghost use Rattle.marker.specs.Marked.{givenAnswer, firstOther, compared, judged, Marked, marked};
+ghost use Rattle.marker.specs.Marked.{givenAnswer, firstOther, compared, judged, Marked, marked, Fitting, IsImageOf};
 
 pub enum Verdict {
     Pass,
@@ -102,6 +103,8 @@ pub fn mark(
 ) -> Verdict
     ensures { λ r. ⌜ record { verdict = r; lent = record { user = now (bytes .exit); side = now (control .exit); dc = now (dc .exit); work = now (work .exit) } }
         ≡ marked (psn .0) (now (user .entry)) (now (side .entry)) (now (image .entry)) (record { user = now (bytes .entry); side = now (control .entry); dc = now (dc .entry); work = now (work .entry) }) ⌝ }
+    ensures { λ r. ⌜ (Fitting (record { user = now (bytes .entry); side = now (control .entry); dc = now (dc .entry); work = now (work .entry) })
+        → (r ≡ Verdict.Pass) ↔ IsImageOf (psn .0) (now (user .entry)) (now (side .entry)) (now (image .entry))) ⌝ }
 {
     let given = judge_given(user.len(), side.len());
     if given.is_done() {

@@ -1,3 +1,4 @@
--- A PSN and the dc words, as arguments and files have them.
+-- PSNs, dc words and file names, as arguments and files have them.
 pub mod Psn
 pub mod Words
+pub mod Names

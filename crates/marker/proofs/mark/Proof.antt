@@ -1,4 +1,5 @@
 -- `mark` meets its contract: the lengths of what is given, then the verdict on what is read (Judging).
+use Rattle.marker.proofs.Statements.{with-pass}
 use Rattle.marker.proofs.Judging.{given-right, is-marked, is-wrong}
 use borrow.Author.Needs.{needs}
 use Rattle.marker.proofs.mark.Statement.{statement}
@@ -26,10 +27,10 @@ same-length-4 : tie.Need-same-length-4
 same-length-4 c = search needs
 
 returns : tie.Need-returns
-returns c = search (is-marked)
+returns c = with-pass _ _ _ _ _ _ _ (λ k. c .before .before .before .before .before .before .before .before .before .before .before .before .before .before .before .before .before .before .before .before .shared-slice-known3 .given k .fits) (search (is-marked))
 
 returns-2 : tie.Need-returns-2
-returns-2 c = search (is-wrong)
+returns-2 c = with-pass _ _ _ _ _ _ _ (λ k. c .before .before .before .before .before .before .before .shared-slice-known3 .given k .fits) (search (is-wrong))
 
 pub mark-spec : {M : Type 1} → statement M
 mark-spec =

@@ -1,8 +1,8 @@
 -- `is_dash` meets its contract (Names).
-use Rattle.console.proofs.Names.{another-length, one-byte}
+use Rattle.notation.proofs.Names.{another-length, one-byte}
 use borrow.Author.Needs.{needs}
-use Rattle.console.proofs.is_dash.Statement.{statement}
-use Rattle.console.proofs.is_dash.Tie as tie
+use Rattle.notation.proofs.is_dash.Statement.{statement}
+use Rattle.notation.proofs.is_dash.Tie as tie
 
 returns : tie.Need-returns
 returns c = search (another-length)

@@ -1,2 +1,0 @@
--- Laws of file names.
-pub mod Names

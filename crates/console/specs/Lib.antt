@@ -1,2 +1,0 @@
--- File names among the arguments.
-pub mod Names

@@ -1,0 +1,113 @@
+-- What a pass says: some dc words make an accepted input whose image this is. From what is promised of the reader. Assumes nothing.
+use mathlib.Core.Path.{_≡_, refl, sym, ap, subst, _∙_}
+use mathlib.Core.Logic.{_↔_}
+use mathlib.Core.Bool.{Bool, true, false, cond}
+use mathlib.Core.List.{List}
+use Prim.Native.Nat.{ℕ, _≤_}
+use native.Mathlib.Omega.{arith}
+use borrow.Author.Tests.{eqb-true, not-false, ltb-false}
+use lib.Dec.{eqb, ltb}
+use lib.ListN.{length, getD}
+use lib.Seq.{ext-getD}
+use Rattle.laws.specs.Bytes.{Bytes}
+use Rattle.laws.proofs.First.{first-none, first-all}
+use Rattle.answer.specs.declared.Answer.{Answer}
+use Rattle.answer.specs.declared.Answer.the-variants.{Done}
+use Rattle.answer.specs.Answer.{numberOf, isDone}
+use Rattle.answer.proofs.Tests.{done-is}
+use Rattle.image.specs.Image as Image
+use Rattle.image.specs.Image.{Input, IsAccepted}
+use Rattle.reader.specs.Outcome.{Lent, Outcome, outcome}
+use Rattle.reader.proofs.Statements.{Right, returned, read-back, nothing-else}
+use Rattle.marker.specs.declared.Verdict.{Verdict}
+use Rattle.marker.specs.declared.Verdict.the-variants.{Pass, Refused, OtherPsn, OtherUser, OtherSide}
+use Rattle.marker.specs.Marked.{IsImageOf, Fitting, givenAnswer, other, firstOther, compared, verdictOf, judged, Marked, marked}
+use Rattle.marker.proofs.Judging.{agrees, right-given, all-same, given-right}
+
+-- ---- lists without a difference
+
+-- no difference is found in two lists of n elements exactly where they are the same
+no-other : (n : ℕ) (a b : List ℕ) → length a ≡ n → length b ≡ n → n ≤ firstOther n a b → a ≡ b
+unfolding firstOther other
+no-other n a b ha hb h = ext-getD 0 a b (ha ∙ sym hb) (λ k lt. eqb-true (getD a k 0) (getD b k 0) (not-false _ (first-all n (other a b) h k (omega arith))))
+
+same-none : (n : ℕ) (a : List ℕ) → n ≤ firstOther n a a
+unfolding firstOther
+same-none n a = let none = first-none n (other a a) (record { fails = λ k h. agrees a a k refl }) in omega arith
+
+-- ---- the verdict that is `Pass`
+
+record Same (psn : ℕ) (user side : List ℕ) (found : ℕ) (bytes control : List ℕ) : Type 0 where
+  psn-same : found ≡ psn
+  user-same : 65536 ≤ firstOther 65536 user bytes
+  side-same : 592 ≤ firstOther 592 side control
+
+compared-pass : (psn : ℕ) (user side : List ℕ) (found : ℕ) (bytes control : List ℕ) → compared psn user side found bytes control ≡ Pass → Same psn user side found bytes control
+unfolding compared
+compared-pass psn user side found bytes control e = by (eqb found psn) (ltb (firstOther 65536 user bytes) 65536) (ltb (firstOther 592 side control) 592) refl refl refl e
+  where
+    by : (p u s : Bool) → eqb found psn ≡ p → ltb (firstOther 65536 user bytes) 65536 ≡ u → ltb (firstOther 592 side control) 592 ≡ s
+        → cond p (cond u (OtherUser (firstOther 65536 user bytes)) (cond s (OtherSide (firstOther 592 side control)) Pass)) (OtherPsn (record { 0 = found })) ≡ Pass
+        → Same psn user side found bytes control
+    by true false false hp hu hs e = record { psn-same = eqb-true found psn hp; user-same = ltb-false _ _ hu; side-same = ltb-false _ _ hs }
+    by true false true hp hu hs e = let z : _≡_ {A = ℕ} 0 1 = cc in absurd (omega arith)
+    by true true s hp hu hs e = let z : _≡_ {A = ℕ} 0 1 = cc in absurd (omega arith)
+    by false u s hp hu hs e = let z : _≡_ {A = ℕ} 0 1 = cc in absurd (omega arith)
+
+module _ (psn : ℕ) (user side image : List ℕ) (before : Lent) where
+  abbrev read : Outcome
+  read = outcome image before
+
+  verdict-pass : verdictOf psn user side read ≡ Pass → (read .answer ≡ Done) × Same psn user side (read .psn) (read .lent .user) (read .lent .side)
+  verdict-pass e = by (isDone (read .answer)) refl e
+    where
+      by : (t : Bool) → isDone (read .answer) ≡ t → cond t (compared psn user side (read .psn) (read .lent .user) (read .lent .side)) (Refused (read .answer)) ≡ Pass
+          → (read .answer ≡ Done) × Same psn user side (read .psn) (read .lent .user) (read .lent .side)
+      by true t e = (done-is (read .answer) t, compared-pass psn user side (read .psn) (read .lent .user) (read .lent .side) e)
+      by false t e = let z : _≡_ {A = ℕ} 0 1 = cc in absurd (omega arith)
+
+  marked-pass : marked psn user side image before .verdict ≡ Pass → (isDone (givenAnswer (length user) (length side)) ≡ true) × (verdictOf psn user side read ≡ Pass)
+  unfolding marked
+  marked-pass e = by (givenAnswer (length user) (length side)) (isDone (givenAnswer (length user) (length side))) refl e
+    where
+      by : (g : Answer) (t : Bool) → isDone g ≡ t → cond t (judged psn user side read) (record { verdict = Refused g; lent = before }) .verdict ≡ Pass
+          → (isDone g ≡ true) × (verdictOf psn user side read ≡ Pass)
+      by g true t e = (t, e)
+      by g false t e = let z : _≡_ {A = ℕ} 0 1 = cc in absurd (omega arith)
+
+  -- what passes is an image of what is given
+  passed : Bytes image → marked psn user side image before .verdict ≡ Pass → IsImageOf psn user side image
+  passed bytes e =
+      let both = marked-pass e in
+      let given = given-right (length user) (length side) refl (sym (both .0)) refl in
+      let pass = verdict-pass (both .1) in
+      let same = pass .1 in
+      let made = nothing-else image before bytes (ap numberOf (pass .0)) in
+      let user-is : user ≡ read .lent .user = no-other 65536 user (read .lent .user) (given .0) (made .0 .user .size) (same .user-same) in
+      let side-is : side ≡ read .lent .side = no-other 592 side (read .lent .side) (given .1) (made .0 .side .size) (same .side-same) in
+      let is : returned read ≡ record { user = user; psn = psn; side = side; dc = read .lent .dc } =
+      λ i. record { user = sym user-is i; psn = same .psn-same i; side = sym side-is i; dc = read .lent .dc } in
+      record { dc = read .lent .dc; accepted = subst IsAccepted is (made .0); image-is = made .1 ∙ ap Image.image is }
+
+  -- and every image of what is given passes
+  passing : Fitting before → IsImageOf psn user side image → marked psn user side image before .verdict ≡ Pass
+  unfolding marked
+  passing f is =
+      let input : Input = record { user = user; psn = psn; side = side; dc = is .dc } in
+      let right : Right before = record { user = f .user; side = f .side; dc = f .dc; image = refl; work = f .work } in
+      let back = ap (λ (l : List ℕ). outcome l before) (is .image-is) ∙ read-back input (is .accepted) before right in
+      let given = right-given (length user) (length side) (is .accepted .user .size) (is .accepted .side .size) in
+      ap (λ (g : Answer). cond (isDone g) (judged psn user side read) (record { verdict = Refused g; lent = before }) .verdict) (sym given)
+      ∙ ap (verdictOf psn user side) back
+      ∙ sym (all-same psn user side psn user side _ _ refl refl (same-none 65536 user) refl (same-none 592 side))
+
+  -- PASS IF AND ONLY IF some dc words make an accepted input whose image this is
+  pub pass-iff : Bytes image → Fitting before → (marked psn user side image before .verdict ≡ Pass) ↔ IsImageOf psn user side image
+  pass-iff bytes f = (passed bytes, passing f)
+
+  -- as the contract has it: r and l are the verdict and what it leaves
+  pub with-pass : (r : Verdict) (l : Lent) → Bytes image → record { verdict = r; lent = l } ≡ marked psn user side image before
+      → (record { verdict = r; lent = l } ≡ marked psn user side image before) × (Fitting before → (r ≡ Pass) ↔ IsImageOf psn user side image)
+  with-pass r l bytes e =
+      let is : r ≡ marked psn user side image before .verdict = ap (λ (m : Marked). m .verdict) e in
+      (e, λ f. (λ p. passed bytes (sym is ∙ p), λ i. is ∙ passing f i))
