@@ -5,10 +5,11 @@ use address::Paa;
 use address::Psn;
 use marker::Verdict;
 ghost use mathlib.Core.Path.{_≡_};
+ghost use mathlib.Core.Logic.{_↔_};
 ghost use Rattle.image.specs.Image.{Input};
 ghost use Rattle.writer.specs.Outcome as writer;
 ghost use Rattle.reader.specs.Outcome as reader;
-ghost use Rattle.marker.specs.Marked.{marked};
+ghost use Rattle.marker.specs.Marked.{Fitting, IsImageOf, marked};
 ghost use Rattle.address.specs.Conversions.{psnToPaa, paaToPsn, psnToAun, aunToPsn};
 ghost use Rattle.address.specs.Judged.{numberOf};
 ghost use Rattle.bdre.specs.Seen.{Writing, Reading, Marking, Number, kindOf, refusalIn, psnIn, placeIn, writing, reading, marking, psnSeen, aunSeen, paaSeen};
@@ -158,6 +159,8 @@ pub extern "C" fn bdre_mark_image(
 ) -> Marking
     ensures { λ r. ⌜ record { verdict = r .verdict; number = r .number; psn = r .psn; place = r .place; lent = record { user = now (bytes .exit); side = now (control .exit); dc = now (dc .exit); work = now (work .exit) } }
         ≡ marking (marked psn (now (user .entry)) (now (side .entry)) (now (image .entry)) (record { user = now (bytes .entry); side = now (control .entry); dc = now (dc .entry); work = now (work .entry) })) ⌝ }
+    ensures { λ r. ⌜ (Fitting (record { user = now (bytes .entry); side = now (control .entry); dc = now (dc .entry); work = now (work .entry) })
+        → (r .verdict ≡ 0) ↔ IsImageOf psn (now (user .entry)) (now (side .entry)) (now (image .entry))) ⌝ }
 {
     let verdict = marker::mark(Psn(psn), user, side, image, bytes, control, dc, work);
     Marking {

@@ -32,7 +32,9 @@ same-length-4 : tie.Need-same-length-4
 same-length-4 c = search needs
 
 returns : tie.Need-returns
-returns c = search (same-marking)
+returns c =
+    let marked = c .before .before .before .before .before .before .before .before .before .before .before .before .mark .ensures in
+    same-marking _ _ _ _ _ _ _ _ _ (search needs) (search needs) (search needs) (search needs) marked
 
 pub bdre-mark-image-spec : {M : Type 1} → statement M
 bdre-mark-image-spec =
