@@ -1,9 +1,9 @@
 -- `differing` is safe and ends.
-use Prim.Native.Nat.{_≤_, _-_}
-use borrow.Author.Needs.{needs}
+use Prim.Native.Nat.{_-_, _≤_}
 use lib.ListN.{length}
-use Rattle.writer_test.proofs.differing.Statement.{statement}
-use Rattle.writer_test.proofs.differing.Tie as tie
+use borrow.Author.Needs.{needs}
+use Rattle.image_test.proofs.lent.differing.Statement.{statement}
+use Rattle.image_test.proofs.lent.differing.Tie as tie
 
 abbrev Inv-loop : tie.InvT-loop
 Inv-loop a b n₀ k₀ n k = k ≤ length a
@@ -22,6 +22,9 @@ shared-slice-read-if2-2 c = search needs
 
 wrapping-add-u64-requires : tie.Need-wrapping-add-u64-requires Inv-loop μ-loop
 wrapping-add-u64-requires c κs = search needs
+
+wrapping-add-u64-requires-2 : tie.Need-wrapping-add-u64-requires-2 Inv-loop μ-loop
+wrapping-add-u64-requires-2 c κs = search needs
 
 add-k : tie.Need-add-k Inv-loop μ-loop
 add-k c = search needs
@@ -45,6 +48,7 @@ differing-spec =
     shared-slice-read-if2
     shared-slice-read-if2-2
     wrapping-add-u64-requires
+    wrapping-add-u64-requires-2
     add-k
     loop-less
     loop-again

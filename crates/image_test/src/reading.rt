@@ -1,0 +1,94 @@
+// Images read: what they were made of, or a refusal with every slice as document 01 has it.
+use crate::lent;
+use address::Psn;
+
+// Reads an image and compares all that it gives.
+pub fn read_back(psn: Psn, user: &[u8], side: &[u8], dc: &[u32], image: &[u8], work: &[u8]) {
+    let mut read_user = lent::old_user();
+    let mut read_side = lent::old_side();
+    let mut read_dc = lent::old_words();
+    let mut read_work = lent::old_work();
+    let read = reader::read_image(
+        image,
+        &mut read_user,
+        &mut read_side,
+        &mut read_dc,
+        &mut read_work,
+    );
+    io::write_all(1, b"  read ");
+    let answer = read.answer;
+    lent::print_answer(answer);
+    let read_psn = read.psn;
+    if read_psn.0 != psn.0 {
+        io::write_all(1, b"  another PSN\n");
+    }
+    lent::report(
+        b"  user bytes that differ ",
+        lent::differing(&read_user, user),
+    );
+    lent::report(
+        b"  side bytes that differ ",
+        lent::differing(&read_side, side),
+    );
+    lent::report(
+        b"  dc words that differ ",
+        lent::words_differing(&read_dc, dc),
+    );
+    lent::report(
+        b"  cluster bytes that differ ",
+        lent::differing(&read_work, work),
+    );
+}
+
+// How many places of the four slices are not as a refusal leaves them; `work` is what work then holds.
+fn untouched(user: &[u8], side: &[u8], dc: &[u32], work: &[u8], expected: &[u8]) {
+    let old_user = lent::old_user();
+    let old_side = lent::old_side();
+    let old_words = lent::old_words();
+    let user_n = lent::differing(user, &old_user);
+    let side_n = lent::differing(side, &old_side);
+    let dc_n = lent::words_differing(dc, &old_words);
+    let work_n = lent::differing(work, expected);
+    if user_n != 0 || side_n != 0 || dc_n != 0 || work_n != 0 {
+        io::write_all(1, b"  not as it should be left\n");
+    }
+}
+
+// Reads an image that is refused by 9 to 16: prints number and place, and what is not left as it should be.
+pub fn refuse(image: &[u8]) {
+    let mut user = lent::old_user();
+    let mut side = lent::old_side();
+    let mut dc = lent::old_words();
+    let mut work = lent::old_work();
+    let read = reader::read_image(image, &mut user, &mut side, &mut dc, &mut work);
+    let answer = read.answer;
+    lent::print_answer(answer);
+    let psn = read.psn;
+    if psn.0 != 0 {
+        io::write_all(1, b"  a PSN\n");
+    }
+    let zeros = lent::zero_work();
+    untouched(&user, &side, &dc, &work, &zeros);
+}
+
+// Reads with slices of other lengths: every slice stays as it was.
+fn refuse_sizes(image: &[u8], user: &mut [u8], side: &mut [u8], dc: &mut [u32], work: &mut [u8]) {
+    let read = reader::read_image(image, user, side, dc, work);
+    let answer = read.answer;
+    lent::print_answer(answer);
+    let expected = lent::old_work();
+    untouched(user, side, dc, work, &expected);
+}
+
+// Tests 1 to 5; where two tests fail, the lower number.
+pub fn refuse_slices(image: &[u8]) {
+    let mut user = lent::old_user();
+    let mut side = lent::old_side();
+    let mut dc = lent::old_words();
+    let mut work = lent::old_work();
+    refuse_sizes(image, &mut [60u8; 2], &mut [61u8; 2], &mut dc, &mut work);
+    refuse_sizes(image, &mut user, &mut [61u8; 2], &mut [62u32; 2], &mut work);
+    refuse_sizes(image, &mut user, &mut side, &mut [62u32; 2], &mut work);
+    refuse_sizes(b"short", &mut user, &mut side, &mut dc, &mut [90u8; 2]);
+    refuse_sizes(image, &mut user, &mut side, &mut dc, &mut [90u8; 2]);
+}
