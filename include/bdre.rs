@@ -107,14 +107,7 @@ mod c {
 // `&mut`. That is all that the functions ask.
 
 /// Writes the image of a cluster. 0: `image` holds the image, `work` the ECC cluster. 1 to 8: both are as they were.
-pub fn write_image(
-    user: &[u8],
-    psn: u32,
-    side: &[u8],
-    dc: &[u32],
-    image: &mut [u8],
-    work: &mut [u8],
-) -> Answer {
+pub fn write_image(user: &[u8], psn: u32, side: &[u8], dc: &[u32], image: &mut [u8], work: &mut [u8]) -> Answer {
     unsafe {
         c::bdre_write_image(
             user.as_ptr(),
@@ -134,13 +127,7 @@ pub fn write_image(
 
 /// Reads an image strictly. 0: `user`, `side` and `dc` hold what the image was made of, `work` its ECC cluster. 1 to 5: all are as they
 /// were. 9 to 16: `work` is all zeros, the others are as they were.
-pub fn read_image(
-    image: &[u8],
-    user: &mut [u8],
-    side: &mut [u8],
-    dc: &mut [u32],
-    work: &mut [u8],
-) -> ReadAnswer {
+pub fn read_image(image: &[u8], user: &mut [u8], side: &mut [u8], dc: &mut [u32], work: &mut [u8]) -> ReadAnswer {
     unsafe {
         c::bdre_read_image(
             image.as_ptr(),

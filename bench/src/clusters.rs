@@ -5,8 +5,7 @@ use crate::random::Random;
 pub const LARGEST: u32 = 0x0FFF_FFFF;
 
 /// First and last PSN of each data zone (17.2).
-pub const ZONES: [(u32, u32); 3] =
-    [(0x0010_0000, 0x0108_9BFF), (0x02F7_6400, 0x03EF_FFFF), (0x0410_0000, 0x0508_9BFF)];
+pub const ZONES: [(u32, u32); 3] = [(0x0010_0000, 0x0108_9BFF), (0x02F7_6400, 0x03EF_FFFF), (0x0410_0000, 0x0508_9BFF)];
 
 pub struct Cluster {
     pub psn: u32,
@@ -61,22 +60,12 @@ impl Cluster {
     pub fn random(r: &Random, i: usize) -> Cluster {
         let psn = psn(r, i);
         let kinds = [r.below(10), r.below(10), r.below(6)];
-        Cluster {
-            psn,
-            user: bytes(r, USER, kinds[0]),
-            side: bytes(r, SIDE, kinds[1]),
-            dc: dc_words(r, kinds[2]),
-        }
+        Cluster { psn, user: bytes(r, USER, kinds[0]), side: bytes(r, SIDE, kinds[1]), dc: dc_words(r, kinds[2]) }
     }
 
     /// Random in every part.
     pub fn uniform(r: &Random, zone: usize) -> Cluster {
-        Cluster {
-            psn: psn_of(zone, r.word() % 509_152),
-            user: r.bytes(USER),
-            side: r.bytes(SIDE),
-            dc: dc_words(r, 3),
-        }
+        Cluster { psn: psn_of(zone, r.word() % 509_152), user: r.bytes(USER), side: r.bytes(SIDE), dc: dc_words(r, 3) }
     }
 }
 
@@ -105,11 +94,6 @@ pub struct Lent {
 
 impl Lent {
     pub fn random(r: &Random) -> Lent {
-        Lent {
-            user: r.bytes(USER),
-            side: r.bytes(SIDE),
-            dc: (0..DC).map(|_| r.word()).collect(),
-            work: r.bytes(WORK),
-        }
+        Lent { user: r.bytes(USER), side: r.bytes(SIDE), dc: (0..DC).map(|_| r.word()).collect(), work: r.bytes(WORK) }
     }
 }

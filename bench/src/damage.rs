@@ -208,7 +208,8 @@ fn auns(r: &Random, w: &mut Written) {
         3 => auns.rotate_left(1 + a % 15),
         4 => auns.iter_mut().for_each(|x| *x ^= 1),
         5 => {
-            let wrong = r.pick(&[0, 0x000F_FFE0, 0x0108_9C00, 0x02F7_63E0, 0x03F0_0000, 0x040F_FFE0, 0x0508_9C00, 0x0600_0000]);
+            let wrong =
+                r.pick(&[0, 0x000F_FFE0, 0x0108_9C00, 0x02F7_63E0, 0x03F0_0000, 0x040F_FFE0, 0x0508_9C00, 0x0600_0000]);
             (0..16).for_each(|u| auns[u] = plain::aun(wrong, u));
         }
         6 => (0..16).for_each(|u| auns[u] = plain::aun(w.cluster.psn, u).wrapping_add(2 + 2 * a as u32)),

@@ -60,7 +60,8 @@ fn mark_both(given: &Cluster, image: &[u8], before: &Lent, fast: &mut Fast, what
     let o = &mut ours;
     let a = bdre::mark_image(psn, user, side, image, &mut o.user, &mut o.side, &mut o.dc, &mut o.work);
     let t = &mut theirs;
-    let b = plain::mark(psn, user, side, &mut t.user, &mut t.side, |u, s| fast.read(image, u, s, &mut t.dc, &mut t.work));
+    let b =
+        plain::mark(psn, user, side, &mut t.user, &mut t.side, |u, s| fast.read(image, u, s, &mut t.dc, &mut t.work));
     agree((a.verdict, a.number, a.psn, a.place) == b, || format!("{what}: marked {a:?}, by the reference {b:?}"));
     agree(ours == theirs, || format!("{what}: slices of the marker, at {a:?}"));
     a.verdict
@@ -102,7 +103,8 @@ fn lengths(r: &Random, fast: &mut Fast) {
             calls[0][number as usize] += 1;
 
             let image = r.bytes(n[3]);
-            let lent = Lent { user: r.bytes(n[0]), side: r.bytes(n[1]), dc: cluster.dc.clone(), work: before.work.clone() };
+            let lent =
+                Lent { user: r.bytes(n[0]), side: r.bytes(n[1]), dc: cluster.dc.clone(), work: before.work.clone() };
             mark_both(&cluster, &image, &lent, fast, &what);
             let given = Cluster { psn, user: vec![0; USER], side: vec![0; SIDE], dc: vec![] };
             mark_both(&given, &image, &lent, fast, &what);
@@ -128,7 +130,9 @@ fn refused_inputs(r: &Random, count: usize) {
     for (first, last) in ZONES {
         psns.extend([first - 32, first - 1, first + 1, first + 16, last + 1, last, last - 1, last + 33, last + 32]);
     }
-    psns.extend((0..count).map(|_| r.word() & if r.below(2) == 0 { !31 } else { !0 }).filter(|&p| plain::psn_answer(p) != 0));
+    psns.extend(
+        (0..count).map(|_| r.word() & if r.below(2) == 0 { !31 } else { !0 }).filter(|&p| plain::psn_answer(p) != 0),
+    );
     for psn in psns {
         input.psn = psn;
         let (number, _) = write_both(&input, &before, &format!("PSN {psn:08X}"));
@@ -169,7 +173,9 @@ fn conversions(r: &Random, count: usize) {
         agree(pair(bdre::paa_to_psn(x)) == plain::paa_to_psn(x), || format!("PAA {x:08X} to PSN"));
         agree(pair(bdre::aun_to_psn(x)) == plain::aun_to_psn(x), || format!("AUN {x:08X} to PSN"));
         for unit in [r.below(16) as u32, 15, 16, r.word()] {
-            agree(pair(bdre::psn_to_aun(x, unit)) == plain::psn_to_aun(x, unit), || format!("PSN {x:08X}, unit {unit} to AUN"));
+            agree(pair(bdre::psn_to_aun(x, unit)) == plain::psn_to_aun(x, unit), || {
+                format!("PSN {x:08X}, unit {unit} to AUN")
+            });
         }
     }
     println!("conversions: {} numbers in each of four", numbers.len());
@@ -200,7 +206,8 @@ fn marks(r: &Random, fast: &mut Fast, count: usize) {
     let mut verdicts = [0; 5];
     for i in 0..count {
         let mut w = Written::random(r, fast, i);
-        let mut given = Cluster { psn: w.cluster.psn, user: w.cluster.user.clone(), side: w.cluster.side.clone(), dc: vec![] };
+        let mut given =
+            Cluster { psn: w.cluster.psn, user: w.cluster.user.clone(), side: w.cluster.side.clone(), dc: vec![] };
         let mut what = format!("mark {i}");
         if i % 5 == 0 {
             what += &format!(", {}", damage(r, fast, &mut w));

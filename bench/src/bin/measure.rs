@@ -25,7 +25,15 @@ fn row(name: &str, times: &mut [Vec<f64>; 3]) {
     let m: Vec<f64> = times.iter_mut().map(|t| median(t)).collect();
     let best: Vec<f64> = times.iter().map(|t| t[0]).collect();
     println!("{name:<6}{:>10.3}{:>10.3}{:>10.3}{:>14.2}{:>14.2}", m[0], m[1], m[2], m[0] / m[1], m[0] / m[2]);
-    println!("{:<6}{:>10.3}{:>10.3}{:>10.3}{:>14.2}{:>14.2}", " best", best[0], best[1], best[2], best[0] / best[1], best[0] / best[2]);
+    println!(
+        "{:<6}{:>10.3}{:>10.3}{:>10.3}{:>14.2}{:>14.2}",
+        " best",
+        best[0],
+        best[1],
+        best[2],
+        best[0] / best[1],
+        best[0] / best[2]
+    );
 }
 
 fn main() {

@@ -1,12 +1,8 @@
 //! 17PP (13.17.2), by the word definition. A bit is a byte, 0 or 1.
 
 pub const A8: [(&str, &str); 2] = [("00000000", "010100100100"), ("00001000", "000100100100")];
-pub const A6: [(&str, &str); 4] = [
-    ("000000", "010100000"),
-    ("000001", "010100100"),
-    ("000010", "000100000"),
-    ("000011", "000100100"),
-];
+pub const A6: [(&str, &str); 4] =
+    [("000000", "010100000"), ("000001", "010100100"), ("000010", "000100000"), ("000011", "000100100")];
 pub const A4: [(&str, &str); 3] = [("0001", "000100"), ("0010", "010000"), ("0011", "010100")];
 
 fn starts(b: &[u8], pat: &str) -> bool {
@@ -160,7 +156,11 @@ pub fn demodulate_all(mods: &[u8], before: u8, term: bool) -> (u32, Option<Vec<u
                     None => continue,
                 };
                 let k = if *t {
-                    if term && g + mg == n { 1 } else { 0 }
+                    if term && g + mg == n {
+                        1
+                    } else {
+                        0
+                    }
                 } else {
                     cnt[g + mg][ci(nc)]
                 };

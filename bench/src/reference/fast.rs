@@ -31,7 +31,7 @@ pub struct Fast {
     enc: Vec<EncE>,     // state*256 + byte
     enc_fin: Vec<FinE>, // state*16 + nibble
     enc_start: [u8; 2],
-    dec: Vec<DecE>, // state*64 + 6 bits
+    dec: Vec<DecE>,   // state*64 + 6 bits
     dec12: Vec<DecE>, // state*4096 + 12 bits
     dec_fin: Vec<[Option<(u16, u8)>; 2]>,
     dec_start: [u8; 2],
@@ -302,11 +302,7 @@ impl Fast {
             for v in 0..4096usize {
                 let a = dec[s * 64 + (v >> 6)];
                 let b = dec[a.next as usize * 64 + (v & 63)];
-                let mut e = DecE {
-                    out: ((a.out as u32) << b.n | b.out as u32) as u16,
-                    n: a.n + b.n,
-                    next: b.next,
-                };
+                let mut e = DecE { out: ((a.out as u32) << b.n | b.out as u32) as u16, n: a.n + b.n, next: b.next };
                 if b.next == DEAD {
                     e = DecE { out: 0, n: 0, next: DEAD };
                 }
@@ -397,16 +393,10 @@ impl Fast {
     fn fill_parity(&self, buf: &mut [u8], data: usize) {
         let n = data + 32;
         for ch in buf.chunks_exact_mut(4 * n) {
-            let r = self.parity4([
-                &ch[..data],
-                &ch[n..n + data],
-                &ch[2 * n..2 * n + data],
-                &ch[3 * n..3 * n + data],
-            ]);
+            let r = self.parity4([&ch[..data], &ch[n..n + data], &ch[2 * n..2 * n + data], &ch[3 * n..3 * n + data]]);
             for k in 0..4 {
                 for j in 0..4 {
-                    ch[k * n + data + 8 * j..k * n + data + 8 * j + 8]
-                        .copy_from_slice(&r[k][j].to_be_bytes());
+                    ch[k * n + data + 8 * j..k * n + data + 8 * j + 8].copy_from_slice(&r[k][j].to_be_bytes());
                 }
             }
         }
@@ -414,12 +404,7 @@ impl Fast {
     fn check_parity(&self, buf: &[u8], data: usize) -> Option<usize> {
         let n = data + 32;
         for (c, ch) in buf.chunks_exact(4 * n).enumerate() {
-            let r = self.parity4([
-                &ch[..data],
-                &ch[n..n + data],
-                &ch[2 * n..2 * n + data],
-                &ch[3 * n..3 * n + data],
-            ]);
+            let r = self.parity4([&ch[..data], &ch[n..n + data], &ch[2 * n..2 * n + data], &ch[3 * n..3 * n + data]]);
             for k in 0..4 {
                 for j in 0..4 {
                     let p = k * n + data + 8 * j;

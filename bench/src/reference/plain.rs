@@ -11,11 +11,9 @@ pub const CLUSTER_BITS: usize = 496 * 1932;
 pub const DCMAX: u32 = 0x0FFF_FFFF;
 
 pub const SYNC_BODY: &str = "#01 010 000 000 010 000 000 010";
-pub const SYNC_ID: [&str; 7] =
-    ["000 001", "010 010", "101 000", "100 001", "000 100", "001 001", "010 000"];
-pub const SYNC_NUM: [usize; 31] = [
-    0, 1, 2, 3, 3, 1, 4, 1, 5, 5, 4, 3, 4, 6, 6, 3, 5, 3, 2, 2, 5, 6, 5, 1, 1, 6, 2, 6, 4, 4, 2,
-];
+pub const SYNC_ID: [&str; 7] = ["000 001", "010 010", "101 000", "100 001", "000 100", "001 001", "010 000"];
+pub const SYNC_NUM: [usize; 31] =
+    [0, 1, 2, 3, 3, 1, 4, 1, 5, 5, 4, 3, 4, 6, 6, 3, 5, 3, 2, 2, 5, 6, 5, 1, 1, 6, 2, 6, 4, 4, 2];
 
 pub fn sync_bits(num: usize, hash: bool) -> Vec<u8> {
     let s = format!("{}{}", SYNC_BODY, SYNC_ID[num]).replace('#', if hash { "1" } else { "0" });
@@ -238,9 +236,7 @@ pub fn access_block(psn: u32, side: &[u8]) -> Vec<[u8; 30]> {
 pub fn ecc_cluster(user: &[u8], psn: u32, side: &[u8]) -> Vec<u8> {
     let st = scramble_stream(psn);
     let frames: Vec<Vec<u8>> = (0..32)
-        .map(|k| {
-            data_frame(&user[2048 * k..2048 * (k + 1)]).iter().zip(&st).map(|(a, b)| a ^ b).collect()
-        })
+        .map(|k| data_frame(&user[2048 * k..2048 * (k + 1)]).iter().zip(&st).map(|(a, b)| a ^ b).collect())
         .collect();
     let mut w = ldc_only(&frames);
     for (c, col) in access_block(psn, side).iter().enumerate() {
@@ -326,14 +322,7 @@ pub fn length_answer(user: usize, side: usize, dc: usize, image: usize, work: us
     }
 }
 /// the writer's tests, 1 to 8: number and place
-pub fn writer_tests(
-    user: &[u8],
-    psn: u32,
-    side: &[u8],
-    dc: &[u32],
-    image_len: usize,
-    work_len: usize,
-) -> (u32, usize) {
+pub fn writer_tests(user: &[u8], psn: u32, side: &[u8], dc: &[u32], image_len: usize, work_len: usize) -> (u32, usize) {
     let a = length_answer(user.len(), side.len(), dc.len(), image_len, work_len);
     if a != 0 {
         return (a, 0);
@@ -349,14 +338,7 @@ pub fn writer_tests(
 }
 
 /// The writer: number and place.
-pub fn write(
-    user: &[u8],
-    psn: u32,
-    side: &[u8],
-    dc: &[u32],
-    image: &mut [u8],
-    work: &mut [u8],
-) -> (u32, usize) {
+pub fn write(user: &[u8], psn: u32, side: &[u8], dc: &[u32], image: &mut [u8], work: &mut [u8]) -> (u32, usize) {
     let refused = writer_tests(user, psn, side, dc, image.len(), work.len());
     if refused.0 != 0 {
         return refused;
@@ -444,8 +426,7 @@ fn read_ecc(work: &[u8]) -> Result<(u32, Vec<u8>, Vec<u8>), (u32, usize)> {
     let st = scramble_stream(psn);
     let mut user = Vec::with_capacity(USER);
     for k in 0..32 {
-        let f: Vec<u8> =
-            stream[2052 * k..2052 * (k + 1)].iter().zip(&st).map(|(a, b)| a ^ b).collect();
+        let f: Vec<u8> = stream[2052 * k..2052 * (k + 1)].iter().zip(&st).map(|(a, b)| a ^ b).collect();
         if data_frame(&f[..2048]) != f {
             return Err((16, k));
         }
@@ -455,13 +436,7 @@ fn read_ecc(work: &[u8]) -> Result<(u32, Vec<u8>, Vec<u8>), (u32, usize)> {
 }
 
 /// The reader: number, place and PSN.
-pub fn read(
-    image: &[u8],
-    user: &mut [u8],
-    side: &mut [u8],
-    dc: &mut [u32],
-    work: &mut [u8],
-) -> (u32, usize, u32) {
+pub fn read(image: &[u8], user: &mut [u8], side: &mut [u8], dc: &mut [u32], work: &mut [u8]) -> (u32, usize, u32) {
     let a = length_answer(user.len(), side.len(), dc.len(), image.len(), work.len());
     if a != 0 {
         return (a, 0, 0);
