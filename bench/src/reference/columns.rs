@@ -1,0 +1,104 @@
+//! GF(256) modulo x^8+x^4+x^3+x^2+1, alpha = 02h, and Reed-Solomon columns (13.7, 13.9.2.2, 13.12).
+use std::sync::OnceLock;
+
+const POLY: u16 = 0x11D;
+
+/// Product by the definition: carry-less product, reduced.
+fn product(a: u8, b: u8) -> u8 {
+    let mut p: u16 = 0;
+    for i in 0..8 {
+        if (b >> i) & 1 == 1 {
+            p ^= (a as u16) << i;
+        }
+    }
+    for i in (8..15).rev() {
+        if (p >> i) & 1 == 1 {
+            p ^= POLY << (i - 8);
+        }
+    }
+    p as u8
+}
+
+/// (power table, logarithm table): power[255] = 1, log[1] = 0, log[0] = 0 (never used).
+fn tables() -> ([u8; 256], [u8; 256]) {
+    let mut e = [0u8; 256];
+    let mut l = [0u8; 256];
+    let mut x = 1u8;
+    for i in 0..256 {
+        e[i] = x;
+        if i < 255 {
+            l[x as usize] = i as u8;
+        }
+        x = product(x, 2);
+    }
+    (e, l)
+}
+
+struct T {
+    e: [u8; 256],
+    l: [u8; 256],
+}
+fn t() -> &'static T {
+    static S: OnceLock<T> = OnceLock::new();
+    S.get_or_init(|| {
+        let (e, l) = tables();
+        T { e, l }
+    })
+}
+/// Product through the tables.
+#[inline]
+pub fn mul(a: u8, b: u8) -> u8 {
+    if a == 0 || b == 0 {
+        return 0;
+    }
+    let t = t();
+    t.e[(t.l[a as usize] as usize + t.l[b as usize] as usize) % 255]
+}
+#[inline]
+pub fn ap(k: usize) -> u8 {
+    t().e[k % 255]
+}
+
+/// generator polynomial prod_{i<n} (x - alpha^i); highest degree first, monic, n+1 coefficients
+pub fn generator(n: usize) -> Vec<u8> {
+    let mut g = vec![1u8];
+    for i in 0..n {
+        let a = ap(i);
+        let mut h = vec![0u8; g.len() + 1];
+        for (j, &c) in g.iter().enumerate() {
+            h[j] ^= c; // times x
+            h[j + 1] ^= mul(c, a); // times alpha^i
+        }
+        g = h;
+    }
+    g
+}
+
+/// The n parity bytes that follow `data`: remainder of data(x)*x^n by g(x), highest degree first.
+pub fn parity(data: &[u8], n: usize) -> Vec<u8> {
+    let g = generator(n);
+    let mut buf = data.to_vec();
+    buf.extend(std::iter::repeat(0).take(n));
+    for i in 0..data.len() {
+        let c = buf[i];
+        if c != 0 {
+            for j in 0..=n {
+                buf[i + j] ^= mul(c, g[j]);
+            }
+        }
+    }
+    buf[data.len()..].to_vec()
+}
+
+/// S_i = col(alpha^i), i < n; byte j of a column of length m has degree m-1-j.
+pub fn syndromes(col: &[u8], n: usize) -> Vec<u8> {
+    (0..n)
+        .map(|i| {
+            let a = ap(i);
+            col.iter().fold(0u8, |acc, &c| mul(acc, a) ^ c)
+        })
+        .collect()
+}
+pub fn right(col: &[u8], n: usize) -> bool {
+    syndromes(col, n).iter().all(|&s| s == 0)
+}

@@ -1,0 +1,66 @@
+-- The parts that an exported function returns are those of the outcome below it. Assumes nothing.
+use mathlib.Core.Path.{_≡_, refl, sym, ap, _∙_}
+use mathlib.Core.Logic.{_↔_}
+use mathlib.Core.List.{List}
+use Prim.Native.Nat.{ℕ}
+use Rattle.answer.specs.declared.Answer.{Answer}
+use Rattle.answer.specs.Answer as Answer
+use Rattle.address.specs.Judged as Judged
+use Rattle.address.specs.declared.PsnAnswer.{PsnAnswer}
+use Rattle.address.specs.declared.AunAnswer.{AunAnswer}
+use Rattle.address.specs.declared.PaaAnswer.{PaaAnswer}
+use Rattle.writer.specs.Outcome as writer
+use Rattle.reader.specs.Outcome as reader
+use Rattle.marker.specs.declared.Verdict.{Verdict}
+use Rattle.marker.specs.declared.Verdict.the-variants.{Pass, Refused, OtherPsn, OtherUser, OtherSide}
+use Rattle.marker.specs.Marked as marker
+use Rattle.bdre.specs.Seen.{Writing, Reading, Marking, Number, kindOf, refusalIn, psnIn, placeIn, writing, reading, marking, psnSeen, aunSeen, paaSeen}
+
+pub same-writing : (number place : ℕ) (a : Answer) (image work : List ℕ) (o : writer.Outcome) → number ≡ Answer.numberOf a → place ≡ Answer.placeOf a
+    → record { answer = a; image = image; work = work } ≡ o → record { number = number; place = place; image = image; work = work } ≡ writing o
+same-writing number place a image work o hn hp ho =
+    ap (λ (n : ℕ). record { number = n; place = place; image = image; work = work }) hn
+    ∙ ap (λ (p : ℕ). record { number = Answer.numberOf a; place = p; image = image; work = work }) hp
+    ∙ ap writing ho
+
+pub same-reading : (number place psn : ℕ) (a : Answer) (lent : reader.Lent) (o : reader.Outcome) → number ≡ Answer.numberOf a → place ≡ Answer.placeOf a
+    → record { answer = a; psn = psn; lent = lent } ≡ o → record { number = number; place = place; psn = psn; lent = lent } ≡ reading o
+same-reading number place psn a lent o hn hp ho =
+    ap (λ (n : ℕ). record { number = n; place = place; psn = psn; lent = lent }) hn
+    ∙ ap (λ (p : ℕ). record { number = Answer.numberOf a; place = p; psn = psn; lent = lent }) hp
+    ∙ ap reading ho
+
+pass-is : (v : Verdict) → kindOf v ≡ 0 → v ≡ Pass
+pass-is Pass e = refl
+pass-is (Refused a) e = cc
+pass-is (OtherPsn psn) e = cc
+pass-is (OtherUser n) e = cc
+pass-is (OtherSide n) e = cc
+
+-- what holds exactly of a pass holds exactly where the verdict is 0
+same-pass : (kind : ℕ) (v : Verdict) (P : Type 0) → kind ≡ kindOf v → (v ≡ Pass) ↔ P → (kind ≡ 0) ↔ P
+same-pass kind v P hk h = (λ e. h .0 (pass-is v (sym hk ∙ e)), λ p. hk ∙ ap kindOf (h .1 p))
+
+pub same-marking : (kind number psn place : ℕ) (v : Verdict) (lent : reader.Lent) (m : marker.Marked) (F P : Type 0)
+    → kind ≡ kindOf v → number ≡ refusalIn v → psn ≡ psnIn v → place ≡ placeIn v
+    → (record { verdict = v; lent = lent } ≡ m) × (F → (v ≡ Pass) ↔ P)
+    → (record { verdict = kind; number = number; psn = psn; place = place; lent = lent } ≡ marking m) × (F → (kind ≡ 0) ↔ P)
+same-marking kind number psn place v lent m F P hk hn hs hp h = (
+  ap (λ (k : ℕ). record { verdict = k; number = number; psn = psn; place = place; lent = lent }) hk
+      ∙ ap (λ (n : ℕ). record { verdict = kindOf v; number = n; psn = psn; place = place; lent = lent }) hn
+      ∙ ap (λ (s : ℕ). record { verdict = kindOf v; number = refusalIn v; psn = s; place = place; lent = lent }) hs
+      ∙ ap (λ (p : ℕ). record { verdict = kindOf v; number = refusalIn v; psn = psnIn v; place = p; lent = lent }) hp
+      ∙ ap marking (h .0),
+  λ f. same-pass kind v P hk (h .1 f),
+)
+
+-- ---- conversions: a is what the conversion gave, b what it is defined to give
+
+pub same-psn : (number : ℕ) (a b : PsnAnswer) → number ≡ Judged.numberOf (a .judged) → a ≡ b → record { number = number; value = a .psn .0 } ≡ psnSeen b
+same-psn number a b hn h = ap (λ (n : ℕ). record { number = n; value = a .psn .0 }) hn ∙ ap psnSeen h
+
+pub same-aun : (number : ℕ) (a b : AunAnswer) → number ≡ Judged.numberOf (a .judged) → a ≡ b → record { number = number; value = a .aun .0 } ≡ aunSeen b
+same-aun number a b hn h = ap (λ (n : ℕ). record { number = n; value = a .aun .0 }) hn ∙ ap aunSeen h
+
+pub same-paa : (number : ℕ) (a b : PaaAnswer) → number ≡ Judged.numberOf (a .judged) → a ≡ b → record { number = number; value = a .paa .0 } ≡ paaSeen b
+same-paa number a b hn h = ap (λ (n : ℕ). record { number = n; value = a .paa .0 }) hn ∙ ap paaSeen h

@@ -1,0 +1,17 @@
+-- `bdre_aun_to_psn` meets its contract: the parts of the answer below it (Seen).
+use Rattle.bdre.proofs.Seen.{same-psn}
+use borrow.Author.Needs.{needs}
+use Rattle.bdre.proofs.bdre_aun_to_psn.Statement.{statement}
+use Rattle.bdre.proofs.bdre_aun_to_psn.Tie as tie
+
+psn-requires : tie.Need-psn-requires
+psn-requires c κs = search needs
+
+number-of-requires : tie.Need-number-of-requires
+number-of-requires c κs = search needs
+
+returns : tie.Need-returns
+returns c = search (same-psn)
+
+pub bdre-aun-to-psn-spec : {M : Type 1} → statement M
+bdre-aun-to-psn-spec = tie.close (tie.spec psn-requires number-of-requires returns)

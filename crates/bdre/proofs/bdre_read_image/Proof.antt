@@ -1,0 +1,42 @@
+-- `bdre_read_image` meets its contract: the parts of the answer below it (Seen).
+use Rattle.bdre.proofs.Seen.{same-reading}
+use borrow.Author.Needs.{needs}
+use Rattle.bdre.proofs.bdre_read_image.Statement.{statement}
+use Rattle.bdre.proofs.bdre_read_image.Tie as tie
+
+read-image-requires : tie.Need-read-image-requires
+read-image-requires c κs = search needs
+
+number-requires : tie.Need-number-requires
+number-requires c κs = search needs
+
+place-requires : tie.Need-place-requires
+place-requires c κs = search needs
+
+same-length : tie.Need-same-length
+same-length c = search needs
+
+same-length-2 : tie.Need-same-length-2
+same-length-2 c = search needs
+
+same-length-3 : tie.Need-same-length-3
+same-length-3 c = search needs
+
+same-length-4 : tie.Need-same-length-4
+same-length-4 c = search needs
+
+returns : tie.Need-returns
+returns c = search (same-reading)
+
+pub bdre-read-image-spec : {M : Type 1} → statement M
+bdre-read-image-spec =
+    tie.close
+    (tie.spec
+    read-image-requires
+    number-requires
+    place-requires
+    same-length
+    same-length-2
+    same-length-3
+    same-length-4
+    returns)

@@ -1,0 +1,86 @@
+-- What a caller in another language sees of an outcome: document 01's number and place instead of an enum, bare numbers instead of PSN, AUN and PAA.
+use mathlib.Core.List.{List}
+use Prim.Native.Nat.{ℕ}
+use Rattle.answer.specs.Answer as Answer
+use Rattle.address.specs.Judged as Judged
+use Rattle.address.specs.declared.PsnAnswer.{PsnAnswer}
+use Rattle.address.specs.declared.AunAnswer.{AunAnswer}
+use Rattle.address.specs.declared.PaaAnswer.{PaaAnswer}
+use Rattle.writer.specs.Outcome as writer
+use Rattle.reader.specs.Outcome as reader
+use Rattle.marker.specs.declared.Verdict.{Verdict}
+use Rattle.marker.specs.declared.Verdict.the-variants.{Pass, Refused, OtherPsn, OtherUser, OtherSide}
+use Rattle.marker.specs.Marked as marker
+
+-- of the writer: the answer, and the two slices that it is lent to write
+pub record Writing : Type 0 where
+  pub number : ℕ
+  pub place : ℕ
+  pub image : List ℕ
+  pub work : List ℕ
+
+abbrev pub writing : writer.Outcome → Writing
+writing o = record { number = Answer.numberOf (o .answer); place = Answer.placeOf (o .answer); image = o .image; work = o .work }
+
+-- of the reader: the answer, the PSN, and the four slices that it is lent to write
+pub record Reading : Type 0 where
+  pub number : ℕ
+  pub place : ℕ
+  pub psn : ℕ
+  pub lent : reader.Lent
+
+abbrev pub reading : reader.Outcome → Reading
+reading o = record { number = Answer.numberOf (o .answer); place = Answer.placeOf (o .answer); psn = o .psn; lent = o .lent }
+
+-- of the marker: the verdict as a number, its parts, each 0 where the verdict has none, and the four slices that it is lent
+abbrev pub kindOf : Verdict → ℕ
+kindOf Pass = 0
+kindOf (Refused a) = 1
+kindOf (OtherPsn psn) = 2
+kindOf (OtherUser n) = 3
+kindOf (OtherSide n) = 4
+
+abbrev pub refusalIn : Verdict → ℕ
+refusalIn Pass = 0
+refusalIn (Refused a) = Answer.numberOf a
+refusalIn (OtherPsn psn) = 0
+refusalIn (OtherUser n) = 0
+refusalIn (OtherSide n) = 0
+
+abbrev pub psnIn : Verdict → ℕ
+psnIn Pass = 0
+psnIn (Refused a) = 0
+psnIn (OtherPsn psn) = psn .0
+psnIn (OtherUser n) = 0
+psnIn (OtherSide n) = 0
+
+abbrev pub placeIn : Verdict → ℕ
+placeIn Pass = 0
+placeIn (Refused a) = Answer.placeOf a
+placeIn (OtherPsn psn) = 0
+placeIn (OtherUser n) = n
+placeIn (OtherSide n) = n
+
+pub record Marking : Type 0 where
+  pub verdict : ℕ
+  pub number : ℕ
+  pub psn : ℕ
+  pub place : ℕ
+  pub lent : reader.Lent
+
+abbrev pub marking : marker.Marked → Marking
+marking m = record { verdict = kindOf (m .verdict); number = refusalIn (m .verdict); psn = psnIn (m .verdict); place = placeIn (m .verdict); lent = m .lent }
+
+-- of a conversion
+pub record Number : Type 0 where
+  pub number : ℕ
+  pub value : ℕ
+
+abbrev pub psnSeen : PsnAnswer → Number
+psnSeen a = record { number = Judged.numberOf (a .judged); value = a .psn .0 }
+
+abbrev pub aunSeen : AunAnswer → Number
+aunSeen a = record { number = Judged.numberOf (a .judged); value = a .aun .0 }
+
+abbrev pub paaSeen : PaaAnswer → Number
+paaSeen a = record { number = Judged.numberOf (a .judged); value = a .paa .0 }

@@ -1,0 +1,224 @@
+// The operations for programs in other languages, as a static library; include/bdre.h declares them for C. Numbers and slices only.
+use address::Aun;
+use address::Judged;
+use address::Paa;
+use address::Psn;
+use marker::Verdict;
+ghost use mathlib.Core.Path.{_≡_};
+ghost use mathlib.Core.Logic.{_↔_};
+ghost use Rattle.image.specs.Image.{Input};
+ghost use Rattle.writer.specs.Outcome as writer;
+ghost use Rattle.reader.specs.Outcome as reader;
+ghost use Rattle.marker.specs.Marked.{Fitting, IsImageOf, marked};
+ghost use Rattle.address.specs.Conversions.{psnToPaa, paaToPsn, psnToAun, aunToPsn};
+ghost use Rattle.address.specs.Judged.{numberOf};
+ghost use Rattle.bdre.specs.Seen.{Writing, Reading, Marking, Number, kindOf, refusalIn, psnIn, placeIn, writing, reading, marking, psnSeen, aunSeen, paaSeen};
+
+// Document 01's number and place.
+#[repr(C)]
+pub struct Answered {
+    pub number: u32,
+    pub place: usize,
+}
+
+// What the reader answers; the PSN is 0 on refusal.
+#[repr(C)]
+pub struct ReadAnswered {
+    pub number: u32,
+    pub psn: u32,
+    pub place: usize,
+}
+
+// What the marker answers: 0 pass; 1 refused, with the reader's number and place; 2 another PSN, with the image's own; 3 other user bytes and
+// 4 other side data, with the first place that differs.
+#[repr(C)]
+pub struct Marking {
+    pub verdict: u32,
+    pub number: u32,
+    pub psn: u32,
+    pub place: usize,
+}
+
+// What a conversion answers: 0, 6 or 7, and the number asked for, 0 on refusal.
+#[repr(C)]
+pub struct Converted {
+    pub number: u32,
+    pub value: u32,
+}
+
+fn number_of(judged: Judged) -> u32
+    ensures { λ r. ⌜ r ≡ numberOf judged ⌝ }
+{
+    match judged {
+        Judged::Accepted => 0,
+        Judged::NoMultiple => 6,
+        Judged::NoZone => 7,
+    }
+}
+
+fn kind(verdict: Verdict) -> u32
+    ensures { λ r. ⌜ r ≡ kindOf verdict ⌝ }
+{
+    match verdict {
+        Verdict::Pass => 0,
+        Verdict::Refused(_) => 1,
+        Verdict::OtherPsn(_) => 2,
+        Verdict::OtherUser(_) => 3,
+        Verdict::OtherSide(_) => 4,
+    }
+}
+
+fn refusal(verdict: Verdict) -> u32
+    ensures { λ r. ⌜ r ≡ refusalIn verdict ⌝ }
+{
+    match verdict {
+        Verdict::Pass => 0,
+        Verdict::Refused(answer) => answer.number(),
+        Verdict::OtherPsn(_) => 0,
+        Verdict::OtherUser(_) => 0,
+        Verdict::OtherSide(_) => 0,
+    }
+}
+
+fn own_psn(verdict: Verdict) -> u32
+    ensures { λ r. ⌜ r ≡ psnIn verdict ⌝ }
+{
+    match verdict {
+        Verdict::Pass => 0,
+        Verdict::Refused(_) => 0,
+        Verdict::OtherPsn(psn) => psn.0,
+        Verdict::OtherUser(_) => 0,
+        Verdict::OtherSide(_) => 0,
+    }
+}
+
+fn place(verdict: Verdict) -> usize
+    ensures { λ r. ⌜ r ≡ placeIn verdict ⌝ }
+{
+    match verdict {
+        Verdict::Pass => 0,
+        Verdict::Refused(answer) => answer.place(),
+        Verdict::OtherPsn(_) => 0,
+        Verdict::OtherUser(n) => n,
+        Verdict::OtherSide(n) => n,
+    }
+}
+
+// Writes the image of a cluster.
+#[no_mangle]
+pub extern "C" fn bdre_write_image(
+    user: &[u8],
+    psn: u32,
+    side: &[u8],
+    dc: &[u32],
+    image: &mut [u8],
+    work: &mut [u8],
+) -> Answered
+    ensures { λ r. ⌜ record { number = r .number; place = r .place; image = now (image .exit); work = now (work .exit) }
+        ≡ writing (writer.outcome (record { user = now (user .entry); psn = psn; side = now (side .entry); dc = now (dc .entry) }) (now (image .entry)) (now (work .entry))) ⌝ }
+{
+    let written = writer::write_image(user, Psn(psn), side, dc, image, work);
+    Answered {
+        number: written.number(),
+        place: written.place(),
+    }
+}
+
+// Reads an image strictly.
+#[no_mangle]
+pub extern "C" fn bdre_read_image(
+    image: &[u8],
+    user: &mut [u8],
+    side: &mut [u8],
+    dc: &mut [u32],
+    work: &mut [u8],
+) -> ReadAnswered
+    ensures { λ r. ⌜ record { number = r .number; place = r .place; psn = r .psn; lent = record { user = now (user .exit); side = now (side .exit); dc = now (dc .exit); work = now (work .exit) } }
+        ≡ reading (reader.outcome (now (image .entry)) (record { user = now (user .entry); side = now (side .entry); dc = now (dc .entry); work = now (work .entry) })) ⌝ }
+{
+    let read = reader::read_image(image, user, side, dc, work);
+    let answer = read.answer;
+    ReadAnswered {
+        number: answer.number(),
+        psn: read.psn.0,
+        place: answer.place(),
+    }
+}
+
+// Marks an image: whether it is that of these user bytes, this side data and this PSN under some dc words. The other slices are lent to read it.
+#[no_mangle]
+pub extern "C" fn bdre_mark_image(
+    psn: u32,
+    user: &[u8],
+    side: &[u8],
+    image: &[u8],
+    bytes: &mut [u8],
+    control: &mut [u8],
+    dc: &mut [u32],
+    work: &mut [u8],
+) -> Marking
+    ensures { λ r. ⌜ record { verdict = r .verdict; number = r .number; psn = r .psn; place = r .place; lent = record { user = now (bytes .exit); side = now (control .exit); dc = now (dc .exit); work = now (work .exit) } }
+        ≡ marking (marked psn (now (user .entry)) (now (side .entry)) (now (image .entry)) (record { user = now (bytes .entry); side = now (control .entry); dc = now (dc .entry); work = now (work .entry) })) ⌝ }
+    ensures { λ r. ⌜ (Fitting (record { user = now (bytes .entry); side = now (control .entry); dc = now (dc .entry); work = now (work .entry) })
+        → (r .verdict ≡ 0) ↔ IsImageOf psn (now (user .entry)) (now (side .entry)) (now (image .entry))) ⌝ }
+{
+    let verdict = marker::mark(Psn(psn), user, side, image, bytes, control, dc, work);
+    Marking {
+        verdict: kind(verdict),
+        number: refusal(verdict),
+        psn: own_psn(verdict),
+        place: place(verdict),
+    }
+}
+
+// The PAA of the first word of the cluster at a PSN.
+#[no_mangle]
+pub extern "C" fn bdre_psn_to_paa(psn: u32) -> Converted
+    ensures { λ r. ⌜ record { number = r .number; value = r .value } ≡ paaSeen (psnToPaa psn) ⌝ }
+{
+    let answer = Psn(psn).paa();
+    let judged = answer.judged;
+    Converted {
+        number: number_of(judged),
+        value: answer.paa.0,
+    }
+}
+
+// The AUN of an address unit, 0 to 15, of the cluster at a PSN; 0 for a unit above 15.
+#[no_mangle]
+pub extern "C" fn bdre_psn_to_aun(psn: u32, unit: u32) -> Converted
+    ensures { λ r. ⌜ record { number = r .number; value = r .value } ≡ aunSeen (psnToAun psn unit) ⌝ }
+{
+    let answer = Psn(psn).aun(unit);
+    let judged = answer.judged;
+    Converted {
+        number: number_of(judged),
+        value: answer.aun.0,
+    }
+}
+
+// The PSN of the cluster whose first word has a PAA.
+#[no_mangle]
+pub extern "C" fn bdre_paa_to_psn(paa: u32) -> Converted
+    ensures { λ r. ⌜ record { number = r .number; value = r .value } ≡ psnSeen (paaToPsn paa) ⌝ }
+{
+    let answer = Paa(paa).psn();
+    let judged = answer.judged;
+    Converted {
+        number: number_of(judged),
+        value: answer.psn.0,
+    }
+}
+
+// The PSN of the cluster that holds the address unit with an AUN.
+#[no_mangle]
+pub extern "C" fn bdre_aun_to_psn(aun: u32) -> Converted
+    ensures { λ r. ⌜ record { number = r .number; value = r .value } ≡ psnSeen (aunToPsn aun) ⌝ }
+{
+    let answer = Aun(aun).psn();
+    let judged = answer.judged;
+    Converted {
+        number: number_of(judged),
+        value: answer.psn.0,
+    }
+}

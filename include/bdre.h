@@ -1,0 +1,92 @@
+/* BD-RE clusters (ISO/IEC 30193:2021, clause 13) written, strictly read and marked: the functions of libbdre.a.
+ *
+ * A slice is a pointer and the number of its elements. Two things are asked of a caller, here and nowhere else: each pointer is valid
+ * (not null, even for 0 elements) for that many elements, and a slice that a call writes overlaps no other slice of that call. Every
+ * length, number and content gets an answer. Nothing is kept from call to call, so threads may call at the same time.
+ *
+ * `number` is 0 where it is done, else it says what was refused; the place is 0 unless one is named.
+ *
+ *    1  user is not 65,536 bytes long            9  the image's last two bits are not zero
+ *    2  side is not 592 bytes long              10  the sync of frame `place` is wrong (496: the closing one)
+ *    3  dc has not 496 words                    11  no bits give frame `place` and the next sync's first bit
+ *    4  image is not 119,788 bytes long         12  the parity of BIS column `place` is wrong
+ *    5  work is not 76,880 bytes long           13  the parity of the address field of unit `place` is wrong
+ *    6  the PSN is no multiple of 32            14  no PSN in a data zone has these 16 address unit numbers
+ *    7  the PSN lies in no data zone            15  the parity of LDC column `place` is wrong
+ *    8  dc word `place` is above 0FFFFFFFh      16  the error-detection code of sector `place` is wrong
+ */
+#ifndef BDRE_H
+#define BDRE_H
+
+#include <stddef.h>
+#include <stdint.h>
+
+#ifdef __cplusplus
+extern "C" {
+#endif
+
+#define BDRE_USER 65536   /* user data: 32 sectors of 2,048 bytes */
+#define BDRE_SIDE 592     /* side data: 16 flag bytes, then 32 x 18 bytes of user control data */
+#define BDRE_DC 496       /* dc words, one for each frame; bit 27 is the frame's first dc-control bit, bit 0 its last */
+#define BDRE_IMAGE 119788 /* image: 496 frames of 1,932 bits, the sync that follows, two zero bits; msb first */
+#define BDRE_WORK 76880   /* work: the ECC cluster */
+
+struct bdre_answer {
+    uint32_t number;
+    size_t place;
+};
+
+struct bdre_read_answer {
+    uint32_t number;
+    uint32_t psn; /* 0 unless number is 0 */
+    size_t place;
+};
+
+struct bdre_marking {
+    uint32_t verdict; /* 0: pass. 1: refused. 2: another PSN. 3: other user data. 4: other side data */
+    uint32_t number;  /* at 1, the number of the refusal; else 0 */
+    uint32_t psn;     /* at 2, the image's own PSN; else 0 */
+    size_t place;     /* at 1, the place of the refusal; at 3 and 4, the first byte that differs; else 0 */
+};
+
+struct bdre_conversion {
+    uint32_t number;
+    uint32_t value; /* 0 unless number is 0 */
+};
+
+/* Writes the image of a cluster, from its user data, the PSN of its first sector, its side data and its dc words. 0: image holds the
+ * image, work the ECC cluster. 1 to 8: both are as they were. */
+struct bdre_answer bdre_write_image(const uint8_t *user, size_t user_length, uint32_t psn, const uint8_t *side, size_t side_length,
+                                    const uint32_t *dc, size_t dc_length, uint8_t *image, size_t image_length, uint8_t *work,
+                                    size_t work_length);
+
+/* Reads an image strictly. 0: user, side and dc hold what the image was made of, work its ECC cluster, and psn is its PSN. 1 to 5: all
+ * are as they were. 9 to 16: work is all zeros, the others are as they were. */
+struct bdre_read_answer bdre_read_image(const uint8_t *image, size_t image_length, uint8_t *user, size_t user_length, uint8_t *side,
+                                        size_t side_length, uint32_t *dc, size_t dc_length, uint8_t *work, size_t work_length);
+
+/* Marks an image: whether it is the image of this PSN, this user data and this side data, under any dc words at all. It is read into the
+ * four slices lent for that, which are left as bdre_read_image leaves them; where user or side has a wrong length (verdict 1, number 1 or
+ * 2) they are as they were. */
+struct bdre_marking bdre_mark_image(uint32_t psn, const uint8_t *user, size_t user_length, const uint8_t *side, size_t side_length,
+                                    const uint8_t *image, size_t image_length, uint8_t *user_read, size_t user_read_length,
+                                    uint8_t *side_read, size_t side_read_length, uint32_t *dc_read, size_t dc_read_length,
+                                    uint8_t *work, size_t work_length);
+
+/* The groove address (PAA) of the first word of the cluster at a PSN. 0, 6 or 7. */
+struct bdre_conversion bdre_psn_to_paa(uint32_t psn);
+
+/* The PSN of the cluster whose first word has a groove address (PAA). 6: the PAA is no multiple of 4. 7: its PSN lies in no data zone. */
+struct bdre_conversion bdre_paa_to_psn(uint32_t paa);
+
+/* The address unit number (AUN) of unit 0 to 15 of the cluster at a PSN; the value is 0 for a unit above 15. 0, 6 or 7. */
+struct bdre_conversion bdre_psn_to_aun(uint32_t psn, uint32_t unit);
+
+/* The PSN of the cluster that holds the address unit with an AUN. 6: the AUN is odd. 7: the PSN lies in no data zone. */
+struct bdre_conversion bdre_aun_to_psn(uint32_t aun);
+
+#ifdef __cplusplus
+}
+#endif
+
+#endif

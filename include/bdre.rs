@@ -1,0 +1,200 @@
+//! BD-RE clusters (ISO/IEC 30193:2021, clause 13) written, strictly read and marked: safe calls of the functions of libbdre.a. Nothing is asked of
+//! the caller. bdre.h lists the numbers that are answered.
+
+/// User data: 32 sectors of 2,048 bytes.
+pub const USER: usize = 65_536;
+/// Side data: 16 flag bytes, then 32 x 18 bytes of user control data.
+pub const SIDE: usize = 592;
+/// dc words, one for each frame; bit 27 is the frame's first dc-control bit, bit 0 its last.
+pub const DC: usize = 496;
+/// Image: 496 frames of 1,932 bits, the sync that follows, two zero bits; msb first.
+pub const IMAGE: usize = 119_788;
+/// Work: the ECC cluster.
+pub const WORK: usize = 76_880;
+
+#[repr(C)]
+#[derive(Clone, Copy, Debug, PartialEq, Eq)]
+pub struct Answer {
+    pub number: u32,
+    pub place: usize,
+}
+
+#[repr(C)]
+#[derive(Clone, Copy, Debug, PartialEq, Eq)]
+pub struct ReadAnswer {
+    pub number: u32,
+    /// 0 unless `number` is 0.
+    pub psn: u32,
+    pub place: usize,
+}
+
+#[repr(C)]
+#[derive(Clone, Copy, Debug, PartialEq, Eq)]
+pub struct Marking {
+    /// 0: pass. 1: refused. 2: another PSN. 3: other user data. 4: other side data.
+    pub verdict: u32,
+    /// At 1, the number of the refusal; else 0.
+    pub number: u32,
+    /// At 2, the image's own PSN; else 0.
+    pub psn: u32,
+    /// At 1, the place of the refusal; at 3 and 4, the first byte that differs; else 0.
+    pub place: usize,
+}
+
+#[repr(C)]
+#[derive(Clone, Copy, Debug, PartialEq, Eq)]
+pub struct Conversion {
+    pub number: u32,
+    /// 0 unless `number` is 0.
+    pub value: u32,
+}
+
+mod c {
+    use super::{Answer, Conversion, Marking, ReadAnswer};
+
+    #[link(name = "bdre", kind = "static")]
+    extern "C" {
+        pub fn bdre_write_image(
+            user: *const u8,
+            user_length: usize,
+            psn: u32,
+            side: *const u8,
+            side_length: usize,
+            dc: *const u32,
+            dc_length: usize,
+            image: *mut u8,
+            image_length: usize,
+            work: *mut u8,
+            work_length: usize,
+        ) -> Answer;
+        pub fn bdre_read_image(
+            image: *const u8,
+            image_length: usize,
+            user: *mut u8,
+            user_length: usize,
+            side: *mut u8,
+            side_length: usize,
+            dc: *mut u32,
+            dc_length: usize,
+            work: *mut u8,
+            work_length: usize,
+        ) -> ReadAnswer;
+        pub fn bdre_mark_image(
+            psn: u32,
+            user: *const u8,
+            user_length: usize,
+            side: *const u8,
+            side_length: usize,
+            image: *const u8,
+            image_length: usize,
+            user_read: *mut u8,
+            user_read_length: usize,
+            side_read: *mut u8,
+            side_read_length: usize,
+            dc_read: *mut u32,
+            dc_read_length: usize,
+            work: *mut u8,
+            work_length: usize,
+        ) -> Marking;
+        pub fn bdre_psn_to_paa(psn: u32) -> Conversion;
+        pub fn bdre_paa_to_psn(paa: u32) -> Conversion;
+        pub fn bdre_psn_to_aun(psn: u32, unit: u32) -> Conversion;
+        pub fn bdre_aun_to_psn(aun: u32) -> Conversion;
+    }
+}
+
+// In each call below the pointers and lengths are those of Rust's slices, which are valid, not null, and apart from each other where one is
+// `&mut`. That is all that the functions ask.
+
+/// Writes the image of a cluster. 0: `image` holds the image, `work` the ECC cluster. 1 to 8: both are as they were.
+pub fn write_image(user: &[u8], psn: u32, side: &[u8], dc: &[u32], image: &mut [u8], work: &mut [u8]) -> Answer {
+    unsafe {
+        c::bdre_write_image(
+            user.as_ptr(),
+            user.len(),
+            psn,
+            side.as_ptr(),
+            side.len(),
+            dc.as_ptr(),
+            dc.len(),
+            image.as_mut_ptr(),
+            image.len(),
+            work.as_mut_ptr(),
+            work.len(),
+        )
+    }
+}
+
+/// Reads an image strictly. 0: `user`, `side` and `dc` hold what the image was made of, `work` its ECC cluster. 1 to 5: all are as they
+/// were. 9 to 16: `work` is all zeros, the others are as they were.
+pub fn read_image(image: &[u8], user: &mut [u8], side: &mut [u8], dc: &mut [u32], work: &mut [u8]) -> ReadAnswer {
+    unsafe {
+        c::bdre_read_image(
+            image.as_ptr(),
+            image.len(),
+            user.as_mut_ptr(),
+            user.len(),
+            side.as_mut_ptr(),
+            side.len(),
+            dc.as_mut_ptr(),
+            dc.len(),
+            work.as_mut_ptr(),
+            work.len(),
+        )
+    }
+}
+
+/// Marks an image: whether it is the image of this PSN, this user data and this side data, under any dc words at all. It is read into the
+/// four slices lent for that, which are left as `read_image` leaves them; where `user` or `side` has a wrong length (verdict 1, number 1 or
+/// 2) they are as they were.
+#[allow(clippy::too_many_arguments)]
+pub fn mark_image(
+    psn: u32,
+    user: &[u8],
+    side: &[u8],
+    image: &[u8],
+    user_read: &mut [u8],
+    side_read: &mut [u8],
+    dc_read: &mut [u32],
+    work: &mut [u8],
+) -> Marking {
+    unsafe {
+        c::bdre_mark_image(
+            psn,
+            user.as_ptr(),
+            user.len(),
+            side.as_ptr(),
+            side.len(),
+            image.as_ptr(),
+            image.len(),
+            user_read.as_mut_ptr(),
+            user_read.len(),
+            side_read.as_mut_ptr(),
+            side_read.len(),
+            dc_read.as_mut_ptr(),
+            dc_read.len(),
+            work.as_mut_ptr(),
+            work.len(),
+        )
+    }
+}
+
+/// The groove address (PAA) of the first word of the cluster at a PSN. 0, 6 or 7.
+pub fn psn_to_paa(psn: u32) -> Conversion {
+    unsafe { c::bdre_psn_to_paa(psn) }
+}
+
+/// The PSN of the cluster whose first word has a groove address (PAA). 6: no multiple of 4. 7: its PSN lies in no data zone.
+pub fn paa_to_psn(paa: u32) -> Conversion {
+    unsafe { c::bdre_paa_to_psn(paa) }
+}
+
+/// The address unit number (AUN) of unit 0 to 15 of the cluster at a PSN; the value is 0 for a unit above 15. 0, 6 or 7.
+pub fn psn_to_aun(psn: u32, unit: u32) -> Conversion {
+    unsafe { c::bdre_psn_to_aun(psn, unit) }
+}
+
+/// The PSN of the cluster that holds the address unit with an AUN. 6: the AUN is odd. 7: the PSN lies in no data zone.
+pub fn aun_to_psn(aun: u32) -> Conversion {
+    unsafe { c::bdre_aun_to_psn(aun) }
+}
