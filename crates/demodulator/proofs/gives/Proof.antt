@@ -12,10 +12,10 @@ use Rattle.demodulator.proofs.gives.Statement.{statement}
 use Rattle.demodulator.proofs.gives.Tie as tie
 
 abbrev Inv-loop : tie.InvT-loop
-Inv-loop bytes at before hash pairs b₀ terminated₀ i₀ b terminated i = Comparing (bitsOf bytes) at pairs before b terminated i
+Inv-loop rows bytes at before hash pairs b₀ terminated₀ i₀ b terminated i = Comparing (bitsOf bytes) at pairs before b terminated i
 
 abbrev μ-loop : tie.MeasureT-loop
-μ-loop bytes at before hash pairs b₀ terminated₀ i₀ b terminated i = length pairs - i
+μ-loop rows bytes at before hash pairs b₀ terminated₀ i₀ b terminated i = length pairs - i
 
 loop-holds : tie.Need-loop-holds Inv-loop μ-loop
 loop-holds c = comparing-none

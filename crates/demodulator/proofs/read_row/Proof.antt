@@ -12,10 +12,10 @@ use Rattle.demodulator.proofs.read_row.Statement.{statement}
 use Rattle.demodulator.proofs.read_row.Tie as tie
 
 abbrev Inv-loop : tie.InvT-loop
-Inv-loop bytes at left before hash ahead k₀ k = Searched (λ k. reads before hash (groupsAt (bitsOf bytes) at left) (rowAt k)) 15 k
+Inv-loop rows bytes at left before hash ahead k₀ k = Searched (λ k. reads before hash (groupsAt (bitsOf bytes) at left) (rowAt k)) 15 k
 
 abbrev μ-loop : tie.MeasureT-loop
-μ-loop bytes at left before hash ahead k₀ k = 15 - k
+μ-loop rows bytes at left before hash ahead k₀ k = 15 - k
 
 groups-ahead-requires : tie.Need-groups-ahead-requires Inv-loop μ-loop
 groups-ahead-requires c κs = search needs

@@ -8,10 +8,10 @@ use Rattle.demodulator.proofs.read_words.Statement.{statement}
 use Rattle.demodulator.proofs.read_words.Tie as tie
 
 abbrev Inv-loop : tie.InvT-loop
-Inv-loop bytes at before hash pairs₀ b₀ i₀ pairs b i = WordsRead (bitsOf bytes) at before hash pairs₀ pairs b i
+Inv-loop rows bytes at before hash pairs₀ b₀ i₀ pairs b i = WordsRead (bitsOf bytes) at before hash pairs₀ pairs b i
 
 abbrev μ-loop : tie.MeasureT-loop
-μ-loop bytes at before hash pairs₀ b₀ i₀ pairs b i = length pairs₀ - i
+μ-loop rows bytes at before hash pairs₀ b₀ i₀ pairs b i = length pairs₀ - i
 
 loop-holds : tie.Need-loop-holds Inv-loop μ-loop
 loop-holds c = read-none

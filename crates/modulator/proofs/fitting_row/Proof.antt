@@ -1,6 +1,7 @@
 -- `fitting_row` meets its contract: a search through the rows (Search), of which some row fits (Modulating). Assumes nothing.
 use mathlib.Core.List.{tail}
 use Prim.Native.Nat.{_-_}
+use native.Mathlib.Omega.{arith}
 use borrow.Author.Needs.{needs}
 use lib.ListN.{drop}
 use Rattle.modulation.specs.Modulation.{rowAt, fits, modulateFrom}
@@ -11,10 +12,10 @@ use Rattle.modulator.proofs.fitting_row.Statement.{statement}
 use Rattle.modulator.proofs.fitting_row.Tie as tie
 
 abbrev Inv-loop : tie.InvT-loop
-Inv-loop pairs i before ahead k₀ k = Searched (λ k. fits (rowAt k) before (drop i (twos pairs)) (modulateFrom (tail (drop i (twos pairs))))) 16 k
+Inv-loop rows pairs i before ahead k₀ k = Searched (λ k. fits (rowAt k) before (drop i (twos pairs)) (modulateFrom (tail (drop i (twos pairs))))) 16 k
 
 abbrev μ-loop : tie.MeasureT-loop
-μ-loop pairs i before ahead k₀ k = 16 - k
+μ-loop rows pairs i before ahead k₀ k = 16 - k
 
 pairs-ahead-requires : tie.Need-pairs-ahead-requires Inv-loop μ-loop
 pairs-ahead-requires c κs = search needs
@@ -23,7 +24,10 @@ loop-holds : tie.Need-loop-holds Inv-loop μ-loop
 loop-holds c = searched-none
 
 fits-at-requires : tie.Need-fits-at-requires Inv-loop μ-loop
-fits-at-requires c κs = search needs
+fits-at-requires c κs =
+    let made = c .before .before in
+    let start = made .before .before in
+    (start .pre .0, ((omega arith, start .pre .1 .0), (omega arith, made .pairs-ahead .ensures)))
 
 returns : tie.Need-returns Inv-loop μ-loop
 returns c = fitting (search needs) (searched-found (c .before .before .before .loop .inv) (search needs) (c .before .fits-at .ensures) (c .if1 .taken))
