@@ -5,7 +5,7 @@ use mathlib.Core.Path.{_≡_}
 use Prim.Native.Nat.{ℕ, zero, suc, _+_, _*_, _<_, _≤_}
 use lib.ListN.{length, getD, take}
 use Rattle.bits.specs.Bits.{number}
-use Rattle.modulation.specs.Modulation.{Three, threeNumber, rowAt, Modulated}
+use Rattle.modulation.specs.Modulation.{Three, threeNumber, rowAt, starts, Modulated}
 use Rattle.modulation.specs.Bits.{bits, three}
 use Rattle.modulation.specs.Demodulator.{rowRead}
 use Rattle.modulator.specs.Ahead.{Fronts}
@@ -27,6 +27,11 @@ frameAt b p n hash = record { groups = groupsAt b p n; terminated = hash }
 -- the modulation bits of the next 0 to 5 groups
 abbrev pub GroupsAhead : List Three → List ℕ → Type 0
 GroupsAhead gs f = Fronts 6 (length gs) (λ n. number (bits (take n gs))) f
+
+-- of the rows below r, none has groups that stand at the front of gs
+pub record NoneBelow (gs : List Three) (r : ℕ) : Type 0 where
+  pub within : r ≤ 15
+  pub none : (k : ℕ) → k < r → starts threeNumber (rowAt k .groups) gs ≡ false
 
 -- the number of the first group; 8 where the frame ends
 abbrev pub nextNumber : List Three → ℕ

@@ -1,5 +1,7 @@
 // The 17PP demodulator: strict, by modulating again what was read.
 // Functions with a `requires` are called by the crates of this repository only.
+mod first;
+
 use modulator::PackedRows;
 use modulator::When;
 ghost use mathlib.Core.List.{List};
@@ -14,7 +16,7 @@ ghost use Rattle.modulation.specs.Demodulator.{follows, agrees, reads, demodula
 ghost use Rattle.modulation.specs.Pairs.{Pairs, twos, numbers};
 ghost use Rattle.modulator.specs.Rows.{packedRows};
 ghost use Rattle.demodulator.specs.Demodulated.{Demodulated};
-ghost use Rattle.demodulator.specs.Ahead.{Inside, groupsAt, frameAt, GroupsAhead, nextNumber, Reading, Compared};
+ghost use Rattle.demodulator.specs.Ahead.{Inside, groupsAt, frameAt, GroupsAhead, NoneBelow, nextNumber, Reading, Compared};
 
 // Group j behind bit `at`, of which `left` are left; 0 past those.
 fn group_ahead(bytes: &[u8], at: usize, left: usize, j: usize) -> u16
@@ -116,6 +118,16 @@ fn reads_at(
     agrees_at(rows, k, next, before)
 }
 
+// Where to begin a search for a row whose groups stand first among those ahead, of which `left` are left.
+fn first_row(ahead: [u16; 6], left: usize) -> usize
+    ensures { λ r. ⌜ ((gs : List Three) → GroupsAhead gs ahead → length gs ≡ left → NoneBelow gs r) ⌝ }
+{
+    if left < 2 {
+        return 0;
+    }
+    first::table_first((ahead[2] % 64) as usize)
+}
+
 // The row of the word at bit `at`; where none of the others is read, the last.
 fn read_row(
     rows: &PackedRows,
@@ -129,7 +141,7 @@ fn read_row(
     ensures { λ r. ⌜ Reading before hash (groupsAt (bitsOf (now (bytes .entry))) at left) left r ⌝ }
 {
     let ahead = groups_ahead(bytes, at, left);
-    let mut k = 0;
+    let mut k = first_row(ahead, left);
     while k < 15 {
         if reads_at(rows, k, ahead, left, before, hash) {
             return k;

@@ -1,7 +1,7 @@
 // The 17PP modulator (13.17.2). Data bits go two by two, as numbers from 0 to 3.
 // Functions with a `requires` are called by the crates of this repository only.
 ghost use mathlib.Core.Bool.{false};
-ghost use mathlib.Core.List.{List, tail};
+ghost use mathlib.Core.List.{List, _∷_, tail};
 ghost use mathlib.Core.Path.{_≡_};
 ghost use Prim.Native.Nat.{_+_, _*_, _<_, _≤_};
 ghost use lib.ListN.{length, getD, drop};
@@ -11,7 +11,7 @@ ghost use Rattle.modulation.specs.Modulation.{Two, d00, twoNumber, m000, threeN
 ghost use Rattle.modulation.specs.Bits.{bits};
 ghost use Rattle.modulation.specs.Pairs.{Pairs, twos};
 ghost use Rattle.modulator.specs.Rows.{coded, whenNumber, whenAt, packed, packedRows, Sized};
-ghost use Rattle.modulator.specs.Ahead.{PairsAhead, standingRow, Fitting};
+ghost use Rattle.modulator.specs.Ahead.{PairsAhead, NoneBelow, standingRow, Fitting};
 
 // When a row may be taken.
 pub enum When {
@@ -44,6 +44,9 @@ const ROWS: [Row; 16] = [
     Row(2, 0b00_00, 0b010_100, When::AtEnd),
     Row(1, 0b00, 0b000, When::AtEnd),
 ];
+
+// By the next two pairs: no row below this one begins so.
+const FIRST_ROWS: [u8; 16] = [0, 7, 8, 9, 10, 10, 10, 10, 11, 11, 11, 11, 12, 6, 12, 12];
 
 // The table's rows, a number each. Reading a constant copies it, so a frame's rows are packed once and lent.
 pub type PackedRows = [u32; 16];
@@ -199,6 +202,23 @@ fn pairs_ahead(pairs: &[u8], i: usize) -> [u8; 5]
     [0, one, two, three, four]
 }
 
+fn table_first(two: usize) -> usize
+    requires { ⌜ two < 16 ⌝ }
+    ensures { λ r. ⌜ ((x y : Two) (ds : List Two) → two ≡ 4 * twoNumber x + twoNumber y → NoneBelow (x ∷ y ∷ ds) r) ⌝ }
+{
+    FIRST_ROWS[two] as usize
+}
+
+// Where to begin a search for a row whose pairs stand first among those ahead, of which `left` are left.
+fn first_row(ahead: [u8; 5], left: usize) -> usize
+    ensures { λ r. ⌜ ((ds : List Two) → PairsAhead ds ahead → length ds ≡ left → NoneBelow ds r) ⌝ }
+{
+    if left < 2 {
+        return 0;
+    }
+    table_first((ahead[2] % 16) as usize)
+}
+
 // Whether the pairs of row k stand first among those ahead, of which `left` are left.
 fn pairs_stand(rows: &PackedRows, k: usize, ahead: [u8; 5], left: usize) -> bool
     requires { ⌜ (now rows ≡ packedRows) × (k < 16) ⌝ }
@@ -219,7 +239,7 @@ fn standing_row(rows: &PackedRows, pairs: &[u8], i: usize) -> usize
 {
     let ahead = pairs_ahead(pairs, i);
     let left = pairs.len() - i;
-    let mut k = 0;
+    let mut k = first_row(ahead, left);
     while k < 16 {
         if pairs_stand(rows, k, ahead, left) {
             return k;
@@ -281,7 +301,7 @@ pub fn fitting_row(rows: &PackedRows, pairs: &[u8], i: usize, before: bool) -> u
     ensures { λ r. ⌜ Fitting before (now (pairs .entry)) i r ⌝ }
 {
     let ahead = pairs_ahead(pairs, i);
-    let mut k = 0;
+    let mut k = first_row(ahead, pairs.len() - i);
     while k < 16 {
         if fits_at(rows, k, ahead, pairs, i, before) {
             return k;

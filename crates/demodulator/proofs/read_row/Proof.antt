@@ -4,9 +4,10 @@ use borrow.Author.Needs.{needs}
 use Rattle.bits.specs.Bits.{bitsOf}
 use Rattle.modulation.specs.Modulation.{rowAt}
 use Rattle.modulation.specs.Demodulator.{reads}
-use Rattle.modulator.proofs.Search.{Searched, searched-none, searched-more, searched-found, searched-all}
+use Rattle.modulator.proofs.Search.{Searched, searched-more, searched-found, searched-all}
 use Rattle.demodulator.specs.Ahead.{groupsAt}
 use Rattle.demodulator.proofs.Groups.{length-groupsAt}
+use Rattle.demodulator.proofs.Ahead.{searched-reads}
 use Rattle.demodulator.proofs.Follow.{reading-found, reading-last}
 use Rattle.demodulator.proofs.read_row.Statement.{statement}
 use Rattle.demodulator.proofs.read_row.Tie as tie
@@ -20,15 +21,22 @@ abbrev μ-loop : tie.MeasureT-loop
 groups-ahead-requires : tie.Need-groups-ahead-requires Inv-loop μ-loop
 groups-ahead-requires c κs = search needs
 
+first-row-requires : tie.Need-first-row-requires Inv-loop μ-loop
+first-row-requires c κs = search needs
+
 loop-holds : tie.Need-loop-holds Inv-loop μ-loop
-loop-holds c = searched-none
+loop-holds c =
+    let made = c .before in
+    let args = made .before .before .args in
+    let size = length-groupsAt (bitsOf (args .bytes .now)) (args .at) (args .left) in
+    searched-reads (c .first-row .ensures _ (made .groups-ahead .ensures) size) (args .before) (args .hash)
 
 reads-at-requires : tie.Need-reads-at-requires Inv-loop μ-loop
 reads-at-requires c κs = search needs
 
 returns : tie.Need-returns Inv-loop μ-loop
 returns c = let turn = c .before .before .before in
-    let made = turn .before in
+    let made = turn .before .before in
     let args = made .before .before .args in
     let size = length-groupsAt (bitsOf (args .bytes .now)) (args .at) (args .left) in
     let reads-it = c .before .reads-at .ensures _ (made .groups-ahead .ensures) size in
@@ -42,13 +50,13 @@ loop-less c = search needs
 
 loop-again : tie.Need-loop-again Inv-loop μ-loop
 loop-again c = let turn = c .before .before .before in
-    let made = turn .before in
+    let made = turn .before .before in
     let args = made .before .before .args in
     searched-more (turn .loop .inv) (search needs) (c .before .reads-at .ensures _ (made .groups-ahead .ensures) (length-groupsAt (bitsOf (args .bytes .now)) (args .at) (args .left))) (c .if1 .left)
 
 returns-2 : tie.Need-returns-2 Inv-loop μ-loop
 returns-2 c = let turn = c .before in
-    let args = turn .before .before .before .args in
+    let args = turn .before .before .before .before .args in
     reading-last (length-groupsAt (bitsOf (args .bytes .now)) (args .at) (args .left)) (search needs) (c .loop-test .left) (turn .loop .inv .within) (searched-all (turn .loop .inv) (c .loop-test .left))
 
 pub read-row-spec : {M : Type 1} → statement M
@@ -58,6 +66,7 @@ read-row-spec =
     Inv-loop
     μ-loop
     groups-ahead-requires
+    first-row-requires
     loop-holds
     reads-at-requires
     returns

@@ -6,7 +6,9 @@ use borrow.Author.Needs.{needs}
 use lib.ListN.{drop}
 use Rattle.modulation.specs.Modulation.{rowAt, fits, modulateFrom}
 use Rattle.modulation.specs.Pairs.{twos}
-use Rattle.modulator.proofs.Search.{Searched, searched-none, searched-more, searched-found, searched-all}
+use Rattle.modulator.proofs.Search.{Searched, searched-more, searched-found, searched-all}
+use Rattle.modulation.proofs.Pairs.{pairs-left}
+use Rattle.modulator.proofs.Ahead.{searched-fitting}
 use Rattle.modulator.proofs.Modulating.{fitting}
 use Rattle.modulator.proofs.fitting_row.Statement.{statement}
 use Rattle.modulator.proofs.fitting_row.Tie as tie
@@ -20,12 +22,21 @@ abbrev μ-loop : tie.MeasureT-loop
 pairs-ahead-requires : tie.Need-pairs-ahead-requires Inv-loop μ-loop
 pairs-ahead-requires c κs = search needs
 
+sub-first-row : tie.Need-sub-first-row Inv-loop μ-loop
+sub-first-row c = search needs
+
+first-row-requires : tie.Need-first-row-requires Inv-loop μ-loop
+first-row-requires c κs = search needs
+
 loop-holds : tie.Need-loop-holds Inv-loop μ-loop
-loop-holds c = searched-none
+loop-holds c =
+    let made = c .before in
+    let args = made .before .before .args in
+    searched-fitting (c .first-row .ensures _ (made .pairs-ahead .ensures) (pairs-left (args .pairs .now) (args .i))) (args .before) (modulateFrom (tail (drop (args .i) (twos (args .pairs .now)))))
 
 fits-at-requires : tie.Need-fits-at-requires Inv-loop μ-loop
 fits-at-requires c κs =
-    let made = c .before .before in
+    let made = c .before .before .before in
     let start = made .before .before in
     (start .pre .0, ((omega arith, start .pre .1 .0), (omega arith, made .pairs-ahead .ensures)))
 
@@ -51,6 +62,8 @@ fitting-row-spec =
     Inv-loop
     μ-loop
     pairs-ahead-requires
+    sub-first-row
+    first-row-requires
     loop-holds
     fits-at-requires
     returns
