@@ -76,7 +76,7 @@ const FIRST_ROWS: [u8; 64] = [
 // The table's entry at two groups, 8 times the first and the second.
 pub fn table_first(two: usize) -> usize
     requires { ⌜ two < 64 ⌝ }
-    ensures { λ r. ⌜ ((x y : Three) (gs : List Three) → two ≡ 8 * threeNumber x + threeNumber y → NoneBelow (x ∷ y ∷ gs) r) ⌝ }
+    ensures { λ r. ⌜ (r < 16) × ((x y : Three) (gs : List Three) → two ≡ 8 * threeNumber x + threeNumber y → NoneBelow (x ∷ y ∷ gs) r) ⌝ }
 {
     FIRST_ROWS[two] as usize
 }

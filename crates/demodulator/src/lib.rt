@@ -16,7 +16,7 @@ ghost use Rattle.modulation.specs.Demodulator.{follows, agrees, reads, demodula
 ghost use Rattle.modulation.specs.Pairs.{Pairs, twos, numbers};
 ghost use Rattle.modulator.specs.Rows.{packedRows};
 ghost use Rattle.demodulator.specs.Demodulated.{Demodulated};
-ghost use Rattle.demodulator.specs.Ahead.{Inside, groupsAt, frameAt, GroupsAhead, NoneBelow, nextNumber, Reading, Compared};
+ghost use Rattle.demodulator.specs.Ahead.{Inside, groupsAt, frameAt, GroupsAhead, FiveAhead, NoneBelow, nextNumber, Reading, Compared};
 
 // Group j behind bit `at`, of which `left` are left; 0 past those.
 fn group_ahead(bytes: &[u8], at: usize, left: usize, j: usize) -> u16
@@ -31,17 +31,37 @@ fn group_ahead(bytes: &[u8], at: usize, left: usize, j: usize) -> u16
     }
 }
 
-// The modulation bits of the next 0 to 5 groups; past the end a group counts as 000.
-fn groups_ahead(bytes: &[u8], at: usize, left: usize) -> [u16; 6]
+// The next five groups behind bit `at` as one number; past the end a group counts as 000.
+fn first_five(bytes: &[u8], at: usize, left: usize) -> u16
     requires { ⌜ Inside (now bytes) at left ⌝ }
-    ensures { λ r. ⌜ GroupsAhead (groupsAt (bitsOf (now (bytes .entry))) at left) r ⌝ }
+    ensures { λ r. ⌜ FiveAhead (groupsAt (bitsOf (now (bytes .entry))) at left) r ⌝ }
 {
     let one = group_ahead(bytes, at, left, 0);
     let two = 8 * one + group_ahead(bytes, at, left, 1);
     let three = 8 * two + group_ahead(bytes, at, left, 2);
     let four = 8 * three + group_ahead(bytes, at, left, 3);
-    let five = 8 * four + group_ahead(bytes, at, left, 4);
-    [0, one, two, three, four, five]
+    8 * four + group_ahead(bytes, at, left, 4)
+}
+
+// The next five behind the first `len` of those behind bit `at`: each group is read once.
+fn five_behind(five: u16, len: usize, bytes: &[u8], at: usize, left: usize) -> u16
+    requires { ⌜ (FiveAhead (groupsAt (bitsOf (now bytes)) at left) five × (len < 5)) × Inside (now bytes) at left ⌝ }
+    ensures { λ r. ⌜ FiveAhead (drop len (groupsAt (bitsOf (now (bytes .entry))) at left)) r ⌝ }
+{
+    let mut next = five;
+    let mut j = 0;
+    while j < len {
+        next = next % 4096 * 8 + group_ahead(bytes, at, left, j + 5);
+        j += 1;
+    }
+    next
+}
+
+// The modulation bits of the next 0 to 5 groups.
+fn groups_ahead(five: u16) -> [u16; 6]
+    ensures { λ r. ⌜ ((gs : List Three) → FiveAhead gs five → GroupsAhead gs r) ⌝ }
+{
+    [0, five / 4096, five / 512, five / 64, five / 8, five]
 }
 
 // Whether the groups of row k stand first among those ahead, of which `left` are left.
@@ -120,7 +140,7 @@ fn reads_at(
 
 // Where to begin a search for a row whose groups stand first among those ahead, of which `left` are left.
 fn first_row(ahead: [u16; 6], left: usize) -> usize
-    ensures { λ r. ⌜ ((gs : List Three) → GroupsAhead gs ahead → length gs ≡ left → NoneBelow gs r) ⌝ }
+    ensures { λ r. ⌜ (r < 16) × ((gs : List Three) → GroupsAhead gs ahead → length gs ≡ left → NoneBelow gs r) ⌝ }
 {
     if left < 2 {
         return 0;
@@ -128,19 +148,12 @@ fn first_row(ahead: [u16; 6], left: usize) -> usize
     first::table_first((ahead[2] % 64) as usize)
 }
 
-// The row of the word at bit `at`; where none of the others is read, the last.
-fn read_row(
-    rows: &PackedRows,
-    bytes: &[u8],
-    at: usize,
-    left: usize,
-    before: bool,
-    hash: bool,
-) -> usize
-    requires { ⌜ (now rows ≡ packedRows) × (Inside (now bytes) at left × (0 < left)) ⌝ }
-    ensures { λ r. ⌜ Reading before hash (groupsAt (bitsOf (now (bytes .entry))) at left) left r ⌝ }
+// The row of the word at the front of the groups of which `five` are the first; where none of the others is read, the last.
+fn read_row(rows: &PackedRows, five: u16, left: usize, before: bool, hash: bool) -> usize
+    requires { ⌜ (now rows ≡ packedRows) × (0 < left) ⌝ }
+    ensures { λ r. ⌜ ((gs : List Three) → FiveAhead gs five → length gs ≡ left → Reading before hash gs left r) ⌝ }
 {
-    let ahead = groups_ahead(bytes, at, left);
+    let ahead = groups_ahead(five);
     let mut k = first_row(ahead, left);
     while k < 15 {
         if reads_at(rows, k, ahead, left, before, hash) {
@@ -177,12 +190,16 @@ fn read_words(
     ensures { λ _. ⌜ now (pairs .exit) ≡ numbers (demodulate before (frameAt (bitsOf (now (bytes .entry))) at (length (now (pairs .entry))) hash)) ⌝ }
 {
     let mut b = before;
+    let mut five = first_five(bytes, at, pairs.len());
     let mut i = 0;
     while i < pairs.len() {
-        let k = read_row(rows, bytes, at + 3 * i, pairs.len() - i, b, hash);
+        let left = pairs.len() - i;
+        let k = read_row(rows, five, left, b, hash);
         put_pairs(rows, k, pairs, i);
         b = modulator::ends_in_one(rows, k);
-        i += modulator::row_len(rows, k);
+        let len = modulator::row_len(rows, k);
+        five = five_behind(five, len, bytes, at + 3 * i, left);
+        i += len;
     }
 }
 
@@ -193,16 +210,19 @@ fn gives(rows: &PackedRows, bytes: &[u8], at: usize, before: bool, hash: bool, p
 {
     let mut b = before;
     let mut terminated = false;
+    let mut five = first_five(bytes, at, pairs.len());
     let mut i = 0;
     while i < pairs.len() {
         let k = modulator::fitting_row(rows, pairs, i, b);
         let left = pairs.len() - i;
-        if !groups_stand(rows, k, groups_ahead(bytes, at + 3 * i, left), left) {
+        if !groups_stand(rows, k, groups_ahead(five), left) {
             return false;
         }
         terminated |= modulator::is_terminating(rows, k);
         b = modulator::ends_in_one(rows, k);
-        i += modulator::row_len(rows, k);
+        let len = modulator::row_len(rows, k);
+        five = five_behind(five, len, bytes, at + 3 * i, left);
+        i += len;
     }
     terminated == hash
 }

@@ -6,7 +6,7 @@ use Rattle.demodulator.proofs.first_row.Statement.{statement}
 use Rattle.demodulator.proofs.first_row.Tie as tie
 
 returns : tie.Need-returns
-returns c = λ gs ahead size. none-at-all gs
+returns c = (omega arith, λ gs ahead size. none-at-all gs)
 
 array-read-table-first : tie.Need-array-read-table-first
 array-read-table-first c = search needs
@@ -18,7 +18,7 @@ table-first-requires : tie.Need-table-first-requires
 table-first-requires c κs = search needs
 
 returns-2 : tie.Need-returns-2
-returns-2 c = λ gs ahead size. first-two gs ahead (omega arith) (c .table-first .ensures)
+returns-2 c = (c .table-first .ensures .0, λ gs ahead size. first-two gs ahead (omega arith) (c .table-first .ensures .1))
 
 pub first-row-spec : {M : Type 1} → statement M
 first-row-spec =

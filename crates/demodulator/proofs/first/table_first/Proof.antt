@@ -12,7 +12,7 @@ cast-result : tie.Need-cast-result
 cast-result c = omega (arith, first-small (c .args .two) (c .pre))
 
 returns : tie.Need-returns
-returns c = λ x y gs e. none-first gs (c .args .two) (c .pre) x y e
+returns c = (first-small (c .args .two) (c .pre), λ x y gs e. none-first gs (c .args .two) (c .pre) x y e)
 
 pub table-first-spec : {M : Type 1} → statement M
 table-first-spec = tie.close (tie.spec array-read-result cast-result returns)
