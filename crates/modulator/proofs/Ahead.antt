@@ -1,26 +1,23 @@
 -- The pairs ahead as numbers, and whether the pairs of a row stand there. Assumes nothing.
-use mathlib.Core.Bool.{Bool, false, not, _&&_}
+use mathlib.Core.Bool.{Bool, false, _&&_}
 use mathlib.Core.List.{List, [], _∷_}
-use mathlib.Core.Path.{_≡_, refl, sym, ap, ap₂, subst, _∙_}
-use Prim.Native.Nat.{ℕ, zero, suc, _+_, _*_, _%_, _<_, _≤_}
-use native.Mathlib.Nat.{not-suc-le-zero, le-of-lt}
+use mathlib.Core.Path.{_≡_, refl, sym, ap, ap₂, _∙_}
+use Prim.Native.Nat.{ℕ, zero, suc, _+_, _*_, _<_, _≤_}
+use native.Mathlib.Nat.{not-suc-le-zero}
 use native.Mathlib.Omega.{arith}
-use borrow.Author.Tests.{le-leb, lt-leb, not-true}
-use lib.Dec.{T, eqb, leb}
+use borrow.Author.Tests.{le-leb, lt-leb}
+use lib.Dec.{eqb, leb}
 use lib.ListN.{length, getD, take, drop}
-use Rattle.laws.proofs.Finite.{all, all-at, bounded-below}
 use Rattle.bits.specs.Bits.{number}
-use Rattle.modulation.specs.Modulation.{Two, d00, d01, d10, d11, twoNumber, rowAt, starts, allowed, fits, Rest}
+use Rattle.modulation.specs.Modulation.{Two, d00, twoNumber, rowAt, starts}
 use Rattle.modulation.specs.Bits.{dataBits}
 use Rattle.modulation.specs.Pairs.{Pairs, twos}
-use Rattle.modulation.proofs.Pairs.{pair-at, pairs-numbers}
-use Rattle.modulation.proofs.Tests.{T-true}
+use Rattle.modulation.proofs.Pairs.{pair-at}
 use Rattle.modulation.proofs.Fronts.{pairs-start, pair-more}
 use Rattle.modulator.specs.declared.Row.{Row as CodeRow}
 use Rattle.modulator.specs.Rows.{coded}
-use Rattle.modulator.specs.Ahead.{Fronts, PairsAhead, NoneBelow}
+use Rattle.modulator.specs.Ahead.{Fronts, PairsAhead}
 use Rattle.modulator.proofs.Rows.{code-sized}
-use Rattle.modulator.proofs.Search.{Searched}
 
 -- ---- the numbers of the first elements, each from the one before
 
@@ -108,66 +105,3 @@ module _ (k : ℕ) (r : CodeRow) (h : k < 16) (e : r ≡ coded (rowAt k)) (ds : 
       ∙ ap (λ (s : CodeRow). eqb (number (dataBits (take (s .0) ds))) (s .1)) e
       ∙ test-if (length (rowAt k .pairs)) (length ds) (number (dataBits (take (length (rowAt k .pairs)) ds))) (number (dataBits (rowAt k .pairs)))
       (pairs-start (rowAt k .pairs) ds) (omega (arith, code-sized k r h e))
-
--- ---- where a search begins
-
--- FIRST_ROWS
-abbrev pub firstRows : List ℕ
-firstRows = 0 ∷ 7 ∷ 8 ∷ 9 ∷ 10 ∷ 10 ∷ 10 ∷ 10 ∷ 11 ∷ 11 ∷ 11 ∷ 11 ∷ 12 ∷ 6 ∷ 12 ∷ 12 ∷ []
-
-pub first-small : (two : ℕ) → two < 16 → getD firstRows two 0 < 16
-unfolding all
-first-small two h = bounded-below 16 16 (λ n. getD firstRows n 0) tt two h
-
-module _ (ds : List Two) where
-  passed-over : Two → Two → ℕ → Bool
-  passed-over x y k = not (starts twoNumber (rowAt k .pairs) (x ∷ y ∷ ds))
-
-  firsts : (x y : Two) → T (all (getD firstRows (4 * twoNumber x + twoNumber y) 0) (passed-over x y))
-  unfolding all passed-over
-  firsts d00 d00 = tt
-  firsts d00 d01 = tt
-  firsts d00 d10 = tt
-  firsts d00 d11 = tt
-  firsts d01 d00 = tt
-  firsts d01 d01 = tt
-  firsts d01 d10 = tt
-  firsts d01 d11 = tt
-  firsts d10 d00 = tt
-  firsts d10 d01 = tt
-  firsts d10 d10 = tt
-  firsts d10 d11 = tt
-  firsts d11 d00 = tt
-  firsts d11 d01 = tt
-  firsts d11 d10 = tt
-  firsts d11 d11 = tt
-
-  pub none-first : (two : ℕ) → two < 16 → (x y : Two) → two ≡ 4 * twoNumber x + twoNumber y → NoneBelow (x ∷ y ∷ ds) (getD firstRows two 0)
-  unfolding all passed-over
-  none-first two h x y e =
-      record {
-        within = le-of-lt (first-small two h);
-        none = λ k below. not-true (starts twoNumber (rowAt k .pairs) (x ∷ y ∷ ds)) (T-true (passed-over x y k) (all-at (getD firstRows two 0) (passed-over x y) (subst (λ (n : ℕ). T (all (getD firstRows n 0) (passed-over x y))) (sym e) (firsts x y)) k below));
-      }
-
--- by the number of the two pairs ahead
-pub first-two : (ds : List Two) {f : List ℕ} {r : ℕ} → PairsAhead ds f → 2 ≤ length ds
-    → ((x y : Two) (rest : List Two) → getD f 2 0 % 16 ≡ 4 * twoNumber x + twoNumber y → NoneBelow (x ∷ y ∷ rest) r) → NoneBelow ds r
-first-two [] ahead h g = absurd (not-suc-le-zero h)
-first-two (x ∷ []) ahead h g = absurd (omega arith)
-first-two (x ∷ y ∷ ds) ahead h g =
-    let two = ahead .at 2 (omega arith) h in
-    let one = pair-more 0 (x ∷ y ∷ ds) (omega arith) in
-    let both = pair-more 1 (x ∷ y ∷ ds) (omega arith) in
-    g x y ds (omega (arith, none-front, pairs-numbers (x ∷ y ∷ []) 0, pairs-numbers (x ∷ y ∷ []) 1))
-
-pub none-at-all : (ds : List Two) → NoneBelow ds 0
-none-at-all ds = record { within = omega arith; none = λ k h. absurd (not-suc-le-zero h) }
-
-module _ {ds : List Two} {r : ℕ} (n : NoneBelow ds r) where
-  pub searched-standing : Searched (λ k. starts twoNumber (rowAt k .pairs) ds) 16 r
-  searched-standing = record { within = n .within; passed = record { fails = n .none } }
-
-  pub searched-fitting : (before : Bool) (rest : Rest) → Searched (λ k. fits (rowAt k) before ds rest) 16 r
-  searched-fitting before rest =
-      record { within = n .within; passed = record { fails = λ k h. ap (λ (x : Bool). x && allowed (rowAt k) (rowAt k .when) before ds rest) (n .none k h) } }

@@ -5,7 +5,7 @@ use mathlib.Core.Path.{_≡_, refl, sym, ap, subst, _∙_}
 use Prim.Native.Nat.{ℕ, zero, suc, _+_, _<_, _≤_}
 use native.Mathlib.Omega.{arith}
 use Rattle.laws.specs.First.{first}
-use Rattle.laws.proofs.First.{Passed, passed-more, first-at, first-none}
+use Rattle.laws.proofs.First.{Passed, passed-none, passed-more, first-at, first-none}
 
 -- of the rows passed, up to k, none passes the test
 pub record Searched (p : ℕ → Bool) (n k : ℕ) : Type 0 where
@@ -23,6 +23,9 @@ module _ {p : ℕ → Bool} {n k : ℕ} where
   searched-all s h =
       let same : k ≡ n = omega (arith, s .within) in
       same ∙ sym (first-none n p (subst (Passed p) same (s .passed)))
+
+pub searched-none : {p : ℕ → Bool} {n : ℕ} → Searched p n 0
+searched-none = record { within = omega arith; passed = passed-none }
 
 -- a search ends at an index that passes, or past the last
 abbrev Ended : ℕ → (ℕ → Bool) → ℕ → Type 0

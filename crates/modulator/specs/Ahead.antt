@@ -1,5 +1,5 @@
 -- What the modulator sees ahead: the numbers of the next pairs, and the row at the front.
-use mathlib.Core.Bool.{Bool, false}
+use mathlib.Core.Bool.{Bool}
 use mathlib.Core.List.{List, tail}
 use mathlib.Core.Path.{_≡_}
 use Prim.Native.Nat.{ℕ, _+_, _<_, _≤_}
@@ -17,11 +17,6 @@ pub record Fronts (size left : ℕ) (front : ℕ → ℕ) (f : List ℕ) : Type 
 -- the data bits of the next 0 to 4 pairs
 abbrev pub PairsAhead : List Two → List ℕ → Type 0
 PairsAhead ds f = Fronts 5 (length ds) (λ n. number (dataBits (take n ds))) f
-
--- of the rows below r, none has pairs that stand at the front of ds
-pub record NoneBelow (ds : List Two) (r : ℕ) : Type 0 where
-  pub within : r ≤ 16
-  pub none : (k : ℕ) → k < r → starts twoNumber (rowAt k .pairs) ds ≡ false
 
 -- the first row whose pairs stand at the front of ds; 16 where there is none
 abbrev pub standingRow : List Two → ℕ

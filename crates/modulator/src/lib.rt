@@ -11,7 +11,7 @@ ghost use Rattle.modulation.specs.Modulation.{Two, d00, twoNumber, m000, threeN
 ghost use Rattle.modulation.specs.Bits.{bits};
 ghost use Rattle.modulation.specs.Pairs.{Pairs, twos};
 ghost use Rattle.modulator.specs.Rows.{coded, whenNumber, whenAt, packed, packedRows, Sized};
-ghost use Rattle.modulator.specs.Ahead.{PairsAhead, NoneBelow, standingRow, Fitting};
+ghost use Rattle.modulator.specs.Ahead.{PairsAhead, standingRow, fittingRow, Fitting};
 
 // When a row may be taken.
 pub enum When {
@@ -45,8 +45,11 @@ const ROWS: [Row; 16] = [
     Row(1, 0b00, 0b000, When::AtEnd),
 ];
 
-// By the next two pairs: no row below this one begins so.
-const FIRST_ROWS: [u8; 16] = [0, 7, 8, 9, 10, 10, 10, 10, 11, 11, 11, 11, 12, 6, 12, 12];
+// The row of a word by its first two pairs, after a ZERO; 16 where these do not tell it.
+const TOLD_AFTER_ZERO: [u8; 16] = [16, 7, 8, 9, 10, 10, 10, 10, 11, 11, 11, 11, 13, 16, 13, 13];
+
+// The same after a ONE.
+const TOLD_AFTER_ONE: [u8; 16] = [16, 7, 8, 9, 10, 10, 10, 10, 11, 11, 11, 11, 12, 16, 12, 12];
 
 // The table's rows, a number each. Reading a constant copies it, so a frame's rows are packed once and lent.
 pub type PackedRows = [u32; 16];
@@ -202,23 +205,6 @@ fn pairs_ahead(pairs: &[u8], i: usize) -> [u8; 5]
     [0, one, two, three, four]
 }
 
-fn table_first(two: usize) -> usize
-    requires { ⌜ two < 16 ⌝ }
-    ensures { λ r. ⌜ ((x y : Two) (ds : List Two) → two ≡ 4 * twoNumber x + twoNumber y → NoneBelow (x ∷ y ∷ ds) r) ⌝ }
-{
-    FIRST_ROWS[two] as usize
-}
-
-// Where to begin a search for a row whose pairs stand first among those ahead, of which `left` are left.
-fn first_row(ahead: [u8; 5], left: usize) -> usize
-    ensures { λ r. ⌜ ((ds : List Two) → PairsAhead ds ahead → length ds ≡ left → NoneBelow ds r) ⌝ }
-{
-    if left < 2 {
-        return 0;
-    }
-    table_first((ahead[2] % 16) as usize)
-}
-
 // Whether the pairs of row k stand first among those ahead, of which `left` are left.
 fn pairs_stand(rows: &PackedRows, k: usize, ahead: [u8; 5], left: usize) -> bool
     requires { ⌜ (now rows ≡ packedRows) × (k < 16) ⌝ }
@@ -239,7 +225,7 @@ fn standing_row(rows: &PackedRows, pairs: &[u8], i: usize) -> usize
 {
     let ahead = pairs_ahead(pairs, i);
     let left = pairs.len() - i;
-    let mut k = first_row(ahead, left);
+    let mut k = 0;
     while k < 16 {
         if pairs_stand(rows, k, ahead, left) {
             return k;
@@ -295,13 +281,13 @@ fn fits_at(
     }
 }
 
-// The row of the word at place i, after the bit before.
-pub fn fitting_row(rows: &PackedRows, pairs: &[u8], i: usize, before: bool) -> usize
+// The row of the word at place i, after the bit before: the first that fits.
+fn searched_row(rows: &PackedRows, pairs: &[u8], i: usize, before: bool) -> usize
     requires { ⌜ (now rows ≡ packedRows) × (Pairs (now pairs) × (i < length (now pairs))) ⌝ }
     ensures { λ r. ⌜ Fitting before (now (pairs .entry)) i r ⌝ }
 {
     let ahead = pairs_ahead(pairs, i);
-    let mut k = first_row(ahead, pairs.len() - i);
+    let mut k = 0;
     while k < 16 {
         if fits_at(rows, k, ahead, pairs, i, before) {
             return k;
@@ -309,6 +295,32 @@ pub fn fitting_row(rows: &PackedRows, pairs: &[u8], i: usize, before: bool) -> u
         k += 1;
     }
     k
+}
+
+// The row of a word by the number of its first two pairs, or 16.
+fn told_row(two: usize, before: bool) -> usize
+    requires { ⌜ two < 16 ⌝ }
+    ensures { λ r. ⌜ ((x y : Two) (ds : List Two) → two ≡ 4 * twoNumber x + twoNumber y → r < 16 → r ≡ fittingRow before (x ∷ y ∷ ds)) ⌝ }
+{
+    if before {
+        return TOLD_AFTER_ONE[two] as usize;
+    }
+    TOLD_AFTER_ZERO[two] as usize
+}
+
+// The row of the word at place i, after the bit before.
+pub fn fitting_row(rows: &PackedRows, pairs: &[u8], i: usize, before: bool) -> usize
+    requires { ⌜ (now rows ≡ packedRows) × (Pairs (now pairs) × (i < length (now pairs))) ⌝ }
+    ensures { λ r. ⌜ Fitting before (now (pairs .entry)) i r ⌝ }
+{
+    if 2 <= pairs.len() - i {
+        let two = 4 * pair_ahead(pairs, i, 0) + pair_ahead(pairs, i, 1);
+        let k = told_row(two as usize, before);
+        if k < 16 {
+            return k;
+        }
+    }
+    searched_row(rows, pairs, i, before)
 }
 
 // The modulation bits of row k, from bit `at` on.

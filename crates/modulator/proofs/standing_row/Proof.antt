@@ -5,8 +5,7 @@ use lib.ListN.{drop}
 use Rattle.modulation.specs.Modulation.{twoNumber, rowAt, starts}
 use Rattle.modulation.specs.Pairs.{twos}
 use Rattle.modulation.proofs.Pairs.{pairs-left}
-use Rattle.modulator.proofs.Search.{Searched, searched-more, searched-found, searched-all}
-use Rattle.modulator.proofs.Ahead.{searched-standing}
+use Rattle.modulator.proofs.Search.{Searched, searched-none, searched-more, searched-found, searched-all}
 use Rattle.modulator.proofs.standing_row.Statement.{statement}
 use Rattle.modulator.proofs.standing_row.Tie as tie
 
@@ -22,14 +21,8 @@ pairs-ahead-requires c κs = search needs
 sub-left : tie.Need-sub-left Inv-loop μ-loop
 sub-left c = search needs
 
-first-row-requires : tie.Need-first-row-requires Inv-loop μ-loop
-first-row-requires c κs = search needs
-
 loop-holds : tie.Need-loop-holds Inv-loop μ-loop
-loop-holds c =
-    let made = c .before in
-    let args = made .before .before .args in
-    searched-standing (c .first-row .ensures _ (made .pairs-ahead .ensures) (pairs-left (args .pairs .now) (args .i)))
+loop-holds c = searched-none
 
 pairs-stand-requires : tie.Need-pairs-stand-requires Inv-loop μ-loop
 pairs-stand-requires c κs = search needs
@@ -37,7 +30,7 @@ pairs-stand-requires c κs = search needs
 returns : tie.Need-returns Inv-loop μ-loop
 returns c =
     let turn = c .before .before .before in
-    let made = turn .before .before in
+    let made = turn .before in
     let args = made .before .before .args in
     searched-found (turn .loop .inv) (search needs) (c .before .pairs-stand .ensures _ (made .pairs-ahead .ensures) (pairs-left (args .pairs .now) (args .i))) (c .if1 .taken)
 
@@ -50,7 +43,7 @@ loop-less c = search needs
 loop-again : tie.Need-loop-again Inv-loop μ-loop
 loop-again c =
     let turn = c .before .before .before in
-    let made = turn .before .before in
+    let made = turn .before in
     let args = made .before .before .args in
     searched-more (turn .loop .inv) (search needs) (c .before .pairs-stand .ensures _ (made .pairs-ahead .ensures) (pairs-left (args .pairs .now) (args .i))) (c .if1 .left)
 
@@ -65,7 +58,6 @@ standing-row-spec =
     μ-loop
     pairs-ahead-requires
     sub-left
-    first-row-requires
     loop-holds
     pairs-stand-requires
     returns
