@@ -1,4 +1,4 @@
--- `first_five` meets its contract: each group is a digit (Ahead). Assumes nothing.
+-- `first_five` meets its contract: each group is a digit (Five). Assumes nothing.
 use mathlib.Core.Path.{_≡_}
 use native.Mathlib.Omega.{arith}
 use borrow.Author.Needs.{needs}
@@ -6,7 +6,7 @@ use lib.ListN.{length}
 use Rattle.bits.specs.Bits.{bitsOf}
 use Rattle.demodulator.specs.Ahead.{groupsAt}
 use Rattle.demodulator.proofs.Groups.{length-groupsAt}
-use Rattle.demodulator.proofs.Ahead.{five-digits}
+use Rattle.demodulator.proofs.Five.{five-digits}
 use Rattle.demodulator.proofs.first_five.Statement.{statement}
 use Rattle.demodulator.proofs.first_five.Tie as tie
 

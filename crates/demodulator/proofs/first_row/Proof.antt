@@ -1,7 +1,7 @@
--- `first_row` meets its contract, by the next two groups (Ahead). Assumes nothing.
+-- `first_row` meets its contract, by the next two groups (Begin). Assumes nothing.
 use native.Mathlib.Omega.{arith}
 use borrow.Author.Needs.{needs}
-use Rattle.demodulator.proofs.Ahead.{first-two, none-at-all}
+use Rattle.demodulator.proofs.Begin.{first-two, none-at-all}
 use Rattle.demodulator.proofs.first_row.Statement.{statement}
 use Rattle.demodulator.proofs.first_row.Tie as tie
 

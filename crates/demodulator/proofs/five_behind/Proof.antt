@@ -1,4 +1,4 @@
--- `five_behind` meets its contract: a group a turn (Ahead). Assumes nothing.
+-- `five_behind` meets its contract: a group a turn (Five). Assumes nothing.
 use mathlib.Core.Path.{_≡_, subst}
 use Prim.Native.Nat.{ℕ, _≤_, _-_}
 use native.Mathlib.Omega.{arith}
@@ -7,7 +7,7 @@ use lib.ListN.{drop}
 use Rattle.bits.specs.Bits.{bitsOf}
 use Rattle.demodulator.specs.Ahead.{groupsAt, FiveAhead}
 use Rattle.demodulator.proofs.Groups.{length-groupsAt}
-use Rattle.demodulator.proofs.Ahead.{five-on}
+use Rattle.demodulator.proofs.Five.{five-on}
 use Rattle.demodulator.proofs.five_behind.Statement.{statement}
 use Rattle.demodulator.proofs.five_behind.Tie as tie
 
@@ -43,7 +43,8 @@ loop-again c =
     let turn = c .before .before in
     let args = turn .before .before .args in
     let gs = groupsAt (bitsOf (args .bytes .now)) (args .at) (args .left) in
-    (omega arith, five-on gs (turn .loop .j) (turn .loop .next) (c .group-ahead .result) (length-groupsAt (bitsOf (args .bytes .now)) (args .at) (args .left)) (turn .loop .inv .1) (c .group-ahead .ensures))
+    let size = length-groupsAt (bitsOf (args .bytes .now)) (args .at) (args .left) in
+    (omega arith, five-on gs (turn .loop .j) (turn .loop .next) (c .group-ahead .result) size (turn .loop .inv .1) (c .group-ahead .ensures))
 
 returns : tie.Need-returns Inv-loop μ-loop
 returns c =

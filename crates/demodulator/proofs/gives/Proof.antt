@@ -9,7 +9,7 @@ use lib.ListN.{length}
 use Rattle.bits.specs.Bits.{bitsOf}
 use Rattle.demodulator.specs.Ahead.{groupsAt, FiveAhead}
 use Rattle.demodulator.proofs.Groups.{length-groupsAt}
-use Rattle.demodulator.proofs.Ahead.{five-first, five-moved}
+use Rattle.demodulator.proofs.Five.{five-first, five-moved}
 use Rattle.demodulator.proofs.Comparing.{Comparing, comparing-none, comparing-not, comparing-more, comparing-all}
 use Rattle.demodulator.proofs.gives.Statement.{statement}
 use Rattle.demodulator.proofs.gives.Tie as tie

@@ -1,5 +1,5 @@
--- `groups_ahead` meets its contract (Ahead). Assumes nothing.
-use Rattle.demodulator.proofs.Ahead.{five-fronts}
+-- `groups_ahead` meets its contract (Five). Assumes nothing.
+use Rattle.demodulator.proofs.Five.{five-fronts}
 use Rattle.demodulator.proofs.groups_ahead.Statement.{statement}
 use Rattle.demodulator.proofs.groups_ahead.Tie as tie
 

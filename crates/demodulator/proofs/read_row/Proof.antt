@@ -9,7 +9,7 @@ use Rattle.modulation.specs.Modulation.{Three, rowAt}
 use Rattle.modulation.specs.Demodulator.{reads}
 use Rattle.modulator.proofs.Search.{Searched, searched-more, searched-found, searched-all}
 use Rattle.demodulator.specs.Ahead.{FiveAhead}
-use Rattle.demodulator.proofs.Ahead.{searched-reads}
+use Rattle.demodulator.proofs.Begin.{searched-reads}
 use Rattle.demodulator.proofs.Follow.{reading-found, reading-last}
 use Rattle.demodulator.proofs.read_row.Statement.{statement}
 use Rattle.demodulator.proofs.read_row.Tie as tie

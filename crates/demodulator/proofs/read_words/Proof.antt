@@ -1,12 +1,14 @@
 -- `read_words` meets its contract: a word a turn is read (Demodulating). Assumes nothing.
+use mathlib.Core.List.{List}
 use mathlib.Core.Path.{subst}
 use Prim.Native.Nat.{ℕ, _+_, _*_, _-_}
 use native.Mathlib.Omega.{arith}
 use borrow.Author.Needs.{needs}
 use lib.ListN.{length, drop}
 use Rattle.bits.specs.Bits.{bitsOf}
+use Rattle.modulation.specs.Modulation.{Three}
 use Rattle.demodulator.specs.Ahead.{groupsAt, FiveAhead}
-use Rattle.demodulator.proofs.Ahead.{five-first, five-moved}
+use Rattle.demodulator.proofs.Five.{five-first, five-moved}
 use Rattle.demodulator.proofs.Demodulating.{WordsRead, five-left, row-read, read-none, read-more, read-all}
 use Rattle.demodulator.proofs.read_words.Statement.{statement}
 use Rattle.demodulator.proofs.read_words.Tie as tie
@@ -78,8 +80,10 @@ loop-again c =
     let args = turn .before .before .before .before .args in
     let read = row-read (turn .loop .inv .0) (turn .loop .inv .1) (row .read-row .ensures) in
     let more = read-more (turn .loop .inv .0) (search needs) read (sized .row-len .ensures) (put .put-pairs .ensures) (sized .before .ends-in-one .ensures) in
-    let behind = subst (λ (n : ℕ). FiveAhead (drop (sized .row-len .result) (groupsAt (bitsOf (args .bytes .now)) (args .at + 3 * turn .loop .i) (n - turn .loop .i))) (c .five-behind .result)) (turn .loop .inv .0 .size) (c .five-behind .ensures) in
-    (more, five-moved (bitsOf (args .bytes .now)) (args .at) (length (args .pairs .now)) (turn .loop .i) (sized .row-len .result) (omega (arith, more .within)) behind)
+    let bits = bitsOf (args .bytes .now) in
+    let here : ℕ → List Three = λ n. drop (sized .row-len .result) (groupsAt bits (args .at + 3 * turn .loop .i) (n - turn .loop .i)) in
+    let behind = subst (λ (n : ℕ). FiveAhead (here n) (c .five-behind .result)) (turn .loop .inv .0 .size) (c .five-behind .ensures) in
+    (more, five-moved bits (args .at) (length (args .pairs .now)) (turn .loop .i) (sized .row-len .result) (omega (arith, more .within)) behind)
 
 same-length : tie.Need-same-length Inv-loop μ-loop
 same-length c = c .before .loop .inv .0 .size

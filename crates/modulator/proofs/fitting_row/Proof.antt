@@ -34,7 +34,8 @@ returns c =
     let start = first .before .before .before in
     let args = start .args in
     fitting (start .pre .1 .1)
-    (told-at (args .pairs .now) (args .i) (args .before) (start .pre .1 .0) (first .before .if1 .taken) (first .pair-ahead .ensures .0) (second .pair-ahead2 .ensures .0) (asked .told-row .ensures) (c .if2 .taken))
+    (told-at (args .pairs .now) (args .i) (args .before) (start .pre .1 .0) (first .before .if1 .taken)
+    (first .pair-ahead .ensures .0) (second .pair-ahead2 .ensures .0) (asked .told-row .ensures) (c .if2 .taken))
 
 searched-row-requires : tie.Need-searched-row-requires
 searched-row-requires c κs = search needs

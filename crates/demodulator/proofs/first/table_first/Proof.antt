@@ -1,7 +1,7 @@
--- `table_first` meets its contract: the table is right for each two groups (Ahead). Assumes nothing.
+-- `table_first` meets its contract: the table is right for each two groups (Begin). Assumes nothing.
 use native.Mathlib.Omega.{arith}
 use borrow.Author.Needs.{needs}
-use Rattle.demodulator.proofs.Ahead.{first-small, none-first}
+use Rattle.demodulator.proofs.Begin.{first-small, none-first}
 use Rattle.demodulator.proofs.first.table_first.Statement.{statement}
 use Rattle.demodulator.proofs.first.table_first.Tie as tie
 
