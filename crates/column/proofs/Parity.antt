@@ -1,16 +1,19 @@
 -- The laws of the parity, for every length of the message: the only r bytes that give the column its roots. Assumes nothing.
-use mathlib.Core.Path.{_≡_, sym, ap, _∙_, subst⁻¹}
-use mathlib.Core.Bool.{true}
+use mathlib.Core.Path.{_≡_, refl, sym, ap, _∙_, subst⁻¹}
+use mathlib.Core.Bool.{Bool, true, false, false≢true}
 use mathlib.Core.List.{List, _++_}
-use Prim.Native.Nat.{ℕ, _+_, _≤_}
+use Prim.Native.Nat.{ℕ, _+_, _<_, _≤_}
+use native.Mathlib.Nat.{not-suc-le-zero}
 use native.Mathlib.Omega.{arith}
-use lib.ListN.{length, take, drop, length-drop, take-append-drop}
+use borrow.Author.Count.{below-more}
+use lib.ListN.{length, getD, take, drop, length-drop, take-append-drop}
+use lib.Seq.{getD-drop, ext-getD}
 use Rattle.laws.specs.Bytes.{Bytes}
 use Rattle.laws.specs.Tabulate.{tabulate}
 use Rattle.laws.proofs.Bytes.{bytes-take, bytes-drop, bytes-tabulate}
 use Rattle.laws.proofs.Tabulate.{length-tabulate}
 use Rattle.field.specs.Field.{α, power}
-use Rattle.column.specs.Column.{value, Roots, hasRoots, Completes, IsParity, generator, remainder, parity}
+use Rattle.column.specs.Column.{value, Roots, hasRoots, Completes, IsParity, EndsIn, generator, remainder, parity}
 use Rattle.column.proofs.Value.{value-append, value-zeros}
 use Rattle.column.proofs.Generator.{coefficients-length, coefficients-roots}
 use Rattle.column.proofs.Division.{length-remainder, bytes-remainder, remainder-keeps}
@@ -75,3 +78,44 @@ test-parity r few n column bytes size test =
 pub test-column : (r : ℕ) → r ≤ 255 → (n : ℕ) (column : List ℕ) → Bytes column → length column ≡ n + r → hasRoots r column ≡ true
     → column ≡ take n column ++ parity r (take n column)
 test-column r few n column bytes size test = sym (take-append-drop n column) ∙ ap (_++_ (take n column)) (test-parity r few n column bytes size test)
+
+-- the test, by the parity of what stands before
+pub ends-test : (r n : ℕ) (column : List ℕ) → r ≤ 255 → Bytes column → length column ≡ n + r → {p : List ℕ} → p ≡ parity r (take n column)
+    → {answer : Bool} → EndsIn column n p answer → answer ≡ hasRoots r column
+ends-test r n column few bytes size {p} e {answer} ends = by answer (hasRoots r column) ends refl
+  where
+    right : drop n column ≡ p → hasRoots r column ≡ true
+    right same =
+        ap (hasRoots r) (sym (take-append-drop n column) ∙ ap (_++_ (take n column)) (same ∙ e))
+        ∙ parity-test r (take n column) (bytes-take n column bytes)
+
+    by : (a b : Bool) → EndsIn column n p a → hasRoots r column ≡ b → a ≡ b
+    by true true ends t = refl
+    by true false ends t = absurd (false≢true (sym t ∙ right (ends .same refl)))
+    by false true ends t = absurd (ends .other refl (test-parity r few n column bytes size t ∙ sym e))
+    by false false ends t = refl
+
+-- ---- in a loop
+
+-- the first j bytes behind the first n are p's
+pub record Agreeing (column : List ℕ) (n : ℕ) (p : List ℕ) (j : ℕ) : Type 0 where
+  pub within : j ≤ length p
+  pub agree : (k : ℕ) → k < j → getD column (n + k) 0 ≡ getD p k 0
+
+module _ {column : List ℕ} {n : ℕ} {p : List ℕ} where
+  pub agreeing-none : Agreeing column n p 0
+  agreeing-none = record { within = omega arith; agree = λ k h. absurd (not-suc-le-zero h) }
+
+  pub agreeing-more : {j : ℕ} → Agreeing column n p j → j < length p → getD column (n + j) 0 ≡ getD p j 0 → Agreeing column n p (j + 1)
+  agreeing-more {j} a h e = record { within = omega arith; agree = below-more (λ k. getD column (n + k) 0 ≡ getD p k 0) j (a .agree) e }
+
+  pub ends-not : (j : ℕ) → (getD column (n + j) 0 ≡ getD p j 0 → ⊥) → EndsIn column n p false
+  ends-not j other =
+      record { same = λ e. absurd (false≢true e); other = λ e same. other (sym (getD-drop n column j 0) ∙ ap (λ (l : List ℕ). getD l j 0) same) }
+
+  pub ends-all : {j : ℕ} → Agreeing column n p j → length p ≤ j → length column ≡ n + length p → EndsIn column n p true
+  ends-all {j} a h size =
+      record {
+        same = λ e. ext-getD 0 (drop n column) p (omega (arith, length-drop n column)) (λ k below. getD-drop n column k 0 ∙ a .agree k (omega (arith, length-drop n column)));
+        other = λ e same. false≢true (sym e);
+      }

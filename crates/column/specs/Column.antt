@@ -38,6 +38,11 @@ pub record IsParity (r : ℕ) (message p : List ℕ) : Type 0 where
   pub right : Completes r message p
   pub only : (q : List ℕ) → Completes r message q → q ≡ p
 
+-- whether the bytes behind the first n are p, as an answer
+pub record EndsIn (column : List ℕ) (n : ℕ) (p : List ℕ) (answer : Bool) : Type 0 where
+  pub same : answer ≡ true → drop n column ≡ p
+  pub other : answer ≡ false → drop n column ≡ p → ⊥
+
 -- ---- the generator polynomial, and the parity by division
 
 -- the sum of two columns of one length

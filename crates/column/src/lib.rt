@@ -1,11 +1,11 @@
 // 13.7, 13.12, 13.9.2.2: columns of the Reed-Solomon codes.
 use field::Gf;
 ghost use mathlib.Core.Path.{_≡_};
-ghost use Prim.Native.Nat.{_<_};
+ghost use Prim.Native.Nat.{_+_, _<_};
 ghost use lib.ListN.{length};
 ghost use Rattle.laws.specs.Tabulate.{tabulate};
 ghost use Rattle.field.specs.Tables.{AreTables};
-ghost use Rattle.column.specs.Column.{value, hasRoots, pushed, remainder, parity};
+ghost use Rattle.column.specs.Column.{value, hasRoots, EndsIn, pushed, remainder, parity};
 
 // The generator with 32 roots (formulas 30, 37), without its first coefficient, which is 1.
 const GENERATOR_32: [u8; 32] = [
@@ -118,8 +118,8 @@ fn value_at(powers: &[u8; 256], logs: &[u8; 256], column: &[u8], x: Gf) -> Gf
     v
 }
 
-// Whether the column has the roots α^0 to α^(count - 1).
-pub fn has_roots(column: &[u8], count: u8) -> bool
+// Whether the column has the roots α^0 to α^(count - 1), tried one by one.
+fn has_each_root(column: &[u8], count: u8) -> bool
     ensures { λ r. ⌜ r ≡ hasRoots count (now (column .entry)) ⌝ }
 {
     let powers = field::powers();
@@ -133,4 +133,47 @@ pub fn has_roots(column: &[u8], count: u8) -> bool
         i += 1;
     }
     true
+}
+
+fn no_parity() -> [u8; 32]
+    ensures { λ r. ⌜ length r ≡ 32 ⌝ }
+{
+    [0u8; 32]
+}
+
+// Whether the bytes behind the first n are the ones given.
+fn ends_in(column: &[u8], n: usize, parity: &[u8; 32]) -> bool
+    requires { ⌜ (length (now parity) ≡ 32) × (length (now column) ≡ n + 32) ⌝ }
+    ensures { λ r. ⌜ EndsIn (now (column .entry)) n (now (parity .entry)) r ⌝ }
+{
+    let mut j = 0;
+    while j < 32 {
+        if column[n + j] != parity[j] {
+            return false;
+        }
+        j += 1;
+    }
+    true
+}
+
+// Whether a column of n bytes and 32 more has its 32 roots: whether these are the parity of those.
+fn ends_in_parity(column: &[u8], n: usize) -> bool
+    requires { ⌜ length (now column) ≡ n + 32 ⌝ }
+    ensures { λ r. ⌜ r ≡ hasRoots 32 (now (column .entry)) ⌝ }
+{
+    let mut parity = no_parity();
+    parity_32(&column[..n], &mut parity);
+    ends_in(column, n, &parity)
+}
+
+// Whether the column has the roots α^0 to α^(count - 1).
+pub fn has_roots(column: &[u8], count: u8) -> bool
+    ensures { λ r. ⌜ r ≡ hasRoots count (now (column .entry)) ⌝ }
+{
+    if count == 32 {
+        if 32 <= column.len() {
+            return ends_in_parity(column, column.len() - 32);
+        }
+    }
+    has_each_root(column, count)
 }

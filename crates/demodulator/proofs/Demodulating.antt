@@ -18,7 +18,7 @@ use Rattle.modulator.specs.Rows.{Sized}
 use Rattle.modulator.proofs.Rows.{row-sized}
 use Rattle.modulator.proofs.Search.{first-cases}
 use Rattle.modulator.proofs.Writing.{Left, left-none, left-more, left-all}
-use Rattle.demodulator.specs.Ahead.{groupsAt, Reading}
+use Rattle.demodulator.specs.Ahead.{groupsAt, FiveAhead, Reading}
 use Rattle.demodulator.proofs.Groups.{length-groupsAt, groupsAt-drop}
 use Rattle.demodulator.proofs.Follow.{reading-found, reading-last}
 
@@ -79,6 +79,15 @@ module _ {c : List ℕ} {at : ℕ} {before hash : Bool} {first : List ℕ} where
   module _ {l : List ℕ} {b : Bool} {i : ℕ} (m : WordsRead c at before hash first l b i) where
     gs : List Three
     gs = groupsAt c at (length first)
+
+    -- the next five groups are those at place i
+    pub five-left : {five : ℕ} → FiveAhead (groupsAt c (at + 3 * i) (length first - i)) five → FiveAhead (groupsAt c (at + 3 * i) (length l - i)) five
+    five-left {five} ahead = subst (λ (n : ℕ). FiveAhead (groupsAt c (at + 3 * i) (n - i)) five) (sym (m .size)) ahead
+
+    pub row-read : {five k : ℕ} → FiveAhead (groupsAt c (at + 3 * i) (length first - i)) five
+        → ((gs : List Three) → FiveAhead gs five → length gs ≡ length l - i → Reading b hash gs (length l - i) k)
+        → Reading b hash (groupsAt c (at + 3 * i) (length l - i)) (length l - i) k
+    row-read ahead read = read (groupsAt c (at + 3 * i) (length l - i)) (five-left ahead) (length-groupsAt c (at + 3 * i) (length l - i))
 
     pub read-more : {k n : ℕ} {after : List ℕ} {b′ : Bool} → i < length first → Reading b hash (groupsAt c (at + 3 * i) (length l - i)) (length l - i) k → Sized k n
         → after ≡ sets l i (numbers (rowAt k .pairs)) → b′ ≡ nextBit (rowAt k) → WordsRead c at before hash first after b′ (i + n)

@@ -2,10 +2,10 @@
 use mathlib.Core.Bool.{Bool, true, false}
 use mathlib.Core.List.{List, [], _∷_}
 use mathlib.Core.Path.{_≡_}
-use Prim.Native.Nat.{ℕ, zero, suc, _+_, _*_, _<_, _≤_}
+use Prim.Native.Nat.{ℕ, zero, suc, _+_, _*_, _/_, _%_, _<_, _≤_}
 use lib.ListN.{length, getD, take}
 use Rattle.bits.specs.Bits.{number}
-use Rattle.modulation.specs.Modulation.{Three, threeNumber, rowAt, Modulated}
+use Rattle.modulation.specs.Modulation.{Three, m000, threeNumber, rowAt, starts, Modulated}
 use Rattle.modulation.specs.Bits.{bits, three}
 use Rattle.modulation.specs.Demodulator.{rowRead}
 use Rattle.modulator.specs.Ahead.{Fronts}
@@ -27,6 +27,19 @@ frameAt b p n hash = record { groups = groupsAt b p n; terminated = hash }
 -- the modulation bits of the next 0 to 5 groups
 abbrev pub GroupsAhead : List Three → List ℕ → Type 0
 GroupsAhead gs f = Fronts 6 (length gs) (λ n. number (bits (take n gs))) f
+
+-- the next five groups, as far as they go, are the digits of a number
+pub record FiveAhead (gs : List Three) (five : ℕ) : Type 0 where
+  pub small : five < 32768
+  pub first : 0 < length gs → five / 4096 ≡ threeNumber (getD gs 0 m000)
+  pub second : 1 < length gs → five / 512 % 8 ≡ threeNumber (getD gs 1 m000)
+  pub third : 2 < length gs → five / 64 % 8 ≡ threeNumber (getD gs 2 m000)
+  pub fourth : 3 < length gs → five / 8 % 8 ≡ threeNumber (getD gs 3 m000)
+  pub fifth : 4 < length gs → five % 8 ≡ threeNumber (getD gs 4 m000)
+
+-- of the rows below r, none has groups that stand at the front of gs
+pub record NoneBelow (gs : List Three) (r : ℕ) : Type 0 where
+  pub none : (k : ℕ) → k < r → starts threeNumber (rowAt k .groups) gs ≡ false
 
 -- the number of the first group; 8 where the frame ends
 abbrev pub nextNumber : List Three → ℕ

@@ -2,7 +2,7 @@
 use mathlib.Core.Bool.{Bool, false, Bool·beq}
 use mathlib.Core.List.{List, [], _∷_}
 use mathlib.Core.Path.{_≡_, refl, sym, ap, subst, _∙_}
-use Prim.Native.Nat.{ℕ, _*_, _-_, _/_, _%_, _^_, _<_}
+use Prim.Native.Nat.{ℕ, zero, suc, _+_, _*_, _-_, _/_, _%_, _^_, _<_}
 use native.Mathlib.Nat.{not-suc-le-zero}
 use native.Mathlib.Omega.{arith}
 use borrow.Author.Tests.{lt-ltb}
@@ -16,7 +16,7 @@ use Rattle.modulation.proofs.Tests.{implies, given, beq-same}
 use Rattle.modulator.specs.declared.Row.{Row as CodeRow}
 use Rattle.modulator.specs.declared.When.{When as CodeWhen}
 use Rattle.modulator.specs.declared.When.the-variants.{Always, AfterOne, AfterZero, Before010, AtEnd}
-use Rattle.modulator.specs.Rows.{Sized, codedWhen, coded}
+use Rattle.modulator.specs.Rows.{Sized, codedWhen, coded, whenNumber, whenAt, packed}
 
 pub row-sized : (k : ℕ) → k < 16 → Sized k (length (rowAt k .pairs))
 unfolding all
@@ -88,3 +88,68 @@ module _ (k : ℕ) (r : CodeRow) (h : k < 16) (e : r ≡ coded (rowAt k)) where
 
   pub code-terminates : {w : CodeWhen} → r .3 ≡ w → terminates (whenOf w) ≡ terminates (rowAt k .when)
   code-terminates q = ap (λ (w : CodeWhen). terminates (whenOf w)) (sym q) ∙ ap terminates (sym code-when)
+
+-- ---- rows as numbers
+
+pub when-last : (n : ℕ) → 3 < n → AtEnd ≡ whenAt n
+when-last zero h = absurd (omega arith)
+when-last (suc zero) h = absurd (omega arith)
+when-last (suc (suc zero)) h = absurd (omega arith)
+when-last (suc (suc (suc zero))) h = absurd (omega arith)
+when-last (suc (suc (suc (suc n)))) h = refl
+
+when-told : (w : CodeWhen) → whenAt (whenNumber w) ≡ w
+when-told Always = refl
+when-told AfterOne = refl
+when-told AfterZero = refl
+when-told Before010 = refl
+when-told AtEnd = refl
+
+when-below : (w : CodeWhen) → whenNumber w < 8
+when-below Always = omega arith
+when-below AfterOne = omega arith
+when-below AfterZero = omega arith
+when-below Before010 = omega arith
+when-below AtEnd = omega arith
+
+-- what the four parts are of which a number is made
+module _ (a w d m v : ℕ) (e : v ≡ 0x800000 * a + 0x100000 * w + 0x1000 * d + m) (hw : w < 8) (hd : d < 256) (hm : m < 0x1000) where
+  part-size : v / 0x800000 ≡ a
+  part-size = omega arith
+
+  part-when : v / 0x100000 % 8 ≡ w
+  part-when =
+      let above : v / 0x100000 ≡ 8 * a + w = omega arith in
+      let rest : (8 * a + w) % 8 ≡ w = omega arith in
+      ap (λ (x : ℕ). x % 8) above ∙ rest
+
+  part-pairs : v / 0x1000 % 256 ≡ d
+  part-pairs =
+      let above : v / 0x1000 ≡ 256 * (8 * a + w) + d = omega arith in
+      let rest : (256 * (8 * a + w) + d) % 256 ≡ d = omega arith in
+      ap (λ (x : ℕ). x % 256) above ∙ rest
+
+  part-groups : v % 0x1000 ≡ m
+  part-groups = omega arith
+
+-- a number's parts are the row that was packed
+module _ (k v : ℕ) (h : k < 16) (e : v ≡ packed (coded (rowAt k))) where
+  below-256 : number (dataBits (rowAt k .pairs)) < 256
+  unfolding all number
+  below-256 = bounded-below 16 256 (λ k. number (dataBits (rowAt k .pairs))) tt k h
+
+  below-4096 : number (bits (rowAt k .groups)) < 4096
+  unfolding all number
+  below-4096 = bounded-below 16 4096 (λ k. number (bits (rowAt k .groups))) tt k h
+
+  pub unpacked-size : v / 0x800000 ≡ length (rowAt k .pairs)
+  unpacked-size = part-size _ _ _ _ v e (when-below (codedWhen (rowAt k .when))) below-256 below-4096
+
+  pub unpacked : {w : CodeWhen} → w ≡ whenAt (v / 0x100000 % 8) → _≡_ {A = CodeRow} (v / 0x800000, v / 0x1000 % 256, v % 0x1000, w) (coded (rowAt k))
+  unpacked {w} q =
+      let when = codedWhen (rowAt k .when) in
+      let told = part-when _ _ _ _ v e (when-below when) below-256 below-4096 in
+      let pairs = part-pairs _ _ _ _ v e (when-below when) below-256 below-4096 in
+      let groups = part-groups _ _ _ _ v e (when-below when) below-256 below-4096 in
+      let condition : w ≡ when = q ∙ ap whenAt told ∙ when-told when in
+      λ j. (unpacked-size j, pairs j, groups j, condition j)

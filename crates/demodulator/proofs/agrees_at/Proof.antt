@@ -27,31 +27,31 @@ returns : tie.Need-returns
 returns c = λ gs e.
     let row = c .before .before in
     let start = row .before in
-    agrees-if (start .args .k) (row .row-at .result) (start .pre) (row .row-at .ensures) (start .args .before) gs (c .enum-told .given .1) refl
+    agrees-if (start .args .k) (row .row-at .result) (start .pre .1) (row .row-at .ensures) (start .args .before) gs (c .enum-told .given .1) refl
 
 returns-2 : tie.Need-returns-2
 returns-2 c = λ gs e.
     let row = c .before .before in
     let start = row .before in
-    agrees-if (start .args .k) (row .row-at .result) (start .pre) (row .row-at .ensures) (start .args .before) gs (c .enum-told2 .given .1) refl
+    agrees-if (start .args .k) (row .row-at .result) (start .pre .1) (row .row-at .ensures) (start .args .before) gs (c .enum-told2 .given .1) refl
 
 returns-3 : tie.Need-returns-3
 returns-3 c = λ gs e.
     let row = c .before .before in
     let start = row .before in
-    agrees-if (start .args .k) (row .row-at .result) (start .pre) (row .row-at .ensures) (start .args .before) gs (c .enum-told3 .given .1) refl
+    agrees-if (start .args .k) (row .row-at .result) (start .pre .1) (row .row-at .ensures) (start .args .before) gs (c .enum-told3 .given .1) refl
 
 returns-4 : tie.Need-returns-4
 returns-4 c = λ gs e.
     let row = c .before .before in
     let start = row .before in
-    agrees-if (start .args .k) (row .row-at .result) (start .pre) (row .row-at .ensures) (start .args .before) gs (c .enum-told4 .given .1) (agrees-010 (start .args .k) (row .row-at .result) (start .pre) (row .row-at .ensures) (start .args .before) gs e)
+    agrees-if (start .args .k) (row .row-at .result) (start .pre .1) (row .row-at .ensures) (start .args .before) gs (c .enum-told4 .given .1) (agrees-010 (start .args .k) (row .row-at .result) (start .pre .1) (row .row-at .ensures) (start .args .before) gs e)
 
 returns-5 : tie.Need-returns-5
 returns-5 c = λ gs e.
     let row = c .before .before in
     let start = row .before in
-    agrees-if (start .args .k) (row .row-at .result) (start .pre) (row .row-at .ensures) (start .args .before) gs (c .enum-told5 .given .1) (agrees-end (start .args .k) (row .row-at .result) (start .pre) (row .row-at .ensures) (start .args .before) gs e)
+    agrees-if (start .args .k) (row .row-at .result) (start .pre .1) (row .row-at .ensures) (start .args .before) gs (c .enum-told5 .given .1) (agrees-end (start .args .k) (row .row-at .result) (start .pre .1) (row .row-at .ensures) (start .args .before) gs e)
 
 pub agrees-at-spec : {M : Type 1} → statement M
 agrees-at-spec =

@@ -10,10 +10,10 @@ use Rattle.demodulator.proofs.put_pairs.Statement.{statement}
 use Rattle.demodulator.proofs.put_pairs.Tie as tie
 
 abbrev Inv-loop : tie.InvT-loop
-Inv-loop k pairs₀ i len j₀ pairs j = Sized k len × PairsWritten pairs₀ i (rowAt k .pairs) pairs j
+Inv-loop rows k pairs₀ i len j₀ pairs j = Sized k len × PairsWritten pairs₀ i (rowAt k .pairs) pairs j
 
 abbrev μ-loop : tie.MeasureT-loop
-μ-loop k pairs₀ i len j₀ pairs j = len - j
+μ-loop rows k pairs₀ i len j₀ pairs j = len - j
 
 row-len-requires : tie.Need-row-len-requires Inv-loop μ-loop
 row-len-requires c κs = search needs
@@ -22,7 +22,7 @@ loop-holds : tie.Need-loop-holds Inv-loop μ-loop
 loop-holds c = (c .row-len .ensures, pairs-none)
 
 pair-of-requires : tie.Need-pair-of-requires Inv-loop μ-loop
-pair-of-requires c κs = omega arith
+pair-of-requires c κs = (search needs, omega arith)
 
 add-pairs : tie.Need-add-pairs Inv-loop μ-loop
 add-pairs c = omega arith

@@ -15,11 +15,11 @@ allowed-at-requires : tie.Need-allowed-at-requires
 allowed-at-requires c κs =
     let tested = c .before in
     let start = tested .before .before in
-    let args = start .args in (
-      start .pre .0,
-      fits-within (args .k) (args .pairs .now) (args .i) (args .before)
-          (tested .pairs-stand .ensures _ (start .pre .1 .1) (pairs-left (args .pairs .now) (args .i))) (c .if1 .taken) (start .pre .1 .0),
-    )
+    let args = start .args in
+    let there =
+    fits-within (args .k) (args .pairs .now) (args .i) (args .before)
+    (tested .pairs-stand .ensures _ (start .pre .1 .1 .1) (pairs-left (args .pairs .now) (args .i))) (c .if1 .taken) (start .pre .1 .1 .0) in
+    (start .pre .0, (start .pre .1 .0, there))
 
 returns : tie.Need-returns
 returns c =
@@ -27,7 +27,7 @@ returns c =
     let start = tested .before .before in
     let args = start .args in
     fits-if (args .k) (args .pairs .now) (args .i) (args .before)
-    (tested .pairs-stand .ensures _ (start .pre .1 .1) (pairs-left (args .pairs .now) (args .i))) (c .before .if1 .taken) (c .allowed-at .ensures)
+    (tested .pairs-stand .ensures _ (start .pre .1 .1 .1) (pairs-left (args .pairs .now) (args .i))) (c .before .if1 .taken) (c .allowed-at .ensures)
 
 returns-2 : tie.Need-returns-2
 returns-2 c =
@@ -35,7 +35,7 @@ returns-2 c =
     let start = tested .before .before in
     let args = start .args in
     fits-not (args .k) (args .pairs .now) (args .i) (args .before)
-    (tested .pairs-stand .ensures _ (start .pre .1 .1) (pairs-left (args .pairs .now) (args .i))) (c .if1 .left)
+    (tested .pairs-stand .ensures _ (start .pre .1 .1 .1) (pairs-left (args .pairs .now) (args .i))) (c .if1 .left)
 
 pub fits-at-spec : {M : Type 1} → statement M
 fits-at-spec =

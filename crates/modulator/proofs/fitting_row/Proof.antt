@@ -1,56 +1,59 @@
--- `fitting_row` meets its contract: a search through the rows (Search), of which some row fits (Modulating). Assumes nothing.
-use mathlib.Core.List.{tail}
-use Prim.Native.Nat.{_-_}
+-- `fitting_row` meets its contract: two pairs tell the row (Told), or a search does. Assumes nothing.
 use borrow.Author.Needs.{needs}
-use lib.ListN.{drop}
-use Rattle.modulation.specs.Modulation.{rowAt, fits, modulateFrom}
-use Rattle.modulation.specs.Pairs.{twos}
-use Rattle.modulator.proofs.Search.{Searched, searched-none, searched-more, searched-found, searched-all}
+use Rattle.modulator.proofs.Told.{told-at}
 use Rattle.modulator.proofs.Modulating.{fitting}
 use Rattle.modulator.proofs.fitting_row.Statement.{statement}
 use Rattle.modulator.proofs.fitting_row.Tie as tie
 
-abbrev Inv-loop : tie.InvT-loop
-Inv-loop pairs i before ahead k₀ k = Searched (λ k. fits (rowAt k) before (drop i (twos pairs)) (modulateFrom (tail (drop i (twos pairs))))) 16 k
+sub-if1 : tie.Need-sub-if1
+sub-if1 c = search needs
 
-abbrev μ-loop : tie.MeasureT-loop
-μ-loop pairs i before ahead k₀ k = 16 - k
+pair-ahead-requires : tie.Need-pair-ahead-requires
+pair-ahead-requires c κs = search needs
 
-pairs-ahead-requires : tie.Need-pairs-ahead-requires Inv-loop μ-loop
-pairs-ahead-requires c κs = search needs
+mul-two : tie.Need-mul-two
+mul-two c = search needs
 
-loop-holds : tie.Need-loop-holds Inv-loop μ-loop
-loop-holds c = searched-none
+pair-ahead-requires-2 : tie.Need-pair-ahead-requires-2
+pair-ahead-requires-2 c κs = search needs
 
-fits-at-requires : tie.Need-fits-at-requires Inv-loop μ-loop
-fits-at-requires c κs = search needs
+add-two : tie.Need-add-two
+add-two c = search needs
 
-returns : tie.Need-returns Inv-loop μ-loop
-returns c = fitting (search needs) (searched-found (c .before .before .before .loop .inv) (search needs) (c .before .fits-at .ensures) (c .if1 .taken))
+cast-told-row : tie.Need-cast-told-row
+cast-told-row c = search needs
 
-add-k : tie.Need-add-k Inv-loop μ-loop
-add-k c = search needs
+told-row-requires : tie.Need-told-row-requires
+told-row-requires c κs = search needs
 
-loop-less : tie.Need-loop-less Inv-loop μ-loop
-loop-less c = search needs
+returns : tie.Need-returns
+returns c =
+    let asked = c .before in
+    let second = asked .before in
+    let first = second .before in
+    let start = first .before .before .before in
+    let args = start .args in
+    fitting (start .pre .1 .1)
+    (told-at (args .pairs .now) (args .i) (args .before) (start .pre .1 .0) (first .before .if1 .taken)
+    (first .pair-ahead .ensures .0) (second .pair-ahead2 .ensures .0) (asked .told-row .ensures) (c .if2 .taken))
 
-loop-again : tie.Need-loop-again Inv-loop μ-loop
-loop-again c = searched-more (c .before .before .before .loop .inv) (search needs) (c .before .fits-at .ensures) (c .if1 .left)
+searched-row-requires : tie.Need-searched-row-requires
+searched-row-requires c κs = search needs
 
-returns-2 : tie.Need-returns-2 Inv-loop μ-loop
-returns-2 c = fitting (search needs) (searched-all (c .before .loop .inv) (c .loop-test .left))
+returns-2 : tie.Need-returns-2
+returns-2 c = search needs
 
 pub fitting-row-spec : {M : Type 1} → statement M
 fitting-row-spec =
     tie.close
     (tie.spec
-    Inv-loop
-    μ-loop
-    pairs-ahead-requires
-    loop-holds
-    fits-at-requires
+    sub-if1
+    pair-ahead-requires
+    mul-two
+    pair-ahead-requires-2
+    add-two
+    cast-told-row
+    told-row-requires
     returns
-    add-k
-    loop-less
-    loop-again
+    searched-row-requires
     returns-2)

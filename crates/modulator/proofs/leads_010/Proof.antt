@@ -6,12 +6,12 @@ use Rattle.modulator.proofs.leads_010.Statement.{statement}
 use Rattle.modulator.proofs.leads_010.Tie as tie
 
 group-of-requires : tie.Need-group-of-requires
-group-of-requires c κs = omega (arith, row-sized (c .args .k) (c .pre))
+group-of-requires c κs = (c .pre .0, omega (arith, row-sized (c .args .k) (c .pre .1)))
 
 returns : tie.Need-returns
 returns c =
     let k = c .before .args .k in
-    first-010 (rowAt k .groups) (c .group-of .result) (omega (arith, row-sized k (c .before .pre))) (c .group-of .ensures)
+    first-010 (rowAt k .groups) (c .group-of .result) (omega (arith, row-sized k (c .before .pre .1))) (c .group-of .ensures)
 
 pub leads-010-spec : {M : Type 1} → statement M
 leads-010-spec = tie.close (tie.spec group-of-requires returns)

@@ -9,10 +9,13 @@ use Rattle.modulator.proofs.modulate.Statement.{statement}
 use Rattle.modulator.proofs.modulate.Tie as tie
 
 abbrev Inv-loop : tie.InvT-loop
-Inv-loop pairs before out₀ at b₀ terminated₀ i₀ out b terminated i = Modulating pairs before out₀ at out b terminated i
+Inv-loop pairs before out₀ at rows b₀ terminated₀ i₀ out b terminated i = Modulating pairs before out₀ at out b terminated i
 
 abbrev μ-loop : tie.MeasureT-loop
-μ-loop pairs before out₀ at b₀ terminated₀ i₀ out b terminated i = length pairs - i
+μ-loop pairs before out₀ at rows b₀ terminated₀ i₀ out b terminated i = length pairs - i
+
+packed-rows-requires : tie.Need-packed-rows-requires Inv-loop μ-loop
+packed-rows-requires c κs = search needs
 
 loop-holds : tie.Need-loop-holds Inv-loop μ-loop
 loop-holds c = modulating-none
@@ -46,11 +49,12 @@ loop-less c = search needs
 
 loop-again : tie.Need-loop-again Inv-loop μ-loop
 loop-again c =
-    let ended = c .before .before in
-    let wrote = ended .before .before .before in
-    let found = wrote .before .before in
-    let turn = found .before .before in
-    modulating-more (turn .loop .inv) (search needs) (found .fitting-row .ensures) (c .row-len .ensures) (wrote .write-row .ensures) (c .before .ends-in-one .ensures) (ap (λ (x : Bool). turn .loop .terminated || x) (ended .is-terminating .ensures))
+    let last = c .before .before in
+    let ended = last .before .before in
+    let wrote = ended .before .before .before .before in
+    let found = wrote .before .before .before in
+    let turn = found .before .before .before in
+    modulating-more (turn .loop .inv) (search needs) (found .fitting-row .ensures) (c .row-len .ensures) (wrote .write-row .ensures) (last .ends-in-one .ensures) (ap (λ (x : Bool). turn .loop .terminated || x) (ended .is-terminating .ensures))
 
 same-length : tie.Need-same-length Inv-loop μ-loop
 same-length c = modulating-length (c .before .loop .inv)
@@ -64,6 +68,7 @@ modulate-spec =
     (tie.spec
     Inv-loop
     μ-loop
+    packed-rows-requires
     loop-holds
     fitting-row-requires
     mul-write-row

@@ -10,10 +10,10 @@ use Rattle.modulator.proofs.standing_row.Statement.{statement}
 use Rattle.modulator.proofs.standing_row.Tie as tie
 
 abbrev Inv-loop : tie.InvT-loop
-Inv-loop pairs i ahead left k₀ k = Searched (λ k. starts twoNumber (rowAt k .pairs) (drop i (twos pairs))) 16 k
+Inv-loop rows pairs i ahead left k₀ k = Searched (λ k. starts twoNumber (rowAt k .pairs) (drop i (twos pairs))) 16 k
 
 abbrev μ-loop : tie.MeasureT-loop
-μ-loop pairs i ahead left k₀ k = 16 - k
+μ-loop rows pairs i ahead left k₀ k = 16 - k
 
 pairs-ahead-requires : tie.Need-pairs-ahead-requires Inv-loop μ-loop
 pairs-ahead-requires c κs = search needs

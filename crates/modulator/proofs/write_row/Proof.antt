@@ -9,10 +9,10 @@ use Rattle.modulator.proofs.write_row.Statement.{statement}
 use Rattle.modulator.proofs.write_row.Tie as tie
 
 abbrev Inv-loop : tie.InvT-loop
-Inv-loop k out₀ at len j₀ out j = Sized k len × GroupsWritten out₀ at (rowAt k .groups) out j
+Inv-loop rows k out₀ at len j₀ out j = Sized k len × GroupsWritten out₀ at (rowAt k .groups) out j
 
 abbrev μ-loop : tie.MeasureT-loop
-μ-loop k out₀ at len j₀ out j = len - j
+μ-loop rows k out₀ at len j₀ out j = len - j
 
 row-len-requires : tie.Need-row-len-requires Inv-loop μ-loop
 row-len-requires c κs = search needs
@@ -27,7 +27,7 @@ add-write-three : tie.Need-add-write-three Inv-loop μ-loop
 add-write-three c = omega arith
 
 group-of-requires : tie.Need-group-of-requires Inv-loop μ-loop
-group-of-requires c κs = omega arith
+group-of-requires c κs = (search needs, omega arith)
 
 write-three-requires : tie.Need-write-three-requires Inv-loop μ-loop
 write-three-requires c κs = search needs
