@@ -2,3 +2,4 @@
 pub mod Counting
 pub mod FrameCounted
 pub mod TallyCases
+pub mod Neighbours
