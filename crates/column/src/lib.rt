@@ -46,17 +46,6 @@ const GENERATOR_32: [u8; 32] = [
 // The generator with 4 roots (formula 33), likewise.
 const GENERATOR_4: [u8; 4] = [15, 54, 120, 64];
 
-// Zeros in every place of the register.
-fn clear(register: &mut [u8])
-    ensures { λ r. ⌜ now (register .exit) ≡ tabulate (length (now (register .entry))) (λ _. 0) ⌝ }
-{
-    let mut i = 0;
-    while i < register.len() {
-        register[i] = 0;
-        i += 1;
-    }
-}
-
 // One byte into the register.
 fn push(powers: &[u8; 256], logs: &[u8; 256], generator: &[u8], register: &mut [u8], byte: u8)
     requires { ⌜ AreTables (now powers) (now logs) ⌝ }
@@ -82,7 +71,7 @@ fn divide(generator: &[u8], message: &[u8], register: &mut [u8])
 {
     let powers = field::powers();
     let logs = field::logs();
-    clear(register);
+    slices::clear(register);
     let mut i = 0;
     while i < message.len() {
         push(&powers, &logs, generator, register, message[i]);

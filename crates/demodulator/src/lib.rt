@@ -227,16 +227,6 @@ fn gives(rows: &PackedRows, bytes: &[u8], at: usize, before: bool, hash: bool, p
     terminated == hash
 }
 
-fn clear(pairs: &mut [u8])
-    ensures { λ _. ⌜ now (pairs .exit) ≡ tabulate (length (now (pairs .entry))) (λ _. 0) ⌝ }
-{
-    let mut i = 0;
-    while i < pairs.len() {
-        pairs[i] = 0;
-        i += 1;
-    }
-}
-
 // The groups of a frame from bit `at` on, demodulated, as many as `pairs` has places: `before` is the bit in front of them and `hash` # of
 // the next sync. Answers whether there are data bits that give them; where there are none, `pairs` is cleared.
 pub fn demodulate(bytes: &[u8], at: usize, before: bool, hash: bool, pairs: &mut [u8]) -> bool
@@ -248,6 +238,6 @@ pub fn demodulate(bytes: &[u8], at: usize, before: bool, hash: bool, pairs: &mut
     if gives(&rows, bytes, at, before, hash, pairs) {
         return true;
     }
-    clear(pairs);
+    slices::clear(pairs);
     false
 }
