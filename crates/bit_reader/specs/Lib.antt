@@ -1,0 +1,2 @@
+-- The image reader.
+pub mod Reader
