@@ -161,7 +161,7 @@ pub fn load(i: usize, bytes: &mut [u8]) -> bool {
 // The same, but `-` leaves the bytes as they are.
 pub fn load_unless_dash(i: usize, bytes: &mut [u8]) -> bool {
     let mut name = io::buffer();
-    let n = file_name(i, &mut name);
+    let n = os::arg(i, &mut name);
     if notation::is_dash(&name[..n]) {
         return true;
     }

@@ -1,11 +1,10 @@
 // Writer and reader on whole images: the clusters of an independent program both ways, its damaged images, round trips, and each refusal.
-mod damage;
-mod lent;
-mod reading;
-mod trips;
-mod writing;
-
 use address::Psn;
+use image_trials::damage;
+use image_trials::lent;
+use image_trials::reading;
+use image_trials::trips;
+use image_trials::writing;
 
 // A cluster of files, written and read.
 fn both_ways(

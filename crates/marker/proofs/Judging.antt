@@ -85,9 +85,9 @@ read-sizes image before e = lengths-done _ _ _ _ _ (by (isDone (sizesAnswer imag
     by true s e = done-is (sizesAnswer image before) s
     by false s e = sym (ap (λ (t : Bool). cond t (judgedOutcome (bitsOf image) before) (record { answer = sizesAnswer image before; psn = 0; lent = before }) .answer) s) ∙ e
 
-pub sizes : (image : List ℕ) (before : Lent) {a : Answer} {p : ℕ} {l : Lent} {d : Bool} → record { answer = a; psn = p; lent = l } ≡ outcome image before → d ≡ isDone a → d ≡ true
+pub sizes : (image : List ℕ) (before : Lent) {a : Answer} {p : ℕ} (l : Lent) {d : Bool} → record { answer = a; psn = p; lent = l } ≡ outcome image before → d ≡ isDone a → d ≡ true
     → Sizes (length (before .user)) (length (before .side)) (length (before .dc)) (length image) (length (before .work))
-sizes image before e hd t = read-sizes image before (sym (ap (λ (o : Outcome). o .answer) e) ∙ done-is _ (sym hd ∙ t))
+sizes image before l e hd t = read-sizes image before (sym (ap (λ (o : Outcome). o .answer) e) ∙ done-is _ (sym hd ∙ t))
 
 pub given-right : (user side : ℕ) {g : Answer} {d : Bool} → g ≡ givenAnswer user side → d ≡ isDone g → d ≡ true → (user ≡ 65536) × (side ≡ 592)
 given-right user side hg hd t = by (eqb user 65536) (eqb side 592) refl refl (sym (ap isDone hg) ∙ sym hd ∙ t)

@@ -12,7 +12,9 @@ is-done-requires : tie.Need-is-done-requires
 is-done-requires c κs = search needs
 
 mark-sized-requires : tie.Need-mark-sized-requires
-mark-sized-requires c κs = given-right _ _ (c .before .before .before .before .before .before .judge-given .ensures) (c .before .before .before .before .before .is-done .ensures) (c .before .before .before .before .if1 .taken)
+mark-sized-requires c κs =
+    let test = c .before .before .before .before in
+    given-right _ _ (test .before .before .judge-given .ensures) (test .before .is-done .ensures) (test .if1 .taken)
 
 same-length : tie.Need-same-length
 same-length c = search needs
@@ -27,10 +29,15 @@ same-length-4 : tie.Need-same-length-4
 same-length-4 c = search needs
 
 returns : tie.Need-returns
-returns c = with-pass _ _ _ _ _ _ _ (λ k. c .before .before .before .before .before .before .before .before .before .before .before .before .before .before .before .before .before .before .before .before .shared-slice-known3 .given k .fits) (search (is-marked))
+returns c =
+    let test = c .before .before .before .before .before .before .before .before .before in
+    let start = test .before .before .before .before .before .before .before .before .before .before .before in
+    with-pass _ _ _ _ _ _ _ (λ k. start .shared-slice-known3 .given k .fits) (search (is-marked))
 
 returns-2 : tie.Need-returns-2
-returns-2 c = with-pass _ _ _ _ _ _ _ (λ k. c .before .before .before .before .before .before .before .shared-slice-known3 .given k .fits) (search (is-wrong))
+returns-2 c =
+    let start = c .before .before .before .before .before .before .before in
+    with-pass _ _ _ _ _ _ _ (λ k. start .shared-slice-known3 .given k .fits) (search (is-wrong))
 
 pub mark-spec : {M : Type 1} → statement M
 mark-spec =

@@ -11,7 +11,17 @@ is-done-requires : tie.Need-is-done-requires
 is-done-requires c κs = search needs
 
 compare-requires : tie.Need-compare-requires
-compare-requires c κs = let args = c .before .before .before .before .before .before .before .before .before .before .before .before .before .before .before .before .before .before .before .before .before .before .before .before .before .args in let s = sizes (args .image .now) (record { user = args .bytes .now; side = args .control .now; dc = args .dc .now; work = args .work .now }) (c .before .before .before .before .before .before .before .before .before .before .before .before .before .read-image .ensures) (c .before .before .before .is-done .ensures) (c .before .before .if1 .taken) in search needs
+compare-requires c κs =
+    let test = c .before .before in
+    let read = test .before .before .before .before .before .before .before .before .before .before .before in
+    let start = read .before .before .before .before .before .before .before .before .before .before .before .before in
+    let args = start .args in
+    let given = start .pre in
+    let last = read .read-image .last .1 in
+    let s =
+    sizes (args .image .now) (record { user = args .bytes .now; side = args .control .now; dc = args .dc .now; work = args .work .now })
+    (record { user = last .0; side = last .1 .0; dc = last .1 .1 .0; work = last .1 .1 .1 .0 }) (read .read-image .ensures) (test .before .is-done .ensures) (test .if1 .taken) in
+    search needs
 
 same-length : tie.Need-same-length
 same-length c = search needs

@@ -1,28 +1,25 @@
--- `fill` is safe and ends.
+-- `copy` is safe and ends.
 use mathlib.Core.Path.{_≡_}
 use Prim.Native.Nat.{_-_, _≤_}
 use lib.ListN.{length}
 use borrow.Author.Needs.{needs}
-use Rattle.image_test.proofs.lent.fill.Statement.{statement}
-use Rattle.image_test.proofs.lent.fill.Tie as tie
+use Rattle.image_trials.proofs.damage.copy.Statement.{statement}
+use Rattle.image_trials.proofs.damage.copy.Tie as tie
 
 abbrev Inv-loop : tie.InvT-loop
-Inv-loop bytes₀ from state₀ k₀ bytes state k = (length bytes ≡ length bytes₀) × (k ≤ length bytes₀)
+Inv-loop from to₀ k₀ to k = (length to ≡ length to₀) × (k ≤ length to₀)
 
 abbrev μ-loop : tie.MeasureT-loop
-μ-loop bytes₀ from state₀ k₀ bytes state k = length bytes₀ - k
+μ-loop from to₀ k₀ to k = length to₀ - k
 
 loop-holds : tie.Need-loop-holds Inv-loop μ-loop
 loop-holds c = search needs
 
-draw-requires : tie.Need-draw-requires Inv-loop μ-loop
-draw-requires c κs = search needs
+byte-at-requires : tie.Need-byte-at-requires Inv-loop μ-loop
+byte-at-requires c κs = search needs
 
-cast-bytes : tie.Need-cast-bytes Inv-loop μ-loop
-cast-bytes c = search needs
-
-slice-write-bytes : tie.Need-slice-write-bytes Inv-loop μ-loop
-slice-write-bytes c = search needs
+slice-write-to : tie.Need-slice-write-to Inv-loop μ-loop
+slice-write-to c = search needs
 
 add-k : tie.Need-add-k Inv-loop μ-loop
 add-k c = search needs
@@ -39,16 +36,15 @@ same-length c = search needs
 returns : tie.Need-returns Inv-loop μ-loop
 returns c = search needs
 
-pub fill-spec : {M : Type 1} → statement M
-fill-spec =
+pub copy-spec : {M : Type 1} → statement M
+copy-spec =
     tie.close
     (tie.spec
     Inv-loop
     μ-loop
     loop-holds
-    draw-requires
-    cast-bytes
-    slice-write-bytes
+    byte-at-requires
+    slice-write-to
     add-k
     loop-less
     loop-again

@@ -3,8 +3,8 @@ use mathlib.Core.Path.{_≡_}
 use Prim.Native.Nat.{_-_, _≤_}
 use lib.ListN.{length}
 use borrow.Author.Needs.{needs}
-use Rattle.image_test.proofs.lent.fill_words.Statement.{statement}
-use Rattle.image_test.proofs.lent.fill_words.Tie as tie
+use Rattle.image_trials.proofs.lent.fill_words.Statement.{statement}
+use Rattle.image_trials.proofs.lent.fill_words.Tie as tie
 
 abbrev Inv-loop : tie.InvT-loop
 Inv-loop words₀ from state₀ k₀ words state k = (length words ≡ length words₀) × (k ≤ length words₀)

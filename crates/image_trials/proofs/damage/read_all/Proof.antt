@@ -3,8 +3,8 @@ use mathlib.Core.Path.{_≡_}
 use Prim.Native.Nat.{_-_, _≤_}
 use lib.ListN.{length}
 use borrow.Author.Needs.{needs}
-use Rattle.image_test.proofs.damage.read_all.Statement.{statement}
-use Rattle.image_test.proofs.damage.read_all.Tie as tie
+use Rattle.image_trials.proofs.damage.read_all.Statement.{statement}
+use Rattle.image_trials.proofs.damage.read_all.Tie as tie
 
 abbrev Inv-loop : tie.InvT-loop
 Inv-loop whole file image₀ at₀ image at = (length image ≡ 119788) × (at ≤ 53139)

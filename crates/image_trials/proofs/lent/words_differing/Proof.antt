@@ -2,8 +2,8 @@
 use Prim.Native.Nat.{_-_, _≤_}
 use lib.ListN.{length}
 use borrow.Author.Needs.{needs}
-use Rattle.image_test.proofs.lent.words_differing.Statement.{statement}
-use Rattle.image_test.proofs.lent.words_differing.Tie as tie
+use Rattle.image_trials.proofs.lent.words_differing.Statement.{statement}
+use Rattle.image_trials.proofs.lent.words_differing.Tie as tie
 
 abbrev Inv-loop : tie.InvT-loop
 Inv-loop a b n₀ k₀ n k = k ≤ length a

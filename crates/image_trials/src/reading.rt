@@ -80,15 +80,38 @@ fn refuse_sizes(image: &[u8], user: &mut [u8], side: &mut [u8], dc: &mut [u32], 
     untouched(user, side, dc, work, &expected);
 }
 
-// Tests 1 to 5; where two tests fail, the lower number.
-pub fn refuse_slices(image: &[u8]) {
-    let mut user = lent::old_user();
-    let mut side = lent::old_side();
+fn wrong_user_and_side(image: &[u8]) {
     let mut dc = lent::old_words();
     let mut work = lent::old_work();
     refuse_sizes(image, &mut [60u8; 2], &mut [61u8; 2], &mut dc, &mut work);
+}
+
+fn wrong_side_and_dc(image: &[u8]) {
+    let mut user = lent::old_user();
+    let mut work = lent::old_work();
     refuse_sizes(image, &mut user, &mut [61u8; 2], &mut [62u32; 2], &mut work);
+}
+
+fn wrong_dc(image: &[u8]) {
+    let mut user = lent::old_user();
+    let mut side = lent::old_side();
+    let mut work = lent::old_work();
     refuse_sizes(image, &mut user, &mut side, &mut [62u32; 2], &mut work);
-    refuse_sizes(b"short", &mut user, &mut side, &mut dc, &mut [90u8; 2]);
+}
+
+// Wrong work, and the image as it is lent.
+fn wrong_work(image: &[u8]) {
+    let mut user = lent::old_user();
+    let mut side = lent::old_side();
+    let mut dc = lent::old_words();
     refuse_sizes(image, &mut user, &mut side, &mut dc, &mut [90u8; 2]);
+}
+
+// Tests 1 to 5; where two tests fail, the lower number.
+pub fn refuse_slices(image: &[u8]) {
+    wrong_user_and_side(image);
+    wrong_side_and_dc(image);
+    wrong_dc(image);
+    wrong_work(b"short");
+    wrong_work(image);
 }

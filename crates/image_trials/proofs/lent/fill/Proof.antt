@@ -1,25 +1,28 @@
--- `copy` is safe and ends.
+-- `fill` is safe and ends.
 use mathlib.Core.Path.{_≡_}
 use Prim.Native.Nat.{_-_, _≤_}
 use lib.ListN.{length}
 use borrow.Author.Needs.{needs}
-use Rattle.image_test.proofs.damage.copy.Statement.{statement}
-use Rattle.image_test.proofs.damage.copy.Tie as tie
+use Rattle.image_trials.proofs.lent.fill.Statement.{statement}
+use Rattle.image_trials.proofs.lent.fill.Tie as tie
 
 abbrev Inv-loop : tie.InvT-loop
-Inv-loop from to₀ k₀ to k = (length to ≡ length to₀) × (k ≤ length to₀)
+Inv-loop bytes₀ from state₀ k₀ bytes state k = (length bytes ≡ length bytes₀) × (k ≤ length bytes₀)
 
 abbrev μ-loop : tie.MeasureT-loop
-μ-loop from to₀ k₀ to k = length to₀ - k
+μ-loop bytes₀ from state₀ k₀ bytes state k = length bytes₀ - k
 
 loop-holds : tie.Need-loop-holds Inv-loop μ-loop
 loop-holds c = search needs
 
-byte-at-requires : tie.Need-byte-at-requires Inv-loop μ-loop
-byte-at-requires c κs = search needs
+draw-requires : tie.Need-draw-requires Inv-loop μ-loop
+draw-requires c κs = search needs
 
-slice-write-to : tie.Need-slice-write-to Inv-loop μ-loop
-slice-write-to c = search needs
+cast-bytes : tie.Need-cast-bytes Inv-loop μ-loop
+cast-bytes c = search needs
+
+slice-write-bytes : tie.Need-slice-write-bytes Inv-loop μ-loop
+slice-write-bytes c = search needs
 
 add-k : tie.Need-add-k Inv-loop μ-loop
 add-k c = search needs
@@ -36,15 +39,16 @@ same-length c = search needs
 returns : tie.Need-returns Inv-loop μ-loop
 returns c = search needs
 
-pub copy-spec : {M : Type 1} → statement M
-copy-spec =
+pub fill-spec : {M : Type 1} → statement M
+fill-spec =
     tie.close
     (tie.spec
     Inv-loop
     μ-loop
     loop-holds
-    byte-at-requires
-    slice-write-to
+    draw-requires
+    cast-bytes
+    slice-write-bytes
     add-k
     loop-less
     loop-again
