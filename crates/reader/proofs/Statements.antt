@@ -1,13 +1,13 @@
 -- What is promised of the reader, on its outcome: a written image is read, nothing else is accepted, and what a refusal leaves. Assumes nothing.
-use mathlib.Core.Path.{_≡_, refl, sym, ap, subst, _∙_}
+use mathlib.Core.Path.{_≡_, refl, sym, ap, ap₂, subst, _∙_}
 use mathlib.Core.Logic.{_↔_, _⊎_, inl, inr, ⊎-elim}
-use mathlib.Core.Bool.{Bool, true, false, not, cond}
+use mathlib.Core.Bool.{Bool, true, false, _&&_, not, cond}
 use mathlib.Core.List.{List, [], _∷_}
-use Prim.Native.Nat.{ℕ, _<_, _≤_}
+use Prim.Native.Nat.{ℕ, zero, suc, _*_, _<_, _≤_}
 use native.Mathlib.Omega.{arith}
-use borrow.Author.Tests.{not-true}
-use lib.Dec.{ltb}
-use lib.ListN.{length, length-append}
+use borrow.Author.Tests.{eq-eqb, ne-eqb, not-true, not-false}
+use lib.Dec.{eqb, ltb}
+use lib.ListN.{take, drop, length, length-append}
 use Rattle.laws.specs.Bytes.{Bytes}
 use Rattle.laws.specs.Tabulate.{tabulate}
 use Rattle.bits.specs.Bits.{bitsOf}
@@ -16,19 +16,24 @@ use Rattle.answer.specs.declared.Answer.{Answer}
 use Rattle.answer.specs.declared.Answer.the-variants.{Done, LastBits, Sync, Frame, BisColumn, AddressUnit, NoPsn, LdcColumn, Sector}
 use Rattle.answer.specs.Answer.{numberOf, isDone, andThen, lowest}
 use Rattle.answer.proofs.Tests.{number-zero, done-is, done-not, then-both, then-done, lowest-end, lowest-done, right-lengths, lengths-done, lengths-number, Sizes}
-use Rattle.modulation.specs.Sync.{syncNumber}
+use Rattle.modulation.specs.Bits.{bits}
+use Rattle.modulation.specs.Sync.{sync, syncNumber}
+use Rattle.modulation.proofs.Tests.{and-left, and-right}
+use Rattle.frame.specs.Sync.{hashAt, syncRight}
+use Rattle.frame.proofs.SyncRight.{sync-as-read, hash-as-read, sync-is-right}
 use Rattle.frame.specs.Reading.{BitsGive, readable}
 use Rattle.frame.proofs.Reading.{readable-iff}
 use Rattle.sector.specs.Scrambling.{scramblingOf}
 use Rattle.bis.specs.declared.PsnFound.{PsnFound}
 use Rattle.bis.specs.declared.PsnFound.the-variants.{Found, NotFound}
 use Rattle.bis.specs.Reading as Bis
+use Rattle.bis.proofs.Statements.{no-psn-found}
 use Rattle.cluster.specs.Multiplex.{bisIn}
 use Rattle.cluster.specs.Reading.{firstWrongWord, firstWrongSector, userIn, Reads}
 use Rattle.cluster.proofs.Statements as Cluster
 use Rattle.image.specs.Image.{Input, IsAccepted, cluster, imageBits, image}
 use Rattle.image.proofs.Demand3.{image-bits, image-size}
-use Rattle.reader.specs.Reading.{lastZero, firstWrongSync, modulatedAt, hashBehind, noFrame, firstNoFrame, clusterIn}
+use Rattle.reader.specs.Reading.{lastZero, wrongSync, firstWrongSync, modulatedAt, hashBehind, noFrame, firstNoFrame, clusterIn}
 use Rattle.reader.specs.Outcome.{framesAnswer, psnAnswer, blockAnswer, dataAnswer, psnOf, clusterAnswer, imageAnswer, Lent, Outcome, accepted, cleared, judgedOutcome, sizesAnswer, outcome}
 use Rattle.reader.proofs.Clusters.{read-psn, reads-done, done-reads}
 use Rattle.reader.proofs.Writing.{last-zero, right-syncs, all-frames, cluster-there, dc-there}
@@ -49,6 +54,43 @@ no-frame-iff b n = (
     by : (t : Bool) → readable (syncNumber n) (modulatedAt b n) (hashBehind b n) ≡ t → ((d : List ℕ) → BitsGive (syncNumber n) d (modulatedAt b n) (hashBehind b n) → ⊥) → not (readable (syncNumber n) (modulatedAt b n) (hashBehind b n)) ≡ true
     by true e none = let some = readable-iff (syncNumber n) (modulatedAt b n) (hashBehind b n) .0 e in absurd (none (some .0) (some .1))
     by false e none = ap not e
+
+-- ---- 10: a sync is right exactly where its bits stand, with # of either value, ZERO at frame 0
+
+pub record SyncStands (b : List ℕ) (n : ℕ) (hash : Bool) : Type 0 where
+  pub stands : take 30 (drop (1932 * n) b) ≡ bits (sync hash (syncNumber n))
+  pub first-zero : n ≡ 0 → hash ≡ false
+
+pub sync-iff : (b : List ℕ) (n : ℕ) → (wrongSync b n ≡ false) ↔ ((hash : Bool) × SyncStands b n hash)
+unfolding wrongSync
+sync-iff b n = (λ e. (hashAt b (1932 * n), stands (not-false _ e)), λ some. right (some .0) (some .1))
+  where
+    first-is : (h : Bool) → not (eqb n 0 && h) ≡ true → n ≡ 0 → h ≡ false
+    first-is h e z = not-true h (ap (λ (t : Bool). not (t && h)) (sym (eq-eqb n 0 z)) ∙ e)
+
+    stands : (syncRight (syncNumber n) b (1932 * n) && not (eqb n 0 && hashAt b 0)) ≡ true → SyncStands b n (hashAt b (1932 * n))
+    stands e =
+        record {
+          stands = sync-as-read (syncNumber n) b (1932 * n) (and-left (syncRight (syncNumber n) b (1932 * n)) _ e);
+          first-zero = λ z. ap (λ (k : ℕ). hashAt b (1932 * k)) z ∙ first-is (hashAt b 0) (and-right (syncRight (syncNumber n) b (1932 * n)) _ e) z;
+        }
+
+    right : (hash : Bool) → SyncStands b n hash → not (syncRight (syncNumber n) b (1932 * n) && not (eqb n 0 && hashAt b 0)) ≡ false
+    right hash s =
+        ap (λ (t : Bool). not (t && not (eqb n 0 && hashAt b 0))) (sync-is-right (syncNumber n) b (1932 * n) hash (s .stands)) ∙ by n refl
+      where
+        by : (k : ℕ) → n ≡ k → not (not (eqb n 0 && hashAt b 0)) ≡ false
+        by zero z = ap₂ (λ (t h : Bool). not (not (t && h))) (eq-eqb n 0 z) (ap (λ (k : ℕ). hashAt b (1932 * k)) (sym z) ∙ hash-as-read (syncNumber n) b (1932 * n) hash (s .stands) ∙ s .first-zero z)
+        by (suc k) z = ap (λ (t : Bool). not (not (t && hashAt b 0))) (ne-eqb n 0 (λ e. omega (arith, e, z)))
+
+-- ---- 14: refused exactly where no accepted PSN has the sixteen AUNs
+
+pub no-psn-iff : (block : List (List ℕ)) → (psnAnswer (Bis.psnIn block) ≡ NoPsn) ↔ ((psn : ℕ) → Bis.IsPsnOf block psn → ⊥)
+no-psn-iff block = (λ e. no-psn-found block .0 (is-none (Bis.psnIn block) e), λ none. ap psnAnswer (no-psn-found block .1 none))
+  where
+    is-none : (p : PsnFound) → psnAnswer p ≡ NoPsn → p ≡ NotFound
+    is-none (Found q) e = let z : _≡_ {A = ℕ} 0 14 = ap numberOf e in absurd (omega arith)
+    is-none NotFound e = refl
 
 -- ---- slices of the right lengths
 
