@@ -131,8 +131,8 @@ fn substitution(r: &Random, image: &mut [u8]) {
     for n in (0..496).map(|n| (n + start) % 496) {
         for k in 0..631 {
             let at = FRAME * n + 30 + 3 * k;
-            let Some(w) = words.iter().position(|w| (0..12).all(|j| bit(image, at + j) == w[j])) else { continue };
-            if r.below(20) == 0 {
+            let found = words.iter().position(|w| (0..12).all(|j| bit(image, at + j) == w[j]));
+            if let (Some(w), 0) = (found, r.below(20)) {
                 for j in 0..9 {
                     put(image, at + j, words[1 - w][j]);
                 }

@@ -239,13 +239,16 @@ fn damaged(r: &Random, fast: &mut Fast, count: usize, plain_every: usize) {
         }
         answers[a.number as usize] += 1;
     }
-    println!("damaged images: {count}, of which the reference's plain path read {}", count.div_ceil(plain_every));
+    println!(
+        "damaged images: {count}, of which the reference's plain path read {}",
+        (count + plain_every - 1) / plain_every
+    );
     println!("  answered 0: {}; 9 to 16: {:?}", answers[0], &answers[9..]);
     agree(answers[9..].iter().all(|&n| n > 0), || "an answer from 9 to 16 did not occur".into());
 }
 
 fn main() {
-    let short = std::env::args().nth(1).is_some_and(|word| word == "short");
+    let short = std::env::args().nth(1).map_or(false, |word| word == "short");
     let start = Instant::now();
     let r = &Random::new(0xB0DE);
     let mut fast = Fast::new();

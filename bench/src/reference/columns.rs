@@ -1,62 +1,44 @@
 //! GF(256) modulo x^8+x^4+x^3+x^2+1, alpha = 02h, and Reed-Solomon columns (13.7, 13.9.2.2, 13.12).
-use std::sync::OnceLock;
-
 const POLY: u16 = 0x11D;
 
-/// Product by the definition: carry-less product, reduced.
-fn product(a: u8, b: u8) -> u8 {
-    let mut p: u16 = 0;
-    for i in 0..8 {
-        if (b >> i) & 1 == 1 {
-            p ^= (a as u16) << i;
-        }
-    }
-    for i in (8..15).rev() {
-        if (p >> i) & 1 == 1 {
-            p ^= POLY << (i - 8);
-        }
-    }
-    p as u8
+/// 2 times a, by the definition: shifted, and reduced where x^8 comes up.
+const fn double(a: u8) -> u8 {
+    let p = (a as u16) << 1;
+    (if p & 0x100 != 0 { p ^ POLY } else { p }) as u8
 }
 
-/// (power table, logarithm table): power[255] = 1, log[1] = 0, log[0] = 0 (never used).
-fn tables() -> ([u8; 256], [u8; 256]) {
-    let mut e = [0u8; 256];
-    let mut l = [0u8; 256];
-    let mut x = 1u8;
-    for i in 0..256 {
-        e[i] = x;
-        if i < 255 {
-            l[x as usize] = i as u8;
-        }
-        x = product(x, 2);
-    }
-    (e, l)
-}
-
-struct T {
+struct Tables {
     e: [u8; 256],
     l: [u8; 256],
 }
-fn t() -> &'static T {
-    static S: OnceLock<T> = OnceLock::new();
-    S.get_or_init(|| {
-        let (e, l) = tables();
-        T { e, l }
-    })
+/// Power and logarithm tables: power[255] = 1, log[1] = 0, log[0] = 0 (never used).
+const fn tables() -> Tables {
+    let mut t = Tables { e: [0; 256], l: [0; 256] };
+    let mut x = 1;
+    let mut i = 0;
+    while i < 256 {
+        t.e[i] = x;
+        if i < 255 {
+            t.l[x as usize] = i as u8;
+        }
+        x = double(x);
+        i += 1;
+    }
+    t
 }
+static T: Tables = tables();
+
 /// Product through the tables.
 #[inline]
 pub fn mul(a: u8, b: u8) -> u8 {
     if a == 0 || b == 0 {
         return 0;
     }
-    let t = t();
-    t.e[(t.l[a as usize] as usize + t.l[b as usize] as usize) % 255]
+    T.e[(T.l[a as usize] as usize + T.l[b as usize] as usize) % 255]
 }
 #[inline]
 pub fn ap(k: usize) -> u8 {
-    t().e[k % 255]
+    T.e[k % 255]
 }
 
 /// generator polynomial prod_{i<n} (x - alpha^i); highest degree first, monic, n+1 coefficients
