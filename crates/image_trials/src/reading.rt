@@ -2,38 +2,63 @@
 use crate::lent;
 use address::Psn;
 
+// Reads an image into lent slices, and says the answer, and whether its PSN is another.
+pub fn read(
+    psn: Psn,
+    image: &[u8],
+    user: &mut [u8],
+    side: &mut [u8],
+    dc: &mut [u32],
+    work: &mut [u8],
+) {
+    let read = reader::read_image(image, user, side, dc, work);
+    let answer = read.answer;
+    let read_psn = read.psn;
+    io::write_all(1, b"  read ");
+    lent::print_answer(answer);
+    if read_psn.0 != psn.0 {
+        io::write_all(1, b"  another PSN\n");
+    }
+}
+
+// What was read beside what it was made of.
+pub fn compare(
+    user: &[u8],
+    side: &[u8],
+    dc: &[u32],
+    read_user: &[u8],
+    read_side: &[u8],
+    read_dc: &[u32],
+) {
+    lent::report(
+        b"  user bytes that differ ",
+        lent::differing(read_user, user),
+    );
+    lent::report(
+        b"  side bytes that differ ",
+        lent::differing(read_side, side),
+    );
+    lent::report(
+        b"  dc words that differ ",
+        lent::words_differing(read_dc, dc),
+    );
+}
+
 // Reads an image and compares all that it gives.
 pub fn read_back(psn: Psn, user: &[u8], side: &[u8], dc: &[u32], image: &[u8], work: &[u8]) {
     let mut read_user = lent::old_user();
     let mut read_side = lent::old_side();
     let mut read_dc = lent::old_words();
     let mut read_work = lent::old_work();
-    let read = reader::read_image(
+    read(
+        psn,
         image,
         &mut read_user,
         &mut read_side,
         &mut read_dc,
         &mut read_work,
     );
-    io::write_all(1, b"  read ");
-    let answer = read.answer;
-    lent::print_answer(answer);
-    let read_psn = read.psn;
-    if read_psn.0 != psn.0 {
-        io::write_all(1, b"  another PSN\n");
-    }
-    lent::report(
-        b"  user bytes that differ ",
-        lent::differing(&read_user, user),
-    );
-    lent::report(
-        b"  side bytes that differ ",
-        lent::differing(&read_side, side),
-    );
-    lent::report(
-        b"  dc words that differ ",
-        lent::words_differing(&read_dc, dc),
-    );
+    compare(user, side, dc, &read_user, &read_side, &read_dc);
     lent::report(
         b"  cluster bytes that differ ",
         lent::differing(&read_work, work),

@@ -1,5 +1,6 @@
 // Round trips on drawn inputs: written and read, and what was read written again.
 use crate::lent;
+use crate::reading;
 use address::Psn;
 
 // What was read, written again.
@@ -15,38 +16,21 @@ fn again(psn: Psn, user: &[u8], side: &[u8], dc: &[u32], image: &[u8]) {
     );
 }
 
-fn read(psn: Psn, user: &[u8], side: &[u8], dc: &[u32], image: &[u8]) {
+fn back(psn: Psn, user: &[u8], side: &[u8], dc: &[u32], image: &[u8]) {
     let mut read_user = lent::old_user();
     let mut read_side = lent::old_side();
     let mut read_dc = lent::old_words();
     let mut work = lent::old_work();
-    let found = reader::read_image(
+    reading::read(
+        psn,
         image,
         &mut read_user,
         &mut read_side,
         &mut read_dc,
         &mut work,
     );
-    io::write_all(1, b"  read ");
-    let answer = found.answer;
-    lent::print_answer(answer);
-    let read_psn = found.psn;
-    if read_psn.0 != psn.0 {
-        io::write_all(1, b"  another PSN\n");
-    }
-    lent::report(
-        b"  user bytes that differ ",
-        lent::differing(&read_user, user),
-    );
-    lent::report(
-        b"  side bytes that differ ",
-        lent::differing(&read_side, side),
-    );
-    lent::report(
-        b"  dc words that differ ",
-        lent::words_differing(&read_dc, dc),
-    );
-    again(read_psn, &read_user, &read_side, &read_dc, image);
+    reading::compare(user, side, dc, &read_user, &read_side, &read_dc);
+    again(psn, &read_user, &read_side, &read_dc, image);
 }
 
 // A cluster drawn from a seed.
@@ -62,5 +46,5 @@ pub fn trip(psn: Psn, seed: u64) {
     let answer = writer::write_image(&user, psn, &side, &dc, &mut image, &mut work);
     io::write_all(1, b"  written ");
     lent::print_answer(answer);
-    read(psn, &user, &side, &dc, &image);
+    back(psn, &user, &side, &dc, &image);
 }
