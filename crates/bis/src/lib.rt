@@ -168,7 +168,7 @@ fn code_word(fields: &Fields, side: &[u8], c: usize) -> [u8; 62]
     joined(information, parity)
 }
 
-// The BIS block of the cluster at an accepted PSN, with 592 bytes of side data. For the crates above, which test both.
+// The BIS block of the cluster at an accepted PSN, with 592 bytes of side data. For the crates of this repository, which test both.
 pub fn block(psn: Psn, side: &[u8]) -> Block
     requires { ⌜ (length (now side) ≡ 592) × (judged (psn .0) ≡ Accepted) ⌝ }
     ensures { λ r. ⌜ r ≡ bisBlock (psn .0) (now (side .entry)) ⌝ }

@@ -228,7 +228,8 @@ fn gives(rows: &PackedRows, bytes: &[u8], at: usize, before: bool, hash: bool, p
 }
 
 // The groups of a frame from bit `at` on, demodulated, as many as `pairs` has places: `before` is the bit in front of them and `hash` # of
-// the next sync. Answers whether there are data bits that give them; where there are none, `pairs` is cleared.
+// the next sync. Answers whether there are data bits that give them; where there are none, `pairs` is cleared. For the crates of this
+// repository.
 pub fn demodulate(bytes: &[u8], at: usize, before: bool, hash: bool, pairs: &mut [u8]) -> bool
     requires { ⌜ Inside (now bytes) at (length (now pairs)) ⌝ }
     ensures { λ r. ⌜ Demodulated before (take (3 * length (now (pairs .entry))) (drop at (bitsOf (now (bytes .entry))))) hash (length (now (pairs .entry))) r (now (pairs .exit)) ⌝ }
