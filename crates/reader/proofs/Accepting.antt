@@ -130,7 +130,8 @@ module _ (b : List ℕ) (size : length b ≡ 958304) (passes : Passes b) where
   stream-there : take 958302 b ≡ bits (stream c 496)
   stream-there =
       take-add 958272 30 b
-      ∙ ap₂ _++_ (run-there 496 (omega arith)) (sync-as-read (syncNumber 496) b (1932 * 496) (right 496 (omega arith)) ∙ ap (λ (t : Bool). bits (sync t (syncNumber 496))) (hash-there 496 (omega arith)))
+      ∙ ap₂ _++_ (run-there 496 (omega arith))
+      (sync-as-read (syncNumber 496) b (1932 * 496) (right 496 (omega arith)) ∙ ap (λ (t : Bool). bits (sync t (syncNumber 496))) (hash-there 496 (omega arith)))
       ∙ sym (bits-append (run c 496) (sync (hash c 496) (syncNumber 496)))
 
   -- ---- the last two bits

@@ -39,7 +39,8 @@ module _ (b : List ℕ) (n : ℕ) where
   length-row-in e = length-row (frameBitsIn b n) (readable-gives (syncNumber n) (modulatedAt b n) (hashBehind b n) (readable-is e) .are-bits)
 
 -- what `read_frame` leaves in the row's place
-module _ (b work p : List ℕ) (n m number : ℕ) (hash : Bool) (r : FrameRead) (hn : n < 496) (size : length work ≡ 76880) (em : m ≡ 155) (en : number ≡ fsNumber (syncNumber n)) (eh : hash ≡ hashBehind b n)
+module _ (b work p : List ℕ) (n m number : ℕ) (hash : Bool) (r : FrameRead) (hn : n < 496) (size : length work ≡ 76880) (em : m ≡ 155)
+    (en : number ≡ fsNumber (syncNumber n)) (eh : hash ≡ hashBehind b n)
     (s : StrictlyRead (fs number) (modulatedAt b n) hash (take m (drop (155 * n) work)) r p) where
   abbrev row : List ℕ
   row = take m (drop (155 * n) work)
@@ -115,7 +116,9 @@ module _ {b dc work after : List ℕ} {n : ℕ} {r : FrameRead} (u : Below b n d
       record {
         given = passed-more (u .given) (found .0);
         words = upto-more h (found .1) (u .words);
-        rows = subst (Upto 0 (clusterByte b) 76880 (155 * (n + 1))) (sym (found .2)) (upto-part 155 (rowOf (frameBitsIn b n)) (omega arith) (omega arith) (length-row-in b n (found .0)) byte (u .rows));
+        rows =
+            subst (Upto 0 (clusterByte b) 76880 (155 * (n + 1))) (sym (found .2))
+            (upto-part 155 (rowOf (frameBitsIn b n)) (omega arith) (omega arith) (length-row-in b n (found .0)) byte (u .rows));
       }
     where
       byte : (k : ℕ) → k < 155 → getD (rowOf (frameBitsIn b n)) k 0 ≡ clusterByte b (155 * n + k)

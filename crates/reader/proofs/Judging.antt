@@ -114,7 +114,8 @@ module _ (psn : ℕ) (work : List ℕ) (l : ℕ) (el : l ≡ firstWrongWord work
 
 -- ---- 12 to 16
 
-module _ (work : List ℕ) (block : List (List ℕ)) (psn : ℕ) (a : Answer) (d : Bool) (eb : block ≡ bisIn work) (ep : psn ≡ psnNumber (psnIn block)) (ea : a ≡ blockAnswer block) (ed : d ≡ isDone a) where
+module _ (work : List ℕ) (block : List (List ℕ)) (psn : ℕ) (a : Answer) (d : Bool)
+    (eb : block ≡ bisIn work) (ep : psn ≡ psnNumber (psnIn block)) (ea : a ≡ blockAnswer block) (ed : d ≡ isDone a) where
   pub cluster-psn : psn ≡ psnOf work
   cluster-psn = ep ∙ ap (λ (b : List (List ℕ)). psnNumber (psnIn b)) eb
 

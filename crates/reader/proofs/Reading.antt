@@ -78,14 +78,19 @@ module _ (b user side dc before words work : List ℕ) (a : Answer) (psn : ℕ) 
       let pass : isDone (imageAnswer b) ≡ true = ap isDone (sym (read .answer-is)) ∙ sym ed ∙ t in
       let is-psn = read .psn-is done in
       let is-work = read .work-is done in
-      (λ i. record { answer = Done; psn = is-psn i; lent = record { user = (g .user-is ∙ ap₂ (λ (p : ℕ) (w : List ℕ). userIn (scramblingOf p) w) (read .psn-is done) (read .work-is done)) i; side = (g .side-is ∙ ap (λ (w : List ℕ). sideIn (bisIn w)) (read .work-is done)) i; dc = (g .dc-is ∙ read .dc-is done) i; work = is-work i } })
+      let is-user = g .user-is ∙ ap₂ (λ (p : ℕ) (w : List ℕ). userIn (scramblingOf p) w) is-psn is-work in
+      let is-side = g .side-is ∙ ap (λ (w : List ℕ). sideIn (bisIn w)) is-work in
+      let is-dc = g .dc-is ∙ read .dc-is done in
+      (λ i. record { answer = Done; psn = is-psn i; lent = record { user = is-user i; side = is-side i; dc = is-dc i; work = is-work i } })
       ∙ sym (ap (λ (t : Bool). cond t (accepted b) (record { answer = imageAnswer b; psn = 0; lent = cleared lent })) pass)
 
   pub judged-refused : (r : Answer) (p : ℕ) (zeros : List ℕ) → d ≡ false → (r ≡ a) × (p ≡ 0) → zeros ≡ tabulate (length work) (λ _. 0) → length before ≡ 76880
       → record { answer = r; psn = p; lent = record { user = user; side = side; dc = dc; work = zeros } } ≡ judgedOutcome b lent
   judged-refused r p zeros t e ez size =
       let fail : isDone (imageAnswer b) ≡ false = ap isDone (sym (read .answer-is)) ∙ sym ed ∙ t in
-      (λ i. record { answer = (e .0 ∙ read .answer-is) i; psn = (e .1) i; lent = record { user = user; side = side; dc = dc; work = (ez ∙ ap (λ (n : ℕ). tabulate n (λ _. 0)) (read .size ∙ sym size)) i } })
+      let is-answer = e .0 ∙ read .answer-is in
+      let is-work = ez ∙ ap (λ (n : ℕ). tabulate n (λ _. 0)) (read .size ∙ sym size) in
+      (λ i. record { answer = is-answer i; psn = (e .1) i; lent = record { user = user; side = side; dc = dc; work = is-work i } })
       ∙ sym (ap (λ (t : Bool). cond t (accepted b) (record { answer = imageAnswer b; psn = 0; lent = cleared lent })) fail)
 
 -- ---- the outcome
@@ -101,7 +106,9 @@ module _ (image user side dc work : List ℕ) (a : Answer) (d : Bool) (ea : a �
 
   pub is-read : (o : Outcome) → d ≡ true → o ≡ judgedOutcome (bitsOf image) before → o ≡ outcome image before
   unfolding outcome
-  is-read o t e = e ∙ sym (ap (λ (t : Bool). cond t (judgedOutcome (bitsOf image) before) (record { answer = sizesAnswer image before; psn = 0; lent = before })) (ap isDone (sym ea) ∙ sym ed ∙ t))
+  is-read o t e =
+      e
+      ∙ sym (ap (λ (t : Bool). cond t (judgedOutcome (bitsOf image) before) (record { answer = sizesAnswer image before; psn = 0; lent = before })) (ap isDone (sym ea) ∙ sym ed ∙ t))
 
   pub is-refused : (r : Answer) (p : ℕ) → d ≡ false → (r ≡ a) × (p ≡ 0) → record { answer = r; psn = p; lent = before } ≡ outcome image before
   unfolding outcome

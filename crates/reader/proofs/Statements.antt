@@ -51,7 +51,8 @@ no-frame-iff b n = (
     no-such : true ≡ false → ⊥
     no-such z = let k : _≡_ {A = ℕ} 0 1 = cc in omega arith
 
-    by : (t : Bool) → readable (syncNumber n) (modulatedAt b n) (hashBehind b n) ≡ t → ((d : List ℕ) → BitsGive (syncNumber n) d (modulatedAt b n) (hashBehind b n) → ⊥) → not (readable (syncNumber n) (modulatedAt b n) (hashBehind b n)) ≡ true
+    by : (t : Bool) → readable (syncNumber n) (modulatedAt b n) (hashBehind b n) ≡ t → ((d : List ℕ) → BitsGive (syncNumber n) d (modulatedAt b n) (hashBehind b n) → ⊥)
+        → not (readable (syncNumber n) (modulatedAt b n) (hashBehind b n)) ≡ true
     by true e none = let some = readable-iff (syncNumber n) (modulatedAt b n) (hashBehind b n) .0 e in absurd (none (some .0) (some .1))
     by false e none = ap not e
 
@@ -84,7 +85,9 @@ sync-iff b n = (λ e. (hashAt b (1932 * n), stands (not-false _ e)), λ some. ri
         ap (λ (t : Bool). not (t && not (eqb n 0 && hashAt b 0))) (sync-is-right (syncNumber n) b (1932 * n) hash (s .stands)) ∙ by n refl
       where
         by : (k : ℕ) → n ≡ k → not (not (eqb n 0 && hashAt b 0)) ≡ false
-        by zero z = ap₂ (λ (t h : Bool). not (not (t && h))) (eq-eqb n 0 z) (ap (λ (k : ℕ). hashAt b (1932 * k)) (sym z) ∙ hash-as-read (syncNumber n) b (1932 * n) hash (s .stands) ∙ s .first-zero z)
+        by zero z =
+            ap₂ (λ (t h : Bool). not (not (t && h))) (eq-eqb n 0 z)
+            (ap (λ (k : ℕ). hashAt b (1932 * k)) (sym z) ∙ hash-as-read (syncNumber n) b (1932 * n) hash (s .stands) ∙ s .first-zero z)
         by (suc k) z = ap (λ (t : Bool). not (not (t && hashAt b 0))) (ne-eqb n 0 (λ e. omega (arith, e, z)))
 
 -- ---- 14: refused exactly where no accepted PSN has the sixteen AUNs
@@ -108,6 +111,10 @@ length-image input = omega (arith, B.length-bits (image input), ap (length {A = 
 abbrev pub returned : Outcome → Input
 returned o = record { user = o .lent .user; psn = o .psn; side = o .lent .side; dc = o .lent .dc }
 
+-- what reading gives of an input: number and place are 0, exactly the input comes back, work is its ECC cluster
+abbrev pub given : Input → Outcome
+given input = record { answer = Done; psn = input .psn; lent = record { user = input .user; side = input .side; dc = input .dc; work = cluster input } }
+
 -- ---- READING A WRITTEN IMAGE: the answer is 0, 0, and exactly the input comes back, work its ECC cluster
 
 module _ (input : Input) (is : IsAccepted input) where
@@ -115,7 +122,9 @@ module _ (input : Input) (is : IsAccepted input) where
   b = bitsOf (image input)
 
   reads : Reads (clusterIn b) (input .user) (input .psn) (input .side)
-  reads = subst (λ (w : List ℕ). Reads w (input .user) (input .psn) (input .side)) (sym (cluster-there input is)) (Cluster.read-back (input .user) (input .psn) (input .side) (is .user) (is .psn) (is .side))
+  reads =
+      subst (λ (w : List ℕ). Reads w (input .user) (input .psn) (input .side)) (sym (cluster-there input is))
+      (Cluster.read-back (input .user) (input .psn) (input .side) (is .user) (is .psn) (is .side))
 
   image-done : imageAnswer b ≡ Done
   unfolding imageAnswer framesAnswer
@@ -125,15 +134,19 @@ module _ (input : Input) (is : IsAccepted input) where
       (then-both (lowest Sync 497 (firstWrongSync b)) _ (lowest-end Sync (right-syncs input is)) (lowest-end Frame (all-frames input is))))
       (reads-done (clusterIn b) (input .user) (input .side) (input .psn) reads)
 
-  is-input : accepted b ≡ record { answer = Done; psn = input .psn; lent = record { user = input .user; side = input .side; dc = input .dc; work = cluster input } }
+  is-input : accepted b ≡ given input
   is-input =
       let psn = read-psn (clusterIn b) (input .user) (input .side) (input .psn) reads in
-      λ i. record { answer = Done; psn = psn i; lent = record { user = (ap (λ (p : ℕ). userIn (scramblingOf p) (clusterIn b)) psn ∙ reads .has-user) i; side = (reads .bis .has-side) i; dc = dc-there input is i; work = cluster-there input is i } }
+      let user = ap (λ (p : ℕ). userIn (scramblingOf p) (clusterIn b)) psn ∙ reads .has-user in
+      λ i. record { answer = Done; psn = psn i; lent = record { user = user i; side = (reads .bis .has-side) i; dc = dc-there input is i; work = cluster-there input is i } }
 
-  pub read-back : (before : Lent) → Right before → outcome (image input) before ≡ record { answer = Done; psn = input .psn; lent = record { user = input .user; side = input .side; dc = input .dc; work = cluster input } }
+  pub read-back : (before : Lent) → Right before → outcome (image input) before ≡ given input
   unfolding outcome
   read-back before right =
-      let sizes : sizesAnswer (image input) before ≡ Done = sym (right-lengths (length (before .user)) (length (before .side)) (length (before .dc)) (length (image input)) (length (before .work)) (right .user) (right .side) (right .dc) (length-image input) (right .work)) in
+      let sizes : sizesAnswer (image input) before ≡ Done =
+      sym
+      (right-lengths (length (before .user)) (length (before .side)) (length (before .dc)) (length (image input)) (length (before .work)) (right .user) (right .side) (right .dc)
+      (length-image input) (right .work)) in
       ap (λ (a : Answer). cond (isDone a) (judgedOutcome b before) (record { answer = a; psn = 0; lent = before })) sizes
       ∙ ap (λ (a : Answer). cond (isDone a) (accepted b) (record { answer = a; psn = 0; lent = cleared before })) image-done
       ∙ is-input
@@ -149,7 +162,8 @@ module _ (l : List ℕ) (before : Lent) (bytes : Bytes l) where
       judged a true t e = done-is a t
       judged a false t e = number-zero a e
 
-      by : (a : Answer) (t : Bool) → isDone a ≡ t → numberOf (cond t (judgedOutcome (bitsOf l) before) (record { answer = a; psn = 0; lent = before }) .answer) ≡ 0 → (a ≡ Done) × (imageAnswer (bitsOf l) ≡ Done)
+      by : (a : Answer) (t : Bool) → isDone a ≡ t → numberOf (cond t (judgedOutcome (bitsOf l) before) (record { answer = a; psn = 0; lent = before }) .answer) ≡ 0
+          → (a ≡ Done) × (imageAnswer (bitsOf l) ≡ Done)
       by a true t e = (done-is a t, judged (imageAnswer (bitsOf l)) (isDone (imageAnswer (bitsOf l))) refl e)
       by a false t e = absurd (done-not a t (number-zero a e))
 
