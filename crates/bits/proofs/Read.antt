@@ -1,99 +1,84 @@
--- Three bits read through two bytes, and the step of the image reader. Assumes nothing.
-use mathlib.Core.Path.{_≡_, refl, sym, ap, subst⁻¹, _∙_}
-use mathlib.Core.List.{List, [], _∷_}
+-- Bits read through two bytes, and the step of the image reader. Assumes nothing.
+use mathlib.Core.Path.{_≡_, refl, sym, ap, ap₂, _∙_}
+use mathlib.Core.List.{List}
 use Prim.Native.Nat.{ℕ, _+_, _*_, _-_, _/_, _%_, _^_, _<_, _≤_}
-use native.Mathlib.Nat.{add-zero}
-use native.Mathlib.Decide.{decLt, ℕ-discrete}
+use native.Mathlib.Nat.{add-zero, mod-eq-of-lt}
+use native.Mathlib.Decide.{decLt}
 use native.Mathlib.Omega.{arith}
 use borrow.Author.Tests.{le-leb, lt-leb, lt-ltb, le-ltb}
-use lib.Dec.{eqb, eqb→eq}
-use lib.Pow.{shr-shr, high}
-use Rattle.laws.proofs.Finite.{all, all₂, all₂-at}
+use lib.Pow.{shr-shr, high, field, mod-mod-pow, low}
+use Rattle.laws.proofs.Finite.{all, equal-below}
 use lib.ListN.{length, getD}
-use Rattle.laws.specs.Tabulate.{tabulate}
-use Rattle.bits.specs.Bits.{bitsOf, threeAt}
+use Rattle.bits.specs.Bits.{bitsOf, threeAt, LowBits}
 use Rattle.bits.specs.Step.{stepAt}
 use Rattle.bits.proofs.Bits.{bit-in}
 
--- three bits inside one byte
-byte-three : (x place : ℕ) → x < 256 → place < 6 → x / 2 ^ (5 - place) % 8 ≡ 4 * (x / 2 ^ (7 - place) % 2) + 2 * (x / 2 ^ (7 - (place + 1)) % 2) + x / 2 ^ (7 - (place + 2)) % 2
-unfolding all all₂
-byte-three x place hx hp =
-    eqb→eq _ _
-    (all₂-at 256 6 (λ x k. eqb (x / 2 ^ (5 - k) % 8) (4 * (x / 2 ^ (7 - k) % 2) + 2 * (x / 2 ^ (7 - (k + 1)) % 2) + x / 2 ^ (7 - (k + 2)) % 2)) tt x place hx hp)
+-- ---- two bytes as one number
 
--- two bytes as one number, shifted until the three bits from `place` on are the lowest
-module _ (first second : ℕ) (hf : first < 256) (hs : second < 256) where
-  in-first : (place : ℕ) → place < 6 → (first * 256 + second) / 2 ^ (13 - place) % 8 ≡ threeAt (bitsOf (first ∷ second ∷ [])) place
-  in-first place h =
-      let pair = first ∷ second ∷ [] in
-      let shift : 13 - place ≡ 8 + (5 - place) = omega arith in
-      ap (λ (n : ℕ). (first * 256 + second) / 2 ^ n % 8) shift
-      ∙ ap (λ (n : ℕ). n % 8) (sym (shr-shr (first * 256 + second) 8 (5 - place)) ∙ ap (λ (n : ℕ). n / 2 ^ (5 - place)) (high first 8 hs))
-      ∙ byte-three first place hf h
-      ∙ omega (
-        arith,
-        bit-in pair place 0 place (omega arith) (omega arith) (omega arith),
-        bit-in pair (place + 1) 0 (place + 1) (omega arith) (omega arith) (omega arith),
-        bit-in pair (place + 2) 0 (place + 2) (omega arith) (omega arith) (omega arith),
-      )
+module _ (first second : ℕ) (hs : second < 256) where
+  low-bit : (t : ℕ) → t < 8 → (first * 256 + second) / 2 ^ t % 2 ≡ second / 2 ^ t % 2
+  low-bit t h =
+      let n : ℕ = first * 256 + second in
+      let sum : 8 ≡ (7 - t) + (1 + t) = omega arith in
+      let cut : (m : ℕ) → m % 2 ^ 8 % 2 ^ (1 + t) ≡ m % 2 ^ (1 + t) = λ m. ap (λ (k : ℕ). m % 2 ^ k % 2 ^ (1 + t)) sum ∙ mod-mod-pow m (7 - t) (1 + t) in
+      let same : n % 2 ^ 8 ≡ second % 2 ^ 8 = low first 8 hs ∙ sym (mod-eq-of-lt hs) in
+      sym (field n 1 t)
+      ∙ ap (λ (m : ℕ). m / 2 ^ t) (sym (cut n) ∙ ap (λ (m : ℕ). m % 2 ^ (1 + t)) same ∙ cut second)
+      ∙ field second 1 t
 
-  at-six : (first * 256 + second) / 128 % 8 ≡ threeAt (bitsOf (first ∷ second ∷ [])) 6
-  unfolding bitsOf tabulate all all₂
-  at-six =
-      let shifted : (first * 256 + second) / 128 ≡ 2 * first + second / 128 = omega arith in
-      ap (λ (n : ℕ). n % 8) shifted
-      ∙ eqb→eq _ _ (all₂-at 256 2 (λ x t. eqb ((2 * x + t) % 8) (4 * (x / 2 % 2) + 2 * (x / 1 % 2) + t % 2)) tt first (second / 128) hf (omega arith))
+  high-bit : (j : ℕ) → j < 8 → (first * 256 + second) / 2 ^ (15 - j) % 2 ≡ first / 2 ^ (7 - j) % 2
+  high-bit j h =
+      let sum : 15 - j ≡ 8 + (7 - j) = omega arith in
+      ap (λ (k : ℕ). (first * 256 + second) / 2 ^ k % 2) sum
+      ∙ ap (λ (n : ℕ). n % 2) (sym (shr-shr (first * 256 + second) 8 (7 - j)) ∙ ap (λ (n : ℕ). n / 2 ^ (7 - j)) (high first 8 hs))
 
-  at-seven : (first * 256 + second) / 64 % 8 ≡ threeAt (bitsOf (first ∷ second ∷ [])) 7
-  unfolding bitsOf tabulate all all₂
-  at-seven =
-      let shifted : (first * 256 + second) / 64 ≡ 4 * first + second / 64 = omega arith in
-      let half : second / 64 / 2 ≡ second / 128 = omega arith in
-      ap (λ (n : ℕ). n % 8) shifted
-      ∙ eqb→eq _ _ (all₂-at 256 4 (λ x t. eqb ((4 * x + t) % 8) (4 * (x / 1 % 2) + 2 * (t / 2 % 2) + t % 2)) tt first (second / 64) hf (omega arith))
-      ∙ ap (λ (t : ℕ). 4 * (first / 1 % 2) + 2 * (t % 2) + second / 64 % 2) half
+-- the byte of bit `at` and that of the last of n bits, shifted
+module _ (l : List ℕ) (at n last : ℕ) (hn : n < 10) (e : last ≡ at / 8 + (at % 8 + n - 1) / 8) (fits : at + n ≤ 8 * length l) (byte : getD l last 0 < 256) where
+  abbrev both : ℕ
+  both = getD l (at / 8) 0 * 256 + getD l last 0
 
-  pub window-bits : (place : ℕ) → place < 8 → (first * 256 + second) / 2 ^ (13 - place) % 8 ≡ threeAt (bitsOf (first ∷ second ∷ [])) place
-  window-bits place h =
-      elim (decLt place 6) [
-        | yes low ↦ in-first place low
-        | no low ↦
-            elim (ℕ-discrete place 6) [
-              | yes six ↦ subst⁻¹ (λ (k : ℕ). (first * 256 + second) / 2 ^ (13 - k) % 8 ≡ threeAt (bitsOf (first ∷ second ∷ [])) k) six at-six
-              | no six ↦
-                  let seven : place ≡ 7 = omega arith in
-                  subst⁻¹ (λ (k : ℕ). (first * 256 + second) / 2 ^ (13 - k) % 8 ≡ threeAt (bitsOf (first ∷ second ∷ [])) k) seven at-seven
-            ]
+  bit : (d : ℕ) → d < n → both / 2 ^ (15 - (at % 8 + d)) % 2 ≡ getD (bitsOf l) (at + d) 0
+  bit d h =
+      let j : ℕ = at % 8 + d in
+      elim (decLt j 8) [
+        | yes in-first ↦ high-bit (getD l (at / 8) 0) (getD l last 0) byte j in-first ∙ sym (bit-in l (at + d) (at / 8) j (omega arith) (omega arith) in-first)
+        | no in-second ↦
+            let place : 15 - j ≡ 7 - (j - 8) = omega arith in
+            low-bit (getD l (at / 8) 0) (getD l last 0) byte (15 - j) (omega arith)
+            ∙ ap (λ (k : ℕ). getD l last 0 / 2 ^ k % 2) place
+            ∙ sym (bit-in l (at + d) last (j - 8) (omega arith) (omega arith) (omega arith))
       ]
 
--- the three bits from bit `place` of byte i on stand in byte i and the byte of the last of them
-module _ (l : List ℕ) (i place last : ℕ) (hp : place < 8) (e : last ≡ i + (place + 2) / 8) (within : last < length l) where
-  bit-pair : (d : ℕ) → d < 3 → getD (bitsOf (getD l i 0 ∷ getD l last 0 ∷ [])) (place + d) 0 ≡ getD (bitsOf l) (8 * i + place + d) 0
-  bit-pair d hd =
-      let pair = getD l i 0 ∷ getD l last 0 ∷ [] in
-      elim (decLt (place + d) 8) [
-        | yes h ↦ bit-in pair (place + d) 0 (place + d) (omega arith) (omega arith) h ∙ sym (bit-in l (8 * i + place + d) i (place + d) (omega arith) (omega arith) h)
-        | no h ↦
-            let j : ℕ = place + d - 8 in
-            bit-in pair (place + d) 1 j (omega arith) (omega arith) (omega arith) ∙ sym (bit-in l (8 * i + place + d) last j (omega arith) within (omega arith))
-      ]
+  pub bits-low : LowBits (bitsOf l) at n (both / 2 ^ (16 - n - at % 8))
+  bits-low = record { each = each }
+    where
+      each : (d : ℕ) → d < n → both / 2 ^ (16 - n - at % 8) / 2 ^ (n - 1 - d) % 2 ≡ getD (bitsOf l) (at + d) 0
+      each d h =
+          let sum : 16 - n - at % 8 + (n - 1 - d) ≡ 15 - (at % 8 + d) = omega arith in
+          ap (λ (m : ℕ). m % 2) (shr-shr both (16 - n - at % 8) (n - 1 - d) ∙ ap (λ (k : ℕ). both / 2 ^ k) sum) ∙ bit d h
 
-  pub pair-three : threeAt (bitsOf (getD l i 0 ∷ getD l last 0 ∷ [])) place ≡ threeAt (bitsOf l) (8 * i + place)
-  pair-three =
-      omega (
-        arith,
-        ap (λ (k : ℕ). getD (bitsOf (getD l i 0 ∷ getD l last 0 ∷ [])) k 0) (sym (add-zero place)) ∙ bit-pair 0 (omega arith) ∙ ap (λ (k : ℕ). getD (bitsOf l) k 0) (add-zero (8 * i + place)),
-        bit-pair 1 (omega arith),
-        bit-pair 2 (omega arith),
-      )
+-- ---- three bits
 
--- what the code reads at a position: bit at % 8 of byte at / 8, through the byte of the last bit
-pub three-read : (l : List ℕ) (at v : ℕ) → at / 8 + (at % 8 + 2) / 8 < length l
-    → v ≡ threeAt (bitsOf (getD l (at / 8) 0 ∷ getD l (at / 8 + (at % 8 + 2) / 8) 0 ∷ [])) (at % 8) → v ≡ threeAt (bitsOf l) at
-three-read l at v within e =
-    let whole : 8 * (at / 8) + at % 8 ≡ at = omega arith in
-    e ∙ pair-three l (at / 8) (at % 8) (at / 8 + (at % 8 + 2) / 8) (omega arith) refl within ∙ ap (threeAt (bitsOf l)) whole
+-- the three low bits of a number
+pub eight-sum : (y : ℕ) → y % 8 ≡ 4 * (y / 4 % 2) + 2 * (y / 2 % 2) + y % 2
+unfolding all
+eight-sum y =
+    let z : ℕ = y % 8 in
+    let one : z / 4 ≡ y / 4 % 2 = omega arith in
+    let two : z / 2 % 2 ≡ y / 2 % 2 = omega arith in
+    let three : z % 2 ≡ y % 2 = omega arith in
+    equal-below 8 (λ z. z) (λ z. 4 * (z / 4) + 2 * (z / 2 % 2) + z % 2) tt z (omega arith)
+    ∙ ap₂ (λ (u v : ℕ). 4 * u + 2 * v + z % 2) one two
+    ∙ ap (λ (u : ℕ). 4 * (y / 4 % 2) + 2 * (y / 2 % 2) + u) three
+
+pub three-low : (b : List ℕ) (p v : ℕ) → LowBits b p 3 v → v % 8 ≡ threeAt b p
+three-low b p v low =
+    eight-sum v
+    ∙ ap₂ (λ (x y : ℕ). 4 * x + 2 * y + v % 2) (low .each 0 (omega arith) ∙ ap (λ (q : ℕ). getD b q 0) (add-zero p)) (low .each 1 (omega arith))
+    ∙ ap (λ (z : ℕ). 4 * getD b p 0 + 2 * getD b (p + 1) 0 + z) (whole v ∙ low .each 2 (omega arith))
+  where
+    whole : (v : ℕ) → v % 2 ≡ v / 1 % 2
+    whole v = omega arith
 
 -- ---- the step
 

@@ -1,10 +1,10 @@
 // The bits of a slice of bytes, the highest of each byte first.
 ghost use mathlib.Core.Path.{_≡_};
 ghost use mathlib.Core.List.{[], _∷_};
-ghost use Prim.Native.Nat.{_+_, _*_, _%_, _<_};
-ghost use lib.ListN.{getD, set};
+ghost use Prim.Native.Nat.{_+_, _*_, _%_, _<_, _≤_};
+ghost use lib.ListN.{length, getD, set};
 ghost use lib.Seq.{sets};
-ghost use Rattle.bits.specs.Bits.{bitsOf, threeOf, threeAt};
+ghost use Rattle.bits.specs.Bits.{bitsOf, threeOf, LowBits};
 ghost use Rattle.bits.specs.Step.{stepAt};
 
 // Three bits as a number, or 8, and the next position.
@@ -62,13 +62,22 @@ pub fn write_three(bytes: &mut [u8], at: usize, v: u8)
     put_bit(bytes, i + (place + 2) / 8, (place + 2) % 8, v % 2);
 }
 
-// The three bits from `place` on of a byte and the byte behind it.
-fn window(first: u8, second: u8, place: usize) -> u8
-    requires { ⌜ place < 8 ⌝ }
-    ensures { λ r. ⌜ r ≡ threeAt (bitsOf (first ∷ second ∷ [])) place ⌝ }
+// Two bytes as one number.
+fn both(first: u8, second: u8) -> u16
+    ensures { λ r. ⌜ (r ≡ first * 256 + second) × (second < 256) ⌝ }
 {
-    let both = first as u16 * 256 + second as u16;
-    ((both >> (13 - place)) % 8) as u8
+    first as u16 * 256 + second as u16
+}
+
+// Two bytes as one number, so shifted that its n low bits are those from `at` on. For the crates of this repository.
+pub fn low_bits(bytes: &[u8], at: usize, n: usize) -> u16
+    requires { ⌜ ((0 < n) × (n < 10)) × (at + n ≤ 8 * length (now bytes)) ⌝ }
+    ensures { λ r. ⌜ LowBits (bitsOf (now (bytes .entry))) at n r ⌝ }
+{
+    let i = at / 8;
+    let place = at % 8;
+    let last = i + (place + n - 1) / 8;
+    both(bytes[i], bytes[last]) >> (16 - n - place)
 }
 
 // One step of the image reader.
@@ -81,7 +90,7 @@ pub fn read_three(bytes: &[u8], at: usize) -> Step
     if bytes.len() <= last {
         return Step { value: 8, next: at };
     }
-    let value = window(bytes[i], bytes[last], place);
+    let value = (low_bits(bytes, at, 3) % 8) as u8;
     if 18446744073709551612 < at {
         return Step { value, next: at };
     }

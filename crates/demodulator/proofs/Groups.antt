@@ -1,18 +1,24 @@
 -- Groups read from bits: how many they are, each of them, those behind the first, and their bits. Assumes nothing.
+use mathlib.Core.Bool.{Bool, true, cond}
 use mathlib.Core.List.{List, [], _∷_, _++_}
 use mathlib.Core.Path.{_≡_, refl, sym, ap, ap₂, _∙_}
 use Prim.Native.Nat.{ℕ, zero, suc, _+_, _*_, _-_, _<_, _≤_}
 use native.Mathlib.Nat.{not-suc-le-zero, le-of-suc-le-suc}
 use native.Mathlib.Numerals.{add-one, add-two, add-three}
 use native.Mathlib.Omega.{arith}
+use borrow.Author.Tests.{le-leb}
 use lib.Dec.{eqb, eqb→eq}
 use lib.ListN.{length, getD, take, drop}
 use lib.Seq.{drop-cons}
 use Rattle.laws.proofs.Finite.{all, all₂, all₃, all₃-at}
-use Rattle.bits.specs.Bits.{Bits, threeAt, threeOf}
+use Rattle.bits.specs.declared.Step.{Step}
+use Rattle.bits.specs.Bits.{Bits, bitsOf, threeAt, threeOf}
+use Rattle.bits.specs.Step.{enough, stepAt}
+use Rattle.bits.proofs.Bits.{length-bits as length-bitsOf, bits-bits}
 use Rattle.modulation.specs.Modulation.{m000, threeNumber}
 use Rattle.modulation.specs.Bits.{three, bits}
-use Rattle.demodulator.specs.Ahead.{groupsAt}
+use Rattle.modulation.proofs.Fronts.{three-below}
+use Rattle.demodulator.specs.Groups.{Inside, groupsAt}
 
 pub length-groupsAt : (b : List ℕ) (p n : ℕ) → length (groupsAt b p n) ≡ n
 unfolding groupsAt
@@ -84,3 +90,18 @@ bits-groupsAt b p zero h l = refl
 bits-groupsAt b p (suc n) h l =
     ap₂ (λ (k m : List ℕ). k ++ m) (three-bits (getD b p 0) (getD b (p + 1) 0) (getD b (p + 2) 0) (h p) (h (p + 1)) (h (p + 2))) (bits-groupsAt b (p + 3) n h (omega arith))
     ∙ sym (take-three b p n (omega arith))
+
+-- group j, as `read_three` reads it
+pub group-read : {l : List ℕ} {at left : ℕ} (j : ℕ) {s : Step} → s ≡ stepAt (bitsOf l) (at + 3 * j) → Inside l at left → j < left
+    → (s .value ≡ threeNumber (getD (groupsAt (bitsOf l) at left) j m000)) × (s .value < 8)
+unfolding stepAt
+group-read {l} {at} {left} j {s} e h below = (value, omega (arith, three-below (getD (groupsAt (bitsOf l) at left) j m000), value))
+  where
+    there : enough (bitsOf l) (at + 3 * j) ≡ true
+    there = le-leb (at + 3 * j + 3) (length (bitsOf l)) (omega (arith, length-bitsOf l))
+
+    value : s .value ≡ threeNumber (getD (groupsAt (bitsOf l) at left) j m000)
+    value =
+        ap (λ (t : Step). t .value) e
+        ∙ ap (λ (b : Bool). cond b (threeAt (bitsOf l) (at + 3 * j)) 8) there
+        ∙ group-at (bitsOf l) at left j (bits-bits l) below

@@ -1,10 +1,10 @@
--- Laws that the proofs of the demodulator's functions cite.
+-- The two theorems are Complete and Sound; the other files lead from them to the code's words.
 pub mod Groups
-pub mod Ahead
-pub mod Five
-pub mod Begin
-pub mod Follow
-pub mod Putting
-pub mod Demodulating
-pub mod Comparing
-pub mod Answer
+pub mod Complete
+pub mod Sound
+pub mod Entries
+pub mod Windows
+pub mod Running
+pub mod Aligned
+pub mod Words
+pub mod Reading

@@ -1,3 +1,5 @@
--- What the demodulator promises, and what its functions answer.
-pub mod Demodulated
-pub mod Ahead
+-- The groups that are read, the automaton that reads them, the tables by which it is run, and the words that it leaves.
+pub mod Groups
+pub mod Automaton
+pub mod Table
+pub mod Words

@@ -1,244 +1,280 @@
-// The 17PP demodulator: strict, by modulating again what was read.
+// The 17PP demodulator: strict, by an automaton over groups of modulation bits, three groups a step.
 // Functions with a `requires` are called by the crates of this repository only.
-mod first;
+mod constants;
 
-use modulator::PackedRows;
-use modulator::When;
+ghost use mathlib.Core.Bool.{cond};
 ghost use mathlib.Core.List.{List};
 ghost use mathlib.Core.Path.{_≡_};
-ghost use Prim.Native.Nat.{_+_, _*_, _<_, _≤_};
+ghost use Prim.Native.Nat.{_+_, _*_, _-_, _/_, _%_, _^_, _<_, _≤_};
 ghost use lib.ListN.{length, getD, take, drop};
-ghost use lib.Seq.{sets};
-ghost use Rattle.laws.specs.Tabulate.{tabulate};
 ghost use Rattle.bits.specs.Bits.{bitsOf};
-ghost use Rattle.modulation.specs.Modulation.{Three, m000, threeNumber, rowAt, starts, modulate};
-ghost use Rattle.modulation.specs.Demodulator.{follows, agrees, reads, demodulate};
-ghost use Rattle.modulation.specs.Pairs.{Pairs, twos, numbers};
-ghost use Rattle.modulator.specs.Rows.{packedRows};
-ghost use Rattle.demodulator.specs.Demodulated.{Demodulated};
-ghost use Rattle.demodulator.specs.Ahead.{Inside, groupsAt, frameAt, GroupsAhead, FiveAhead, NoneBelow, nextNumber, Reading, Compared};
+ghost use Rattle.demodulator.specs.Groups.{Inside, groupsAt};
+ghost use Rattle.demodulator.specs.Automaton.{reads, ending};
+ghost use Rattle.demodulator.specs.Words.{WordsRead};
+ghost use Rattle.demodulator.specs.Table.{twoGroups, threeGroups, readFrom, tableEntry, table, After};
 
-// Group j behind bit `at`, of which `left` are left; 0 past those.
-fn group_ahead(bytes: &[u8], at: usize, left: usize, j: usize) -> u16
-    requires { ⌜ Inside (now bytes) at left ⌝ }
-    ensures { λ r. ⌜ (j < left → r ≡ threeNumber (getD (groupsAt (bitsOf (now (bytes .entry))) at left) j m000)) × (r < 8) ⌝ }
+// Three groups at each state, then two.
+pub type Table = [u16; 10368];
+
+// State s at group g.
+fn entry(ones: &[u16; 144], s: usize, g: usize) -> u16
+    requires { ⌜ (now ones ≡ reads) × ((s < 18) × (g < 8)) ⌝ }
+    ensures { λ r. ⌜ (r ≡ getD reads (8 * s + g) 0) × ((r < 2950) × (r % 32 < 18)) ⌝ }
 {
-    if j < left {
-        let step = bits::read_three(bytes, at + 3 * j);
-        step.value as u16
+    ones[8 * s + g]
+}
+
+// State s at two groups.
+fn two_entry(ones: &[u16; 144], s: usize, v: usize) -> u16
+    requires { ⌜ (now ones ≡ reads) × ((s < 18) × (v < 64)) ⌝ }
+    ensures { λ r. ⌜ (r ≡ readFrom s (twoGroups v)) × ((r < 14752) × (r % 32 < 18)) ⌝ }
+{
+    let a = entry(ones, s, v / 8);
+    let b = entry(ones, (a % 32) as usize, v % 8);
+    a / 32 * 128 + b
+}
+
+// State s at three groups.
+fn three_entry(ones: &[u16; 144], s: usize, v: usize) -> u16
+    requires { ⌜ (now ones ≡ reads) × ((s < 18) × (v < 512)) ⌝ }
+    ensures { λ r. ⌜ r ≡ readFrom s (threeGroups v) ⌝ }
+{
+    let a = two_entry(ones, s, v / 8);
+    let b = entry(ones, (a % 32) as usize, v % 8);
+    a / 32 * 128 + b
+}
+
+// Entry k of the table.
+fn entry_at(ones: &[u16; 144], k: usize) -> u16
+    requires { ⌜ (now ones ≡ reads) × (k < 10368) ⌝ }
+    ensures { λ r. ⌜ r ≡ tableEntry k ⌝ }
+{
+    if k < 9216 {
+        three_entry(ones, k % 18, k / 18)
     } else {
-        0
+        two_entry(ones, (k - 9216) % 18, (k - 9216) / 18)
     }
 }
 
-// The next five groups behind bit `at` as one number; past the end a group counts as 000.
-fn first_five(bytes: &[u8], at: usize, left: usize) -> u16
-    requires { ⌜ Inside (now bytes) at left ⌝ }
-    ensures { λ r. ⌜ FiveAhead (groupsAt (bitsOf (now (bytes .entry))) at left) r ⌝ }
+fn no_entries() -> [u16; 10368]
+    ensures { λ r. ⌜ length r ≡ 10368 ⌝ }
 {
-    let one = group_ahead(bytes, at, left, 0);
-    let two = 8 * one + group_ahead(bytes, at, left, 1);
-    let three = 8 * two + group_ahead(bytes, at, left, 2);
-    let four = 8 * three + group_ahead(bytes, at, left, 3);
-    8 * four + group_ahead(bytes, at, left, 4)
+    [0u16; 10368]
 }
 
-// The next five behind the first `len` of those behind bit `at`: each group is read once.
-fn five_behind(five: u16, len: usize, bytes: &[u8], at: usize, left: usize) -> u16
-    requires { ⌜ (FiveAhead (groupsAt (bitsOf (now bytes)) at left) five × (len < 5)) × Inside (now bytes) at left ⌝ }
-    ensures { λ r. ⌜ FiveAhead (drop len (groupsAt (bitsOf (now (bytes .entry))) at left)) r ⌝ }
+// The table, made once and lent.
+pub fn table() -> [u16; 10368]
+    ensures { λ r. ⌜ r ≡ table ⌝ }
 {
-    let mut next = five;
-    let mut j = 0;
-    while j < len {
-        next = next % 4096 * 8 + group_ahead(bytes, at, left, j + 5);
-        j += 1;
-    }
-    next
-}
-
-// The modulation bits of the next 0 to 5 groups.
-fn groups_ahead(five: u16) -> [u16; 6]
-    ensures { λ r. ⌜ ((gs : List Three) → FiveAhead gs five → GroupsAhead gs r) ⌝ }
-{
-    [0, five / 4096, five / 512, five / 64, five / 8, five]
-}
-
-// Whether the groups of row k stand first among those ahead, of which `left` are left.
-fn groups_stand(rows: &PackedRows, k: usize, ahead: [u16; 6], left: usize) -> bool
-    requires { ⌜ (now rows ≡ packedRows) × (k < 16) ⌝ }
-    ensures { λ r. ⌜ ((gs : List Three) → GroupsAhead gs ahead → length gs ≡ left → r ≡ starts threeNumber (rowAt k .groups) gs) ⌝ }
-{
-    let r = modulator::row_at(rows, k);
-    let len = r.0;
-    if left < len {
-        return false;
-    }
-    ahead[len] == r.2
-}
-
-// The group behind the first `len` of those ahead, or 8 where the frame ends.
-fn group_behind(ahead: [u16; 6], len: usize, left: usize) -> u8
-    requires { ⌜ len < 5 ⌝ }
-    ensures { λ r. ⌜ ((gs : List Three) → GroupsAhead gs ahead → length gs ≡ left → r ≡ nextNumber (drop len gs)) ⌝ }
-{
-    if len < left {
-        (ahead[len + 1] % 8) as u8
-    } else {
-        8
-    }
-}
-
-// Whether the word of row k can be followed by the group `next`, or end a frame whose next sync has # `hash`.
-fn may_follow(rows: &PackedRows, k: usize, next: u8, hash: bool) -> bool
-    requires { ⌜ (now rows ≡ packedRows) × (k < 16) ⌝ }
-    ensures { λ r. ⌜ ((gs : List Three) → next ≡ nextNumber gs → r ≡ follows (rowAt k .when) hash gs) ⌝ }
-{
-    if next == 8 {
-        return modulator::is_terminating(rows, k) == hash;
-    }
-    next != 0b100
-}
-
-// Whether the condition of row k holds after the bit before and in front of the group `next`.
-fn agrees_at(rows: &PackedRows, k: usize, next: u8, before: bool) -> bool
-    requires { ⌜ (now rows ≡ packedRows) × (k < 16) ⌝ }
-    ensures { λ r. ⌜ ((gs : List Three) → next ≡ nextNumber gs → r ≡ agrees (rowAt k .when) before gs) ⌝ }
-{
-    let r = modulator::row_at(rows, k);
-    let when = r.3;
-    match when {
-        When::Always => true,
-        When::AfterOne => before,
-        When::AfterZero => !before,
-        When::Before010 => next == 0b010,
-        When::AtEnd => next == 8,
-    }
-}
-
-// Whether the word of row k stands first among the groups ahead.
-fn reads_at(
-    rows: &PackedRows,
-    k: usize,
-    ahead: [u16; 6],
-    left: usize,
-    before: bool,
-    hash: bool,
-) -> bool
-    requires { ⌜ (now rows ≡ packedRows) × (k < 16) ⌝ }
-    ensures { λ r. ⌜ ((gs : List Three) → GroupsAhead gs ahead → length gs ≡ left → r ≡ reads before hash gs (rowAt k)) ⌝ }
-{
-    if !groups_stand(rows, k, ahead, left) {
-        return false;
-    }
-    let next = group_behind(ahead, modulator::row_len(rows, k), left);
-    if !may_follow(rows, k, next, hash) {
-        return false;
-    }
-    agrees_at(rows, k, next, before)
-}
-
-// Where to begin a search for a row whose groups stand first among those ahead, of which `left` are left.
-fn first_row(ahead: [u16; 6], left: usize) -> usize
-    ensures { λ r. ⌜ (r < 16) × ((gs : List Three) → GroupsAhead gs ahead → length gs ≡ left → NoneBelow gs r) ⌝ }
-{
-    if left < 2 {
-        return 0;
-    }
-    first::table_first((ahead[2] % 64) as usize)
-}
-
-// The row of the word at the front of the groups of which `five` are the first; where none of the others is read, the last.
-fn read_row(rows: &PackedRows, five: u16, left: usize, before: bool, hash: bool) -> usize
-    requires { ⌜ (now rows ≡ packedRows) × (0 < left) ⌝ }
-    ensures { λ r. ⌜ ((gs : List Three) → FiveAhead gs five → length gs ≡ left → Reading before hash gs left r) ⌝ }
-{
-    let ahead = groups_ahead(five);
-    let mut k = first_row(ahead, left);
-    while k < 15 {
-        if reads_at(rows, k, ahead, left, before, hash) {
-            return k;
-        }
+    let ones = constants::reads();
+    let mut made = no_entries();
+    let mut k = 0;
+    while k < 10368 {
+        made[k] = entry_at(&ones, k);
         k += 1;
     }
-    k
+    made
 }
 
-// The pairs of row k, from place i on.
-fn put_pairs(rows: &PackedRows, k: usize, pairs: &mut [u8], i: usize)
-    requires { ⌜ (now rows ≡ packedRows) × ((k < 16) × (i + length (rowAt k .pairs) ≤ length (now pairs))) ⌝ }
-    ensures { λ _. ⌜ now (pairs .exit) ≡ sets (now (pairs .entry)) i (numbers (rowAt k .pairs)) ⌝ }
+fn wide(a: u16) -> u64
+    ensures { λ r. ⌜ (r ≡ a) × (r < 65536) ⌝ }
 {
-    let len = modulator::row_len(rows, k);
-    let mut j = 0;
-    while j < len {
-        pairs[i + j] = modulator::pair_of(rows, k, j);
-        j += 1;
+    a as u64
+}
+
+// Three groups v more.
+fn three_on(made: &Table, x: u64, v: usize) -> u64
+    requires { ⌜ (now made ≡ table) × ((v < 512) × ((x % 32 < 18) × (x < 9007199254740992))) ⌝ }
+    ensures { λ r. ⌜ After (threeGroups v) x r ⌝ }
+{
+    x / 32 * 2048 + wide(made[18 * v + (x % 32) as usize])
+}
+
+// Two groups v more.
+fn two_on(made: &Table, x: u64, v: usize) -> u64
+    requires { ⌜ (now made ≡ table) × ((v < 64) × ((x % 32 < 18) × (x < 9007199254740992))) ⌝ }
+    ensures { λ r. ⌜ After (twoGroups v) x r ⌝ }
+{
+    x / 32 * 512 + wide(made[9216 + 18 * v + (x % 32) as usize])
+}
+
+// The two groups at bit `at`.
+fn six(bytes: &[u8], at: usize) -> usize
+    requires { ⌜ Inside (now bytes) at 2 ⌝ }
+    ensures { λ r. ⌜ (twoGroups r ≡ groupsAt (bitsOf (now (bytes .entry))) at 2) × (r < 64) ⌝ }
+{
+    (bits::low_bits(bytes, at, 6) % 64) as usize
+}
+
+// The three groups at bit `at`.
+fn nine(bytes: &[u8], at: usize) -> usize
+    requires { ⌜ Inside (now bytes) at 3 ⌝ }
+    ensures { λ r. ⌜ (threeGroups r ≡ groupsAt (bitsOf (now (bytes .entry))) at 3) × (r < 512) ⌝ }
+{
+    (bits::low_bits(bytes, at, 9) % 512) as usize
+}
+
+// The groups at bit `at`, three a turn.
+fn run(made: &Table, bytes: &[u8], at: usize, s: u64, turns: usize) -> u64
+    requires { ⌜ (now made ≡ table) × ((s < 18) × ((turns < 8) × Inside (now bytes) at (3 * turns))) ⌝ }
+    ensures { λ r. ⌜ After (groupsAt (bitsOf (now (bytes .entry))) at (3 * turns)) s r ⌝ }
+{
+    let mut x = s;
+    let mut k = 0;
+    while k < turns {
+        x = three_on(made, x, nine(bytes, at + 9 * k));
+        k += 1;
+    }
+    x
+}
+
+// 23 groups: 46 data bits.
+fn segment(made: &Table, bytes: &[u8], at: usize, s: u64) -> u64
+    requires { ⌜ (now made ≡ table) × ((s < 18) × Inside (now bytes) at 23) ⌝ }
+    ensures { λ r. ⌜ After (groupsAt (bitsOf (now (bytes .entry))) at 23) s r ⌝ }
+{
+    let x = run(made, bytes, at, s, 7);
+    two_on(made, x, six(bytes, at + 63))
+}
+
+// 13 groups: 26 data bits.
+fn first(made: &Table, bytes: &[u8], at: usize, s: u64) -> u64
+    requires { ⌜ (now made ≡ table) × ((s < 18) × Inside (now bytes) at 13) ⌝ }
+    ensures { λ r. ⌜ After (groupsAt (bitsOf (now (bytes .entry))) at 13) s r ⌝ }
+{
+    let x = run(made, bytes, at, s, 3);
+    let y = two_on(made, x, six(bytes, at + 27));
+    two_on(made, y, six(bytes, at + 33))
+}
+
+// Two frames at once: the look-ups of one wait while those of the other go on.
+pub struct Two {
+    pub first: u64,
+    pub second: u64,
+}
+
+// The groups at two positions, three a turn.
+fn run_two(made: &Table, bytes: &[u8], at: usize, also: usize, s: u64, t: u64, turns: usize) -> Two
+    requires { ⌜ (now made ≡ table) × (((s < 18) × (t < 18)) × ((turns < 8) × (Inside (now bytes) at (3 * turns) × Inside (now bytes) also (3 * turns)))) ⌝ }
+    ensures { λ r. ⌜ After (groupsAt (bitsOf (now (bytes .entry))) at (3 * turns)) s (r .first) × After (groupsAt (bitsOf (now (bytes .entry))) also (3 * turns)) t (r .second) ⌝ }
+{
+    let mut x = s;
+    let mut y = t;
+    let mut k = 0;
+    while k < turns {
+        x = three_on(made, x, nine(bytes, at + 9 * k));
+        y = three_on(made, y, nine(bytes, also + 9 * k));
+        k += 1;
+    }
+    Two {
+        first: x,
+        second: y,
     }
 }
 
-// The pairs of the words read from bit `at` on, as many as `pairs` has places.
-fn read_words(
-    rows: &PackedRows,
+// 23 groups at each of two positions.
+fn segment_two(made: &Table, bytes: &[u8], at: usize, also: usize, s: u64, t: u64) -> Two
+    requires { ⌜ (now made ≡ table) × (((s < 18) × (t < 18)) × (Inside (now bytes) at 23 × Inside (now bytes) also 23)) ⌝ }
+    ensures { λ r. ⌜ After (groupsAt (bitsOf (now (bytes .entry))) at 23) s (r .first) × After (groupsAt (bitsOf (now (bytes .entry))) also 23) t (r .second) ⌝ }
+{
+    let ran = run_two(made, bytes, at, also, s, t, 7);
+    let x = two_on(made, ran.first, six(bytes, at + 63));
+    let y = two_on(made, ran.second, six(bytes, also + 63));
+    Two {
+        first: x,
+        second: y,
+    }
+}
+
+fn flag(b: bool) -> u64
+    ensures { λ r. ⌜ (r ≡ cond b 1 0) × (r < 2) ⌝ }
+{
+    if b { 1 } else { 0 }
+}
+
+// What the frame's end adds in state s.
+fn ending(s: u64, hash: bool) -> u64
+    requires { ⌜ s < 18 ⌝ }
+    ensures { λ r. ⌜ (r ≡ ending s hash) × (r < 65536) ⌝ }
+{
+    let ends = constants::ends();
+    wide(ends[(2 * s + flag(hash)) as usize])
+}
+
+// The data bits of the 634 groups at bit `at`, in words of 46 bits; whether there are data bits that give these groups.
+pub fn read_words(
+    made: &Table,
     bytes: &[u8],
     at: usize,
     before: bool,
     hash: bool,
-    pairs: &mut [u8],
-)
-    requires { ⌜ (now rows ≡ packedRows) × (Inside (now bytes) at (length (now pairs))) ⌝ }
-    ensures { λ _. ⌜ now (pairs .exit) ≡ numbers (demodulate before (frameAt (bitsOf (now (bytes .entry))) at (length (now (pairs .entry))) hash)) ⌝ }
+    words: &mut [u64; 29],
+) -> bool
+    requires { ⌜ (now made ≡ table) × ((length (now words) ≡ 29) × Inside (now bytes) at 634) ⌝ }
+    ensures { λ r. ⌜ WordsRead before (take 1902 (drop at (bitsOf (now (bytes .entry))))) hash r (now (words .exit)) ⌝ }
 {
-    let mut b = before;
-    let mut five = first_five(bytes, at, pairs.len());
+    let mut x = first(made, bytes, at, flag(before));
     let mut i = 0;
-    while i < pairs.len() {
-        let left = pairs.len() - i;
-        let k = read_row(rows, five, left, b, hash);
-        put_pairs(rows, k, pairs, i);
-        b = modulator::ends_in_one(rows, k);
-        let len = modulator::row_len(rows, k);
-        five = five_behind(five, len, bytes, at + 3 * i, left);
-        i += len;
+    while i < 27 {
+        let y = segment(made, bytes, at + 39 + 69 * i, x % 32);
+        words[i] = x / 32 + y / 2251799813685248;
+        x = y % 2251799813685248;
+        i += 1;
     }
+    let end = ending(x % 32, hash);
+    words[27] = x / 32 + end / 2;
+    words[28] = 0;
+    end % 2 == 0
 }
 
-// Whether the pairs give the groups from bit `at` on, and a next sync with # `hash`.
-fn gives(rows: &PackedRows, bytes: &[u8], at: usize, before: bool, hash: bool, pairs: &[u8]) -> bool
-    requires { ⌜ (now rows ≡ packedRows) × (Pairs (now pairs) × Inside (now bytes) at (length (now pairs))) ⌝ }
-    ensures { λ r. ⌜ Compared (modulate before (twos (now (pairs .entry)))) (frameAt (bitsOf (now (bytes .entry))) at (length (now (pairs .entry))) hash) r ⌝ }
-{
-    let mut b = before;
-    let mut terminated = false;
-    let mut five = first_five(bytes, at, pairs.len());
-    let mut i = 0;
-    while i < pairs.len() {
-        let k = modulator::fitting_row(rows, pairs, i, b);
-        let left = pairs.len() - i;
-        if !groups_stand(rows, k, groups_ahead(five), left) {
-            return false;
-        }
-        terminated |= modulator::is_terminating(rows, k);
-        b = modulator::ends_in_one(rows, k);
-        let len = modulator::row_len(rows, k);
-        five = five_behind(five, len, bytes, at + 3 * i, left);
-        i += len;
-    }
-    terminated == hash
+// Which of two frames were found.
+pub struct Found {
+    pub first: bool,
+    pub second: bool,
 }
 
-// The groups of a frame from bit `at` on, demodulated, as many as `pairs` has places: `before` is the bit in front of them and `hash` # of
-// the next sync. Answers whether there are data bits that give them; where there are none, `pairs` is cleared. For the crates of this
-// repository.
-pub fn demodulate(bytes: &[u8], at: usize, before: bool, hash: bool, pairs: &mut [u8]) -> bool
-    requires { ⌜ Inside (now bytes) at (length (now pairs)) ⌝ }
-    ensures { λ r. ⌜ Demodulated before (take (3 * length (now (pairs .entry))) (drop at (bitsOf (now (bytes .entry))))) hash (length (now (pairs .entry))) r (now (pairs .exit)) ⌝ }
+// The same of two frames, at `at` and at `also`.
+pub fn read_two(
+    made: &Table,
+    bytes: &[u8],
+    at: usize,
+    also: usize,
+    before: bool,
+    prior: bool,
+    hash: bool,
+    sign: bool,
+    words: &mut [u64; 29],
+    more: &mut [u64; 29],
+) -> Found
+    requires { ⌜ (now made ≡ table) × (((length (now words) ≡ 29) × (length (now more) ≡ 29)) × (Inside (now bytes) at 634 × Inside (now bytes) also 634)) ⌝ }
+    ensures { λ r. ⌜ WordsRead before (take 1902 (drop at (bitsOf (now (bytes .entry))))) hash (r .first) (now (words .exit)) × WordsRead prior (take 1902 (drop also (bitsOf (now (bytes .entry))))) sign (r .second) (now (more .exit)) ⌝ }
 {
-    let rows = modulator::packed_rows();
-    read_words(&rows, bytes, at, before, hash, pairs);
-    if gives(&rows, bytes, at, before, hash, pairs) {
-        return true;
+    let mut x = first(made, bytes, at, flag(before));
+    let mut y = first(made, bytes, also, flag(prior));
+    let mut i = 0;
+    while i < 27 {
+        let next = segment_two(
+            made,
+            bytes,
+            at + 39 + 69 * i,
+            also + 39 + 69 * i,
+            x % 32,
+            y % 32,
+        );
+        words[i] = x / 32 + next.first / 2251799813685248;
+        more[i] = y / 32 + next.second / 2251799813685248;
+        x = next.first % 2251799813685248;
+        y = next.second % 2251799813685248;
+        i += 1;
     }
-    slices::clear(pairs);
-    false
+    let end = ending(x % 32, hash);
+    let last = ending(y % 32, sign);
+    words[27] = x / 32 + end / 2;
+    words[28] = 0;
+    more[27] = y / 32 + last / 2;
+    more[28] = 0;
+    Found {
+        first: end % 2 == 0,
+        second: last % 2 == 0,
+    }
 }

@@ -7,15 +7,14 @@ use Prim.Native.Nat.{ℕ, _*_, _^_, _<_}
 use native.Mathlib.Omega.{arith}
 use borrow.Author.Tests.{eq-eqb, eqb-true}
 use lib.Dec.{eqb}
-use lib.ListN.{length, take, drop}
+use lib.ListN.{length}
 use Rattle.laws.specs.Bytes.{Bytes}
 use Rattle.modulation.specs.Modulation.{Two, lastBit, Modulated, modulate}
 use Rattle.modulation.specs.Bits.{pairs, dataBits, groups, bits, Gives}
 use Rattle.modulation.specs.Sync.{FS, syncId}
 use Rattle.modulation.specs.Stream.{modulated}
 use Rattle.modulation.specs.Demodulator.{demodulate}
-use Rattle.modulation.specs.Pairs.{twos}
-use Rattle.demodulator.specs.Demodulated.{Demodulated}
+use Rattle.demodulator.specs.Words.{bitsIn, WordsRead}
 use Rattle.modulation.proofs.Bits.{length-bits, groups-bits, length-pairs, length-dataBits, pairs-dataBits}
 use Rattle.modulation.proofs.Size.{size}
 use Rattle.modulation.proofs.Tests.{and-left, and-right, and-true, true-T, beq-same, beq-refl}
@@ -25,11 +24,10 @@ use Rattle.frame.specs.Frame.{framePairs, nextHash}
 use Rattle.frame.specs.Same.{same}
 use Rattle.frame.specs.declared.FrameRead.{FrameRead}
 use Rattle.frame.specs.declared.FrameRead.the-variants.{Found, NoFrame}
-use Rattle.frame.specs.Reading.{BitsGive, RowGives, StrictlyRead, bitsRead, readable, frameRead, rowRead}
-use Rattle.frame.specs.Slices.{bitsIn}
+use Rattle.frame.specs.Reading.{BitsGive, RowGives, StrictlyRead, FrameWords, Taken, bitsRead, readable, frameRead, rowRead}
 use Rattle.frame.proofs.Same.{same-true, same-refl}
 use Rattle.frame.proofs.FrameBits.{length-frame-bits, frame-bits-bits, frame-bits-back, frame-bits-inj, length-row, bytes-row, dc-word-lt}
-use Rattle.frame.proofs.Unweaving.{data-bits, bits-in, length-bits-in}
+use Rattle.frame.proofs.Unweaving.{data-bits, length-words-bits, words-bits-bits}
 
 -- ---- bits, and row and dc word
 
@@ -160,40 +158,47 @@ module _ {n : FS} {m : List ℕ} {hash : Bool} {before after : List ℕ} {answer
       go true t = let u = read-row (bits-row (readable-gives n m hash t)) in rw t (u .0, u .1)
       go false t = let e = none t answer refl in rw t (e, r .none e .0)
 
--- ---- what the demodulator answers
+-- ---- what the automaton answers
+
+found-is : (x y : ℕ) → _≡_ {A = FrameRead} (Found x) (Found y) → x ≡ y
+found-is x y e = cc
 
 no-found : {dc : ℕ} → Found dc ≡ NoFrame → ⊥
 no-found e = let z : _≡_ {A = ℕ} 0 1 = cc in omega arith
 
-module _ {n : FS} {m : List ℕ} {hash x : Bool} {l : List ℕ} (d : Demodulated (lastBit false (syncId n)) m hash 634 x l) where
-  none-read : {before : List ℕ} → x ≡ false → StrictlyRead n m hash before NoFrame before
-  none-read e = record { found = λ dc f. absurd (no-found (sym f)); none = λ _. (refl, λ b g. d .none e .1 (pairs b) (g .gives)) }
+-- the frame taken out of the words
+module _ (n : FS) {m ws : List ℕ} {hash : Bool} where
+  -- the data bits of the words found
+  found-bits : {x : Bool} → FrameWords n m hash x ws → x ≡ true → BitsGive n (bitsIn ws) m hash
+  found-bits d e = record { size = length-words-bits ws; are-bits = words-bits-bits ws; gives = d .found e }
 
-  -- the data bits of the pairs found
-  found-bits : x ≡ true → BitsGive n (bitsIn l) m hash
-  unfolding bitsIn
-  found-bits e =
-      record {
-        size = length-bits-in {l = l} (record { size = d .size; are-pairs = d .pairs });
-        are-bits = bits-in l (d .pairs);
-        gives = subst (λ (ds : List Two). Gives (lastBit false (syncId n)) ds m hash) (sym (pairs-dataBits (twos l))) (d .found e);
-      }
+  pub taken : {x : Bool} {before after : List ℕ} {answer : FrameRead} → FrameWords n m hash x ws → Taken ws x before answer after → StrictlyRead n m hash before answer after
+  taken {x} {before} {after} {answer} d t = by x refl
+    where
+      by : (y : Bool) → x ≡ y → StrictlyRead n m hash before answer after
+      by true e =
+          let is = t .there e in
+          record {
+            found = λ v f. let same : v ≡ dcOf (bitsIn ws) = found-is v (dcOf (bitsIn ws)) (sym f ∙ is .0) in rw (is .1, same) (bits-row (found-bits d e));
+            none = λ f. absurd (no-found (sym (is .0) ∙ f));
+          }
+      by false e =
+          let is = t .none e in
+          record {
+            found = λ dc f. absurd (no-found (sym f ∙ is .0));
+            none = λ _. (is .1, λ c g. d .none e (pairs c) (g .gives));
+          }
 
-  found-read : {dc : ℕ} {before after : List ℕ} → x ≡ true → after ≡ rowOf (bitsIn l) → dc ≡ dcOf (bitsIn l) → StrictlyRead n m hash before (Found dc) after
-  found-read {dc} {before} {after} e er ed =
-      record { found = λ v f. let same : v ≡ dcOf (bitsIn l) = cc in rw (er, same) (bits-row (found-bits e)); none = λ f. absurd (no-found f) }
+-- as the code hands it over: b is the sync's last bit
+pub reads : (n : FS) {b hash x : Bool} {m ws before after : List ℕ} {answer : FrameRead} → b ≡ lastBit false (syncId n) → WordsRead b m hash x ws
+    → Taken ws x before answer after → StrictlyRead n m hash before answer after
+reads n {b} {hash} {x} {m} {ws} eb d t = taken n (subst (λ (y : Bool). WordsRead y m hash x ws) eb d) t
 
--- as the code hands it over: b is the sync's last bit, and k places are lent for the pairs of the groups from p on
-module _ (n : FS) (bs : List ℕ) (p : ℕ) {b hash x : Bool} {k : ℕ} {l : List ℕ} (eb : b ≡ lastBit false (syncId n)) (ek : k ≡ 634)
-    (d : Demodulated b (take (3 * k) (drop p bs)) hash k x l) where
-  answered : Demodulated (lastBit false (syncId n)) (take 1902 (drop p bs)) hash 634 x l
-  answered =
-      subst (λ (j : ℕ). Demodulated (lastBit false (syncId n)) (take (3 * j) (drop p bs)) hash j x l) ek
-      (subst (λ (c : Bool). Demodulated c (take (3 * k) (drop p bs)) hash k x l) eb d)
+pub frame-words : (n : FS) {b hash x : Bool} {m ws : List ℕ} → b ≡ lastBit false (syncId n) → WordsRead b m hash x ws → FrameWords n m hash x ws
+frame-words n {b} {hash} {x} {m} {ws} eb d = subst (λ (y : Bool). WordsRead y m hash x ws) eb d
 
-  pub reads-none : {before : List ℕ} → x ≡ false → StrictlyRead n (take 1902 (drop p bs)) hash before NoFrame before
-  reads-none e = none-read answered e
+pub taken-there : {ws before after : List ℕ} {x : Bool} {dc : ℕ} → x ≡ true → after ≡ rowOf (bitsIn ws) → dc ≡ dcOf (bitsIn ws) → Taken ws x before (Found dc) after
+taken-there e er ed = record { there = λ _. (ap Found ed, er); none = λ f. absurd (true≢false (sym e ∙ f)) }
 
-  pub reads-found : {dc : ℕ} {before after : List ℕ} → x ≡ true → after ≡ rowOf (bitsIn l) → dc ≡ dcOf (bitsIn l)
-      → StrictlyRead n (take 1902 (drop p bs)) hash before (Found dc) after
-  reads-found e er ed = found-read answered e er ed
+pub taken-none : {ws before : List ℕ} {x : Bool} → x ≡ false → Taken ws x before NoFrame before
+taken-none e = record { there = λ t. absurd (true≢false (sym t ∙ e)); none = λ _. (refl, refl) }

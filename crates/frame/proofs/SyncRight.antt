@@ -20,9 +20,8 @@ use Rattle.modulation.specs.Sync.{FS, sync}
 use Rattle.modulation.proofs.Bits.{bits-injective}
 use Rattle.modulation.proofs.Fronts.{three-injective}
 use Rattle.modulation.proofs.Streams.{length-sync}
-use Rattle.demodulator.specs.Ahead.{Inside, groupsAt}
-use Rattle.demodulator.proofs.Groups.{length-groupsAt, bits-groupsAt}
-use Rattle.demodulator.proofs.Follow.{group-read}
+use Rattle.demodulator.specs.Groups.{Inside, groupsAt}
+use Rattle.demodulator.proofs.Groups.{length-groupsAt, bits-groupsAt, group-read}
 use Rattle.frame.specs.Sync.{syncGroup, hashAt, syncRight}
 use Rattle.frame.specs.Same.{same}
 use Rattle.frame.proofs.Same.{same-true, same-refl}

@@ -1,24 +1,27 @@
 -- The row and the dc word, bit by bit out of a frame's pairs. Assumes nothing.
 use mathlib.Core.Path.{_≡_, refl, sym, ap, ap₂, subst, _∙_}
 use mathlib.Core.List.{List, [], _∷_, _++_}
-use Prim.Native.Nat.{ℕ, zero, suc, _+_, _*_, _/_, _%_, _^_, _<_, _≤_}
-use native.Mathlib.Nat.{mul-assoc, pow-suc}
-use native.Mathlib.Decide.{ℕ-discrete}
+use Prim.Native.Nat.{ℕ, zero, suc, _+_, _*_, _-_, _/_, _%_, _^_, _<_, _≤_}
+use native.Mathlib.Nat.{mul-assoc, pow-suc, mod-lt, zero-lt-suc}
+use native.Mathlib.Decide.{ℕ-discrete, decLt}
 use native.Mathlib.Numerals.{add-one}
 use native.Mathlib.Omega.{arith}
-use lib.ListN.{length, getD, set, take, drop, length-append, length-drop}
+use lib.ListN.{length, getD, set, take, drop, length-append, length-drop, List·getD-eq-default}
 use lib.Seq.{getD-take, getD-drop, length-take-le}
-use lib.Pow.{pow-mono}
+use lib.Pow.{pow-mono, shr-shr, high}
 use Rattle.laws.specs.Tabulate.{tabulate}
 use Rattle.laws.proofs.Tabulate.{length-tabulate, getD-tabulate, is-tabulate}
 use Rattle.laws.proofs.Fill.{Upto, upto-none, upto-more, upto-all}
-use Rattle.bits.specs.Bits.{Bits, number}
+use Rattle.bits.specs.Bits.{Bits, number, bitsOfNumber}
+use Rattle.bits.proofs.Number.{length-bits-of, getD-bits-of, number-of-bits}
 use Rattle.bits.proofs.Pack.{getD-packed}
 use Rattle.modulation.specs.Bits.{dataBits}
 use Rattle.modulation.specs.Modulation.{Two}
 use Rattle.modulation.specs.Pairs.{Pairs, twos, numbers}
 use Rattle.modulation.proofs.Bits.{length-dataBits}
 use Rattle.modulation.proofs.Pairs.{length-twos, pairs-numbers, twos-numbers, slice-bits}
+use Rattle.demodulator.specs.Words as words
+use Rattle.demodulator.proofs.Words.{bit-below}
 use Rattle.frame.specs.FrameBits.{dataPlace, dcPlace, rowOf, dcOf}
 use Rattle.frame.specs.Slices.{Whole, bitsIn}
 use Rattle.frame.proofs.FrameBits.{length-row}
@@ -137,7 +140,99 @@ module _ {b : List ℕ} where
   pub row-more : {k v : ℕ} {row : List ℕ} → k < 155 → v ≡ getD (rowOf b) k 0 → RowUpto b k row → RowUpto b (k + 1) (set row k v)
   row-more h e u = record { upto = upto-more h e (u .upto) }
 
-pub row-all : {l : List ℕ} {k : ℕ} {row : List ℕ} → Whole l → 155 ≤ k → RowUpto (bitsIn l) k row → row ≡ rowOf (bitsIn l)
-row-all {l} w h u =
-    upto-all h (u .upto)
-    ∙ sym (is-tabulate 0 155 (λ k. getD (rowOf (bitsIn l)) k 0) (rowOf (bitsIn l)) (length-row (bitsIn l) (bits-in l (w .are-pairs))) (λ k _. refl))
+  pub row-all : Bits b → {k : ℕ} {row : List ℕ} → 155 ≤ k → RowUpto b k row → row ≡ rowOf b
+  row-all bits h u = upto-all h (u .upto) ∙ sym (is-tabulate 0 155 (λ k. getD (rowOf b) k 0) (rowOf b) (length-row b bits) (λ k _. refl))
+
+-- ---- out of words
+
+-- bit j of the words
+word-bit : (ws : List ℕ) (j : ℕ) → j < 1268 → getD (words.bitsIn ws) j 0 ≡ getD ws ((j + 20) / 46) 0 / 2 ^ (45 - (j + 20) % 46) % 2
+unfolding words.bitsIn
+word-bit ws j h = getD-tabulate 1268 (λ j. getD ws ((j + 20) / 46) 0 / 2 ^ (45 - (j + 20) % 46) % 2) j 0 h
+
+pub length-words-bits : (ws : List ℕ) → length (words.bitsIn ws) ≡ 1268
+unfolding words.bitsIn
+length-words-bits ws = length-tabulate 1268 (λ j. getD ws ((j + 20) / 46) 0 / 2 ^ (45 - (j + 20) % 46) % 2)
+
+pub words-bits-bits : (ws : List ℕ) → Bits (words.bitsIn ws)
+words-bits-bits ws j =
+    elim (decLt j 1268) [
+      | yes h ↦ subst (λ (n : ℕ). n < 2) (sym (word-bit ws j h)) (mod-lt (getD ws ((j + 20) / 46) 0 / 2 ^ (45 - (j + 20) % 46)) (zero-lt-suc 1))
+      | no h ↦ subst (λ (n : ℕ). n < 2) (sym (List·getD-eq-default (words.bitsIn ws) 0 {n = j} (omega (arith, length-words-bits ws)))) (omega arith)
+    ]
+
+-- the dc-control bit of word i
+pub dc-of-word : (ws : List ℕ) (i : ℕ) → i < 28 → (getD ws i 0 % 2 ≡ dcBit (words.bitsIn ws) i) × (getD ws i 0 % 2 < 2)
+unfolding dcBit
+dc-of-word ws i h =
+    let word : (46 * i + 25 + 20) / 46 ≡ i = omega arith in
+    let place : 45 - (46 * i + 25 + 20) % 46 ≡ 0 = omega arith in
+    (sym (word-bit ws (46 * i + 25) (omega arith) ∙ ap₂ (λ (k t : ℕ). getD ws k 0 / 2 ^ t % 2) word place ∙ whole (getD ws i 0)), mod-lt (getD ws i 0) (zero-lt-suc 1))
+  where
+    whole : (n : ℕ) → n / 1 % 2 ≡ n % 2
+    whole n = omega arith
+
+-- byte k of the row through two words
+module _ (ws : List ℕ) (k : ℕ) (hk : k < 155) (h : (i : ℕ) → getD ws i 0 < 70368744177664) where
+  i : ℕ
+  i = (8 * k + 20) / 45
+
+  r : ℕ
+  r = (8 * k + 20) % 45
+
+  both : ℕ
+  both = getD ws i 0 / 2 * 256 + getD ws (i + 1) 0 / 274877906944
+
+  low-small : getD ws (i + 1) 0 / 274877906944 < 256
+  low-small = omega (arith, h (i + 1))
+
+  remainder : r < 45
+  unfolding r
+  remainder = omega arith
+
+  -- bit t of the eight
+  row-bit : (t : ℕ) → t < 8 → both / 2 ^ (52 - (r + t)) % 2 ≡ rowBit (words.bitsIn ws) k t
+  unfolding rowBit both i r
+  row-bit t ht =
+      let q : ℕ = 8 * k + t in
+      let j : ℕ = q + (q + 20) / 45 in
+      let word : (j + 20) / 46 ≡ (q + 20) / 45 = omega arith in
+      let place : (j + 20) % 46 ≡ (q + 20) % 45 = omega arith in
+      let here = word-bit ws j (omega arith) ∙ ap₂ (λ (n m : ℕ). getD ws n 0 / 2 ^ (45 - m) % 2) word place in
+      elim (decLt (r + t) 45) [
+        | yes in-first ↦
+            let same : (q + 20) / 45 ≡ i = omega arith in
+            let rest : (q + 20) % 45 ≡ r + t = omega arith in
+            let up : 52 - (r + t) ≡ 8 + (44 - (r + t)) = omega arith in
+            let one : 1 + (44 - (r + t)) ≡ 45 - (r + t) = omega arith in
+            ap (λ (n : ℕ). both / 2 ^ n % 2) up
+            ∙ ap (λ (n : ℕ). n % 2) (sym (shr-shr both 8 (44 - (r + t))) ∙ ap (λ (n : ℕ). n / 2 ^ (44 - (r + t))) (high (getD ws i 0 / 2) 8 low-small) ∙ shr-shr (getD ws i 0) 1 (44 - (r + t)) ∙ ap (λ (n : ℕ). getD ws i 0 / 2 ^ n) one)
+            ∙ sym (here ∙ ap₂ (λ (n m : ℕ). getD ws n 0 / 2 ^ (45 - m) % 2) same rest)
+        | no in-second ↦
+            let same : (q + 20) / 45 ≡ i + 1 = omega arith in
+            let rest : (q + 20) % 45 ≡ r + t - 45 = omega arith in
+            let up : 52 - (r + t) ≡ 7 - (r + t - 45) = omega arith in
+            let one : 38 + (7 - (r + t - 45)) ≡ 45 - (r + t - 45) = omega arith in
+            ap (λ (n : ℕ). both / 2 ^ n % 2) up
+            ∙ bit-below (getD ws i 0 / 2) 8 (getD ws (i + 1) 0 / 274877906944) (7 - (r + t - 45)) low-small (omega arith)
+            ∙ ap (λ (n : ℕ). n % 2) (shr-shr (getD ws (i + 1) 0) 38 (7 - (r + t - 45)) ∙ ap (λ (n : ℕ). getD ws (i + 1) 0 / 2 ^ n) one)
+            ∙ sym (here ∙ ap₂ (λ (n m : ℕ). getD ws n 0 / 2 ^ (45 - m) % 2) same rest)
+      ]
+
+  pub byte-of-words : (v : ℕ) → v ≡ (getD ws ((8 * k + 20) / 45) 0 / 2 * 256 + getD ws ((8 * k + 20) / 45 + 1) 0 / 274877906944) / 2 ^ (45 - (8 * k + 20) % 45) % 256
+      → v ≡ getD (rowOf (words.bitsIn ws)) k 0
+  unfolding both i r
+  byte-of-words v e = row-byte (words.bitsIn ws) k v hk (e ∙ sym (number-of-bits 8 (both / 2 ^ (45 - r))) ∙ ap number eight)
+    where
+      eight : bitsOfNumber 8 (both / 2 ^ (45 - r)) ≡ tabulate 8 (rowBit (words.bitsIn ws) k)
+      eight = is-tabulate 0 8 (rowBit (words.bitsIn ws) k) (bitsOfNumber 8 (both / 2 ^ (45 - r))) (length-bits-of 8 (both / 2 ^ (45 - r))) at
+        where
+          small-r : r < 45
+          small-r = remainder
+
+          at : (t : ℕ) → t < 8 → getD (bitsOfNumber 8 (both / 2 ^ (45 - r))) t 0 ≡ rowBit (words.bitsIn ws) k t
+          at t ht =
+              let sum : 45 - r + (8 - 1 - t) ≡ 52 - (r + t) = omega (arith, small-r) in
+              getD-bits-of 8 (both / 2 ^ (45 - r)) t ht
+              ∙ ap (λ (n : ℕ). n % 2) (shr-shr both (45 - r) (8 - 1 - t) ∙ ap (λ (n : ℕ). both / 2 ^ n) sum)
+              ∙ row-bit t ht

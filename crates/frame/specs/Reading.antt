@@ -1,5 +1,5 @@
 -- A frame read strictly: the row and the dc word, if any, that give the 1,902 modulation bits behind its sync and # of the next sync.
-use mathlib.Core.Bool.{Bool, false, _&&_, Bool·beq, cond}
+use mathlib.Core.Bool.{Bool, true, false, _&&_, Bool·beq, cond}
 use mathlib.Core.List.{List}
 use mathlib.Core.Path.{_≡_}
 use Prim.Native.Nat.{ℕ, _^_, _<_}
@@ -12,6 +12,7 @@ use Rattle.modulation.specs.Bits.{pairs, dataBits, groups, bits, Gives}
 use Rattle.modulation.specs.Sync.{FS, syncId}
 use Rattle.modulation.specs.Stream.{modulated}
 use Rattle.modulation.specs.Demodulator.{demodulate}
+use Rattle.demodulator.specs.Words.{bitsIn, WordsRead}
 use Rattle.frame.specs.Same.{same}
 use Rattle.frame.specs.FrameBits.{rowOf, dcOf}
 use Rattle.frame.specs.Frame.{framePairs, nextHash}
@@ -36,6 +37,15 @@ pub record RowGives (n : FS) (row : List ℕ) (dc : ℕ) (m : List ℕ) (hash : 
 pub record StrictlyRead (n : FS) (m : List ℕ) (hash : Bool) (before : List ℕ) (answer : FrameRead) (after : List ℕ) : Type 0 where
   pub found : (dc : ℕ) → answer ≡ Found dc → RowGives n after dc m hash
   pub none : answer ≡ NoFrame → (after ≡ before) × ((b : List ℕ) → BitsGive n b m hash → ⊥)
+
+-- the words of a frame, as the demodulator leaves them
+abbrev pub FrameWords : FS → List ℕ → Bool → Bool → List ℕ → Type 0
+FrameWords n m hash found ws = WordsRead (lastBit false (syncId n)) m hash found ws
+
+-- the frame that stands in words, if it was found
+pub record Taken (ws : List ℕ) (found : Bool) (before : List ℕ) (answer : FrameRead) (after : List ℕ) : Type 0 where
+  pub there : found ≡ true → (answer ≡ Found (dcOf (bitsIn ws))) × (after ≡ rowOf (bitsIn ws))
+  pub none : found ≡ false → (answer ≡ NoFrame) × (after ≡ before)
 
 -- ---- the same, computed
 

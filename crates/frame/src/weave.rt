@@ -3,7 +3,8 @@ ghost use mathlib.Core.Path.{_≡_};
 ghost use Prim.Native.Nat.{_+_, _*_, _<_};
 ghost use lib.ListN.{length, getD};
 ghost use Rattle.frame.specs.FrameBits.{frameBit, rowOf, dcOf};
-ghost use Rattle.frame.specs.Slices.{Whole, PairsOf, bitsIn};
+ghost use Rattle.frame.specs.Slices.{PairsOf};
+ghost use Rattle.demodulator.specs.Words.{bitsIn, Words};
 
 // Bit j of the frame with a row's bytes and a dc word.
 fn frame_bit(row: &[u8], dc: u32, j: usize) -> u8
@@ -37,51 +38,40 @@ pub fn frame_pairs(row: &[u8], dc: u32, pairs: &mut [u8])
     }
 }
 
-// Bit j of the frame with the pairs given.
-fn bit_in(pairs: &[u8], j: usize) -> u8
-    requires { ⌜ Whole (now pairs) × (j < 1268) ⌝ }
-    ensures { λ r. ⌜ (r ≡ getD (bitsIn (now (pairs .entry))) j 0) × (r < 2) ⌝ }
-{
-    let pair = pairs[j / 2];
-    if j % 2 == 0 { pair / 2 } else { pair % 2 }
-}
+// ---- and back, out of the words of a frame
 
 // Byte k of its row.
-fn row_byte(pairs: &[u8], k: usize) -> u8
-    requires { ⌜ Whole (now pairs) × (k < 155) ⌝ }
-    ensures { λ r. ⌜ r ≡ getD (rowOf (bitsIn (now (pairs .entry)))) k 0 ⌝ }
+fn row_byte(words: &[u64; 29], k: usize) -> u8
+    requires { ⌜ Words (now words) × (k < 155) ⌝ }
+    ensures { λ r. ⌜ r ≡ getD (rowOf (bitsIn (now (words .entry)))) k 0 ⌝ }
 {
-    let mut byte = 0;
-    let mut i = 0;
-    while i < 8 {
-        let p = 8 * k + i;
-        byte = 2 * byte + bit_in(pairs, p + (p + 20) / 45);
-        i += 1;
-    }
-    byte
+    let p = 8 * k + 20;
+    let i = p / 45;
+    let both = words[i] / 2 * 256 + words[i + 1] / 274877906944;
+    ((both >> (45 - p % 45)) % 256) as u8
 }
 
 // Its row.
-pub fn row_in(pairs: &[u8], row: &mut [u8])
-    requires { ⌜ Whole (now pairs) × (length (now row) ≡ 155) ⌝ }
-    ensures { λ _. ⌜ now (row .exit) ≡ rowOf (bitsIn (now (pairs .entry))) ⌝ }
+pub fn row_in(words: &[u64; 29], row: &mut [u8])
+    requires { ⌜ Words (now words) × (length (now row) ≡ 155) ⌝ }
+    ensures { λ _. ⌜ now (row .exit) ≡ rowOf (bitsIn (now (words .entry))) ⌝ }
 {
     let mut k = 0;
     while k < 155 {
-        row[k] = row_byte(pairs, k);
+        row[k] = row_byte(words, k);
         k += 1;
     }
 }
 
 // Its dc word.
-pub fn dc_in(pairs: &[u8]) -> u32
-    requires { ⌜ Whole (now pairs) ⌝ }
-    ensures { λ r. ⌜ r ≡ dcOf (bitsIn (now (pairs .entry))) ⌝ }
+pub fn dc_in(words: &[u64; 29]) -> u32
+    requires { ⌜ Words (now words) ⌝ }
+    ensures { λ r. ⌜ r ≡ dcOf (bitsIn (now (words .entry))) ⌝ }
 {
     let mut dc = 0;
     let mut i = 0;
     while i < 28 {
-        dc = 2 * dc + bit_in(pairs, 46 * i + 25) as u32;
+        dc = 2 * dc + (words[i] % 2) as u32;
         i += 1;
     }
     dc

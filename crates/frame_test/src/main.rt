@@ -95,7 +95,8 @@ fn read_line(text: &[u8], image: &[u8], sync: usize, hash: bool, input: &[u8])
 {
     io::write_all(1, text);
     let mut row = no_row();
-    let read = frame::read_frame(image, AT, sync, hash, &mut row);
+    let steps = demodulator::table();
+    let read = frame::read_frame(&steps, image, AT, sync, hash, &mut row);
     match read {
         FrameRead::Found(dc) => {
             io::print_hex(1, dc as u64, 8);
@@ -149,7 +150,8 @@ fn flip_one(
 {
     flip(image, at);
     let mut row = no_row();
-    let read = frame::read_frame(image, AT, sync, hash, &mut row);
+    let steps = demodulator::table();
+    let read = frame::read_frame(&steps, image, AT, sync, hash, &mut row);
     flip(image, at);
     match read {
         FrameRead::Found(dc) => Flips {

@@ -2,12 +2,14 @@
 use address::Judged;
 use address::Psn;
 use answer::Answer;
+use table_modulator::Table;
 ghost use mathlib.Core.Path.{_≡_};
 ghost use Prim.Native.Nat.{_*_, _<_};
 ghost use lib.ListN.{length, getD};
 ghost use Rattle.answer.specs.Answer.{andThen, lengthsAnswer};
 ghost use Rattle.modulation.specs.Sync.{syncNumber};
 ghost use Rattle.frame.specs.Written.{FrameWritten};
+ghost use Rattle.table_modulator.specs.Table.{lentTable};
 ghost use Rattle.cluster.specs.EccCluster.{rowOf};
 ghost use Rattle.image.specs.Image.{Input};
 ghost use Rattle.writer.specs.Written.{FramesWritten, ImageWritten, Passed, Filled};
@@ -29,13 +31,13 @@ fn first_too_large(dc: &[u32]) -> usize
 }
 
 // Frame n from the row that is shown of the cluster; the answer is # of the next sync.
-fn put_frame(work: &[u8], dc: &[u32], n: usize, hash: bool, image: &mut [u8]) -> bool
-    requires { ⌜ ((length (now work) ≡ 76880) × (length (now dc) ≡ 496)) × (n < 496) ⌝ }
+fn put_frame(table: &Table, work: &[u8], dc: &[u32], n: usize, hash: bool, image: &mut [u8]) -> bool
+    requires { ⌜ ((now table ≡ lentTable) × ((length (now work) ≡ 76880) × (length (now dc) ≡ 496))) × (n < 496) ⌝ }
     ensures { λ r. ⌜ FrameWritten (syncNumber n) hash (rowOf (now (work .entry)) n) (getD (now (dc .entry)) n 0) (now (image .entry)) (1932 * n) (now (image .exit)) r ⌝ }
 {
     let row = cluster::row(work, n);
     let number = frame::sync_number(n);
-    frame::write_frame(row, dc[n], number, hash, image, 1932 * n)
+    table_frame::write_frame(table, row, dc[n], number, hash, image, 1932 * n)
 }
 
 // The 496 frames; the answer is # of the sync that follows.
@@ -43,10 +45,11 @@ fn put_frames(work: &[u8], dc: &[u32], image: &mut [u8]) -> bool
     requires { ⌜ ((length (now work) ≡ 76880) × (length (now dc) ≡ 496)) × (length (now image) ≡ 119788) ⌝ }
     ensures { λ r. ⌜ FramesWritten (now (work .entry)) (now (dc .entry)) (now (image .entry)) 496 (now (image .exit)) r ⌝ }
 {
+    let table = table_modulator::make_table();
     let mut hash = false;
     let mut n = 0;
     while n < 496 {
-        hash = put_frame(work, dc, n, hash, image);
+        hash = put_frame(&table, work, dc, n, hash, image);
         n += 1;
     }
     hash

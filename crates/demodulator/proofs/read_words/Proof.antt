@@ -1,69 +1,53 @@
--- `read_words` meets its contract: a word a turn is read (Demodulating). Assumes nothing.
-use mathlib.Core.List.{List}
-use mathlib.Core.Path.{subst}
-use Prim.Native.Nat.{ℕ, _+_, _*_, _-_}
+-- `read_words` meets its contract: a word a turn, and the answer (Reading). Assumes nothing.
+use mathlib.Core.Path.{_≡_, refl, sym, subst}
+use Prim.Native.Nat.{ℕ, _+_, _*_, _-_, _<_}
 use native.Mathlib.Omega.{arith}
 use borrow.Author.Needs.{needs}
-use lib.ListN.{length, drop}
 use Rattle.bits.specs.Bits.{bitsOf}
-use Rattle.modulation.specs.Modulation.{Three}
-use Rattle.demodulator.specs.Ahead.{groupsAt, FiveAhead}
-use Rattle.demodulator.proofs.Five.{five-first, five-moved}
-use Rattle.demodulator.proofs.Demodulating.{WordsRead, five-left, row-read, read-none, read-more, read-all}
+use Rattle.demodulator.specs.Automaton.{start}
+use Rattle.demodulator.proofs.Reading.{Reading, started, reading-more, reading-all}
 use Rattle.demodulator.proofs.read_words.Statement.{statement}
 use Rattle.demodulator.proofs.read_words.Tie as tie
 
 abbrev Inv-loop : tie.InvT-loop
-Inv-loop rows bytes at before hash pairs₀ b₀ five₀ i₀ pairs b five i =
-    WordsRead (bitsOf bytes) at before hash pairs₀ pairs b i × FiveAhead (groupsAt (bitsOf bytes) (at + 3 * i) (length pairs₀ - i)) five
+Inv-loop made bytes at before hash words₀ x₀ i₀ words x i = Reading (bitsOf bytes) at (start before) words x i
 
 abbrev μ-loop : tie.MeasureT-loop
-μ-loop rows bytes at before hash pairs₀ b₀ five₀ i₀ pairs b five i = length pairs₀ - i
+μ-loop made bytes at before hash words₀ x₀ i₀ words x i = 27 - i
 
-first-five-requires : tie.Need-first-five-requires Inv-loop μ-loop
-first-five-requires c κs = search needs
+flag-requires : tie.Need-flag-requires Inv-loop μ-loop
+flag-requires c κs = search needs
+
+first-requires : tie.Need-first-requires Inv-loop μ-loop
+first-requires c κs = search needs
 
 loop-holds : tie.Need-loop-holds Inv-loop μ-loop
 loop-holds c =
-    let args = c .before .before .before .args in
-    (read-none, five-first (bitsOf (args .bytes .now)) (args .at) (length (args .pairs .now)) (c .first-five .ensures))
+    let flagged = c .before in
+    let start-of = flagged .before .before in
+    let args = start-of .args in
+    started (bitsOf (args .bytes .now)) (args .at) (args .before) (flagged .flag .ensures) (start-of .pre .1 .0) (c .first .ensures)
 
-sub-left : tie.Need-sub-left Inv-loop μ-loop
-sub-left c = search needs
+add-segment : tie.Need-add-segment Inv-loop μ-loop
+add-segment c = search needs
 
-read-row-requires : tie.Need-read-row-requires Inv-loop μ-loop
-read-row-requires c κs = search needs
+mul-segment : tie.Need-mul-segment Inv-loop μ-loop
+mul-segment c = search needs
 
-put-pairs-requires : tie.Need-put-pairs-requires Inv-loop μ-loop
-put-pairs-requires c κs =
-    let row = c .before in
-    let turn = row .before .before in
-    let read = row-read (turn .loop .inv .0) (turn .loop .inv .1) (row .read-row .ensures) in
-    (search needs, (read .below, omega (arith, read .within)))
+add-segment-2 : tie.Need-add-segment-2 Inv-loop μ-loop
+add-segment-2 c = search needs
 
-ends-in-one-requires : tie.Need-ends-in-one-requires Inv-loop μ-loop
-ends-in-one-requires c κs =
-    let row = c .before .before .before .before in
-    let turn = row .before .before in
-    (search needs, row-read (turn .loop .inv .0) (turn .loop .inv .1) (row .read-row .ensures) .below)
+segment-requires : tie.Need-segment-requires Inv-loop μ-loop
+segment-requires c κs = search needs
 
-row-len-requires : tie.Need-row-len-requires Inv-loop μ-loop
-row-len-requires c κs =
-    let row = c .before .before .before .before .before in
-    let turn = row .before .before in
-    (search needs, row-read (turn .loop .inv .0) (turn .loop .inv .1) (row .read-row .ensures) .below)
+add-words : tie.Need-add-words Inv-loop μ-loop
+add-words c = search needs
 
-mul-five-behind : tie.Need-mul-five-behind Inv-loop μ-loop
-mul-five-behind c = search needs
+mul-words : tie.Need-mul-words Inv-loop μ-loop
+mul-words c = search needs
 
-add-five-behind : tie.Need-add-five-behind Inv-loop μ-loop
-add-five-behind c = search needs
-
-five-behind-requires : tie.Need-five-behind-requires Inv-loop μ-loop
-five-behind-requires c κs =
-    let row = c .before .before .before .before .before .before in
-    let turn = row .before .before in
-    ((five-left (turn .loop .inv .0) (turn .loop .inv .1), omega (arith, c .row-len .ensures)), search needs)
+element-write-words : tie.Need-element-write-words Inv-loop μ-loop
+element-write-words c = search needs
 
 add-i : tie.Need-add-i Inv-loop μ-loop
 add-i c = search needs
@@ -73,23 +57,30 @@ loop-less c = search needs
 
 loop-again : tie.Need-loop-again Inv-loop μ-loop
 loop-again c =
-    let sized = c .before in
-    let put = sized .before .before .before .before in
-    let row = put .before .before in
-    let turn = row .before .before in
+    let turn = c .before .before in
     let args = turn .before .before .before .before .args in
-    let read = row-read (turn .loop .inv .0) (turn .loop .inv .1) (row .read-row .ensures) in
-    let more = read-more (turn .loop .inv .0) (search needs) read (sized .row-len .ensures) (put .put-pairs .ensures) (sized .before .ends-in-one .ensures) in
-    let bits = bitsOf (args .bytes .now) in
-    let here : ℕ → List Three = λ n. drop (sized .row-len .result) (groupsAt bits (args .at + 3 * turn .loop .i) (n - turn .loop .i)) in
-    let behind = subst (λ (n : ℕ). FiveAhead (here n) (c .five-behind .result)) (turn .loop .inv .0 .size) (c .five-behind .ensures) in
-    (more, five-moved bits (args .at) (length (args .pairs .now)) (turn .loop .i) (sized .row-len .result) (omega (arith, more .within)) behind)
+    reading-more (bitsOf (args .bytes .now)) (args .at) (turn .loop .inv) (c .segment .ensures) (search needs)
 
-same-length : tie.Need-same-length Inv-loop μ-loop
-same-length c = c .before .loop .inv .0 .size
+ending-requires : tie.Need-ending-requires Inv-loop μ-loop
+ending-requires c κs = search needs
+
+add-words-2 : tie.Need-add-words-2 Inv-loop μ-loop
+add-words-2 c = search needs
+
+element-write-words-2 : tie.Need-element-write-words-2 Inv-loop μ-loop
+element-write-words-2 c = search needs
+
+element-write-words-3 : tie.Need-element-write-words-3 Inv-loop μ-loop
+element-write-words-3 c = search needs
 
 returns : tie.Need-returns Inv-loop μ-loop
-returns c = read-all (c .before .loop .inv .0) (c .loop-test .left)
+returns c =
+    let turn = c .before .before in
+    let start-of = turn .before .before .before .before in
+    let args = start-of .args in
+    let last : turn .loop .i ≡ 27 = omega (arith, turn .loop .inv .within) in
+    let all = subst (λ (n : ℕ). Reading (bitsOf (args .bytes .now)) (args .at) (start (args .before)) (turn .loop .words) (turn .loop .x) n) last (turn .loop .inv) in
+    reading-all (args .before) (args .hash) (start-of .pre .1 .1) all (c .ending .ensures .0) refl
 
 pub read-words-spec : {M : Type 1} → statement M
 read-words-spec =
@@ -97,18 +88,21 @@ read-words-spec =
     (tie.spec
     Inv-loop
     μ-loop
-    first-five-requires
+    flag-requires
+    first-requires
     loop-holds
-    sub-left
-    read-row-requires
-    put-pairs-requires
-    ends-in-one-requires
-    row-len-requires
-    mul-five-behind
-    add-five-behind
-    five-behind-requires
+    add-segment
+    mul-segment
+    add-segment-2
+    segment-requires
+    add-words
+    mul-words
+    element-write-words
     add-i
     loop-less
     loop-again
-    same-length
+    ending-requires
+    add-words-2
+    element-write-words-2
+    element-write-words-3
     returns)

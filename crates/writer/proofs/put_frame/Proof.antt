@@ -21,7 +21,7 @@ mul-write-frame-2 : tie.Need-mul-write-frame-2
 mul-write-frame-2 c = search needs
 
 write-frame-requires : tie.Need-write-frame-requires
-write-frame-requires c κs = (search (row-size), (search needs, omega arith))
+write-frame-requires c κs = ((search needs, search (row-size)), (search needs, omega arith))
 
 same-length : tie.Need-same-length
 same-length c = search needs

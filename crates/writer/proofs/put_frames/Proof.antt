@@ -1,20 +1,25 @@
 -- `put_frames` meets its contract: each turn writes a frame behind those before it (Frames).
+use mathlib.Core.Path.{_≡_}
 use native.Mathlib.Omega.{arith}
 use Prim.Native.Nat.{_-_, _≤_}
 use borrow.Author.Needs.{needs}
+use Rattle.table_modulator.specs.Table.{lentTable}
 use Rattle.writer.specs.Written.{FramesWritten}
 use Rattle.writer.proofs.Frames.{frames-none, frames-more, frames-end}
 use Rattle.writer.proofs.put_frames.Statement.{statement}
 use Rattle.writer.proofs.put_frames.Tie as tie
 
 abbrev Inv-loop : tie.InvT-loop
-Inv-loop work dc image₀ hash₀ n₀ image hash n = (n ≤ 496) × FramesWritten work dc image₀ n image hash
+Inv-loop work dc image₀ table hash₀ n₀ image hash n = (table ≡ lentTable) × ((n ≤ 496) × FramesWritten work dc image₀ n image hash)
 
 abbrev μ-loop : tie.MeasureT-loop
-μ-loop work dc image₀ hash₀ n₀ image hash n = 496 - n
+μ-loop work dc image₀ table hash₀ n₀ image hash n = 496 - n
+
+make-table-requires : tie.Need-make-table-requires Inv-loop μ-loop
+make-table-requires c κs = search needs
 
 loop-holds : tie.Need-loop-holds Inv-loop μ-loop
-loop-holds c = (omega arith, frames-none _ _ _)
+loop-holds c = (c .make-table .ensures, (omega arith, frames-none _ _ _))
 
 put-frame-requires : tie.Need-put-frame-requires Inv-loop μ-loop
 put-frame-requires c κs = search needs
@@ -26,7 +31,7 @@ loop-less : tie.Need-loop-less Inv-loop μ-loop
 loop-less c = search needs
 
 loop-again : tie.Need-loop-again Inv-loop μ-loop
-loop-again c = (omega arith, search (frames-more))
+loop-again c = (search needs, (omega arith, search (frames-more)))
 
 same-length : tie.Need-same-length Inv-loop μ-loop
 same-length c = search needs
@@ -40,6 +45,7 @@ put-frames-spec =
     (tie.spec
     Inv-loop
     μ-loop
+    make-table-requires
     loop-holds
     put-frame-requires
     add-n

@@ -2,16 +2,16 @@
 use Prim.Native.Nat.{_-_}
 use native.Mathlib.Omega.{arith}
 use borrow.Author.Needs.{needs}
-use Rattle.frame.specs.Slices.{bitsIn}
-use Rattle.frame.proofs.Unweaving.{dcBit, NumberTo, number-none, number-more, number-all, number-room, dc-word}
+use Rattle.demodulator.specs.Words.{bitsIn}
+use Rattle.frame.proofs.Unweaving.{dcBit, NumberTo, number-none, number-more, number-all, number-room, dc-word, dc-of-word}
 use Rattle.frame.proofs.weave.dc_in.Statement.{statement}
 use Rattle.frame.proofs.weave.dc_in.Tie as tie
 
 abbrev Inv-loop : tie.InvT-loop
-Inv-loop pairs dc₀ i₀ dc i = NumberTo (dcBit (bitsIn pairs)) 28 i dc
+Inv-loop words dc₀ i₀ dc i = NumberTo (dcBit (bitsIn words)) 28 i dc
 
 abbrev μ-loop : tie.MeasureT-loop
-μ-loop pairs dc₀ i₀ dc i = 28 - i
+μ-loop words dc₀ i₀ dc i = 28 - i
 
 loop-holds : tie.Need-loop-holds Inv-loop μ-loop
 loop-holds c = number-none
@@ -19,14 +19,11 @@ loop-holds c = number-none
 mul-dc : tie.Need-mul-dc Inv-loop μ-loop
 mul-dc c = omega (arith, number-room (c .before .loop .inv) 31 (omega arith))
 
-mul-bit-in : tie.Need-mul-bit-in Inv-loop μ-loop
-mul-bit-in c = search needs
+mul-dc-2 : tie.Need-mul-dc-2 Inv-loop μ-loop
+mul-dc-2 c = search needs
 
-add-bit-in : tie.Need-add-bit-in Inv-loop μ-loop
-add-bit-in c = search needs
-
-bit-in-requires : tie.Need-bit-in-requires Inv-loop μ-loop
-bit-in-requires c κs = search needs
+element-copy-out-dc : tie.Need-element-copy-out-dc Inv-loop μ-loop
+element-copy-out-dc c = search needs
 
 cast-dc : tie.Need-cast-dc Inv-loop μ-loop
 cast-dc c = search needs
@@ -41,8 +38,9 @@ loop-less : tie.Need-loop-less Inv-loop μ-loop
 loop-less c = search needs
 
 loop-again : tie.Need-loop-again Inv-loop μ-loop
-unfolding dcBit
-loop-again c = search (number-more)
+loop-again c =
+    let turn = c .before .before in
+    number-more (turn .loop .inv) (search needs) (dc-of-word (turn .before .args .words .now) (turn .loop .i) (search needs))
 
 returns : tie.Need-returns Inv-loop μ-loop
 returns c = search (number-all, dc-word)
@@ -55,9 +53,8 @@ dc-in-spec =
     μ-loop
     loop-holds
     mul-dc
-    mul-bit-in
-    add-bit-in
-    bit-in-requires
+    mul-dc-2
+    element-copy-out-dc
     cast-dc
     add-dc
     add-i

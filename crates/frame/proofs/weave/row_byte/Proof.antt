@@ -1,70 +1,70 @@
--- `row_byte` meets its contract: a number made bit by bit (Unweaving). Assumes nothing.
-use Prim.Native.Nat.{_-_}
+-- `row_byte` meets its contract: eight bits through two words (Unweaving). Assumes nothing.
+use mathlib.Core.Path.{refl}
+use Prim.Native.Nat.{_+_, _*_, _/_}
 use native.Mathlib.Omega.{arith}
 use borrow.Author.Needs.{needs}
-use Rattle.frame.specs.Slices.{bitsIn}
-use Rattle.frame.proofs.Unweaving.{rowBit, NumberTo, number-none, number-more, number-all, number-room, row-byte}
+use Rattle.frame.proofs.Unweaving.{byte-of-words}
 use Rattle.frame.proofs.weave.row_byte.Statement.{statement}
 use Rattle.frame.proofs.weave.row_byte.Tie as tie
 
-abbrev Inv-loop : tie.InvT-loop
-Inv-loop pairs k byte₀ i₀ byte i = NumberTo (rowBit (bitsIn pairs) k) 8 i byte
-
-abbrev μ-loop : tie.MeasureT-loop
-μ-loop pairs k byte₀ i₀ byte i = 8 - i
-
-loop-holds : tie.Need-loop-holds Inv-loop μ-loop
-loop-holds c = number-none
-
-mul-p : tie.Need-mul-p Inv-loop μ-loop
+mul-p : tie.Need-mul-p
 mul-p c = search needs
 
-add-p : tie.Need-add-p Inv-loop μ-loop
+add-p : tie.Need-add-p
 add-p c = search needs
 
-mul-byte : tie.Need-mul-byte Inv-loop μ-loop
-mul-byte c = omega (arith, number-room (c .before .loop .inv) 7 (omega arith))
+mul-both : tie.Need-mul-both
+mul-both c = search needs
 
-add-bit-in : tie.Need-add-bit-in Inv-loop μ-loop
-add-bit-in c = search needs
+element-copy-out-both : tie.Need-element-copy-out-both
+element-copy-out-both c = search needs
 
-add-bit-in-2 : tie.Need-add-bit-in-2 Inv-loop μ-loop
-add-bit-in-2 c = search needs
+mul-both-2 : tie.Need-mul-both-2
+mul-both-2 c = omega (arith, c .before .pre .0 .below ((8 * c .before .args .k + 20) / 45))
 
-bit-in-requires : tie.Need-bit-in-requires Inv-loop μ-loop
-bit-in-requires c κs = search needs
+add-both : tie.Need-add-both
+add-both c = search needs
 
-add-byte : tie.Need-add-byte Inv-loop μ-loop
-add-byte c = omega (arith, number-room (c .before .before .loop .inv) 7 (omega arith))
+mul-both-3 : tie.Need-mul-both-3
+mul-both-3 c = search needs
 
-add-i : tie.Need-add-i Inv-loop μ-loop
-add-i c = search needs
+element-copy-out-both-2 : tie.Need-element-copy-out-both-2
+element-copy-out-both-2 c = search needs
 
-loop-less : tie.Need-loop-less Inv-loop μ-loop
-loop-less c = search needs
+add-both-2 : tie.Need-add-both-2
+add-both-2 c =
+    let start = c .before .before in
+    let i = (8 * start .args .k + 20) / 45 in
+    omega (arith, start .pre .0 .below i, start .pre .0 .below (i + 1))
 
-loop-again : tie.Need-loop-again Inv-loop μ-loop
-unfolding rowBit
-loop-again c = search (number-more)
+sub-result : tie.Need-sub-result
+sub-result c = search needs
 
-returns : tie.Need-returns Inv-loop μ-loop
-returns c = search (number-all, row-byte)
+shr-result : tie.Need-shr-result
+shr-result c = search needs
+
+cast-result : tie.Need-cast-result
+cast-result c = search needs
+
+returns : tie.Need-returns
+returns c =
+    let start = c .before .before in
+    byte-of-words (start .args .words .now) (start .args .k) (start .pre .1) (start .pre .0 .below) _ refl
 
 pub row-byte-spec : {M : Type 1} → statement M
 row-byte-spec =
     tie.close
     (tie.spec
-    Inv-loop
-    μ-loop
-    loop-holds
     mul-p
     add-p
-    mul-byte
-    add-bit-in
-    add-bit-in-2
-    bit-in-requires
-    add-byte
-    add-i
-    loop-less
-    loop-again
+    mul-both
+    element-copy-out-both
+    mul-both-2
+    add-both
+    mul-both-3
+    element-copy-out-both-2
+    add-both-2
+    sub-result
+    shr-result
+    cast-result
     returns)

@@ -2,16 +2,16 @@
 use Prim.Native.Nat.{_-_}
 use native.Mathlib.Omega.{arith}
 use borrow.Author.Needs.{needs}
-use Rattle.frame.specs.Slices.{bitsIn}
-use Rattle.frame.proofs.Unweaving.{RowUpto, row-none, row-more, row-all}
+use Rattle.demodulator.specs.Words.{bitsIn}
+use Rattle.frame.proofs.Unweaving.{RowUpto, row-none, row-more, row-all, words-bits-bits}
 use Rattle.frame.proofs.weave.row_in.Statement.{statement}
 use Rattle.frame.proofs.weave.row_in.Tie as tie
 
 abbrev Inv-loop : tie.InvT-loop
-Inv-loop pairs row₀ k₀ row k = RowUpto (bitsIn pairs) k row
+Inv-loop words row₀ k₀ row k = RowUpto (bitsIn words) k row
 
 abbrev μ-loop : tie.MeasureT-loop
-μ-loop pairs row₀ k₀ row k = 155 - k
+μ-loop words row₀ k₀ row k = 155 - k
 
 loop-holds : tie.Need-loop-holds Inv-loop μ-loop
 loop-holds c = search (row-none)
@@ -35,7 +35,7 @@ same-length : tie.Need-same-length Inv-loop μ-loop
 same-length c = omega arith
 
 returns : tie.Need-returns Inv-loop μ-loop
-returns c = search (row-all)
+returns c = row-all (words-bits-bits _) (c .loop-test .left) (c .before .loop .inv)
 
 pub row-in-spec : {M : Type 1} → statement M
 row-in-spec =
