@@ -2,6 +2,7 @@
 use address::Aun;
 use address::Judged;
 use address::Psn;
+use rows::Rows;
 ghost use mathlib.Core.Path.{_≡_};
 ghost use mathlib.Core.List.{_++_};
 ghost use Prim.Native.Nat.{_+_, _*_, _-_, _^_, _<_};
@@ -9,6 +10,7 @@ ghost use lib.ListN.{length, getD};
 ghost use Rattle.address.specs.declared.Judged.the-variants.{Accepted};
 ghost use Rattle.address.specs.Judged.{judged};
 ghost use Rattle.column.specs.Column.{hasRoots};
+ghost use Rattle.rows.specs.Rows.{AreRows};
 ghost use Rattle.bis.specs.AddressField.{reordered, information, primaryField, partlyInverted, addressField, restored};
 ghost use Rattle.bis.specs.AccessBlock.{addressFields, accessByte};
 ghost use Rattle.bis.specs.BisBlock.{accessColumn, codeWord, bisBlock};
@@ -158,26 +160,26 @@ fn joined(information: [u8; 30], parity: [u8; 32]) -> [u8; 62]
 }
 
 // Code word c: information and parity.
-fn code_word(fields: &Fields, side: &[u8], c: usize) -> [u8; 62]
-    requires { ⌜ (length (now side) ≡ 592) × (c < 24) ⌝ }
+fn code_word(rows: &Rows, fields: &Fields, side: &[u8], c: usize) -> [u8; 62]
+    requires { ⌜ AreRows (now rows) × ((length (now side) ≡ 592) × (c < 24)) ⌝ }
     ensures { λ r. ⌜ r ≡ codeWord (now (fields .entry)) (now (side .entry)) c ⌝ }
 {
     let information = access_column(fields, side, c);
     let mut parity = [0u8; 32];
-    column::parity_32(&information, &mut parity);
+    rows::parity_32(rows, &information, &mut parity);
     joined(information, parity)
 }
 
 // The BIS block of the cluster at an accepted PSN, with 592 bytes of side data. For the crates of this repository, which test both.
-pub fn block(psn: Psn, side: &[u8]) -> Block
-    requires { ⌜ (length (now side) ≡ 592) × (judged (psn .0) ≡ Accepted) ⌝ }
+pub fn block(rows: &Rows, psn: Psn, side: &[u8]) -> Block
+    requires { ⌜ AreRows (now rows) × ((length (now side) ≡ 592) × (judged (psn .0) ≡ Accepted)) ⌝ }
     ensures { λ r. ⌜ r ≡ bisBlock (psn .0) (now (side .entry)) ⌝ }
 {
     let fields = address_fields(psn, side);
     let mut block = [[0u8; 62]; 24];
     let mut c: usize = 0;
     while c < 24 {
-        block[c] = code_word(&fields, side, c);
+        block[c] = code_word(rows, &fields, side, c);
         c += 1;
     }
     block
@@ -186,19 +188,21 @@ pub fn block(psn: Psn, side: &[u8]) -> Block
 // ---- the BIS block, read
 
 // Whether a BIS column has its 32 roots.
-fn is_code_word(column: &[u8; 62]) -> bool
+fn is_code_word(rows: &Rows, column: &[u8; 62]) -> bool
+    requires { ⌜ AreRows (now rows) ⌝ }
     ensures { λ r. ⌜ r ≡ hasRoots 32 (now (column .entry)) ⌝ }
 {
-    column::has_roots(column, 32)
+    rows::is_code_word(rows, column)
 }
 
-// The lowest BIS column, 0 to 23, without its 32 roots, or 24.
-pub fn first_wrong_column(block: Block) -> usize
+// The lowest BIS column, 0 to 23, without its 32 roots, or 24. For the crates of this repository.
+pub fn first_wrong_column(rows: &Rows, block: Block) -> usize
+    requires { ⌜ AreRows (now rows) ⌝ }
     ensures { λ r. ⌜ r ≡ firstWrongColumn block ⌝ }
 {
     let mut column: usize = 0;
     while column < 24 {
-        if !is_code_word(&block[column]) {
+        if !is_code_word(rows, &block[column]) {
             return column;
         }
         column += 1;

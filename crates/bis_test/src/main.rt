@@ -105,8 +105,13 @@ fn cluster_hash(block: Block) -> u64 {
     hash_of(&cluster)
 }
 
+fn first_wrong_column(block: Block) -> usize {
+    let rows = rows::make();
+    bis::first_wrong_column(&rows, block)
+}
+
 fn print_reading(block: Block) {
-    print_number(b"first wrong column: ", bis::first_wrong_column(block));
+    print_number(b"first wrong column: ", first_wrong_column(block));
     print_number(
         b"first wrong address field: ",
         bis::first_wrong_field(block),
@@ -128,8 +133,9 @@ fn print_reading(block: Block) {
 
 // The block of a cluster; zeros where the PSN is refused.
 fn block_of(psn: Psn, side: [u8; 592]) -> Block {
+    let rows = rows::make();
     match psn.judge() {
-        Judged::Accepted => bis::block(psn, &side),
+        Judged::Accepted => bis::block(&rows, psn, &side),
         Judged::NoMultiple => [[0u8; 62]; 24],
         Judged::NoZone => [[0u8; 62]; 24],
     }

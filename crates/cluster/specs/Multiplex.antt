@@ -26,6 +26,10 @@ ldcIndex row column = 155 * row + column + column / 38
 abbrev pub bisIndex : ℕ → ℕ → ℕ
 bisIndex row column = 155 * row + 39 * column + 38
 
+-- the column of the LDC cluster in which byte N of LDC code word L stands
+abbrev pub wordColumn : ℕ → ℕ → ℕ
+wordColumn L N = placeOf L N .column
+
 -- where byte N of LDC code word L stands
 abbrev pub wordIndex : ℕ → ℕ → ℕ
 wordIndex L N = ldcIndex (placeOf L N .row) (placeOf L N .column)

@@ -7,7 +7,13 @@ use Rattle.laws.specs.Scatter.{Scattered}
 use Rattle.ldc.specs.LdcBlock.{dataByte}
 use Rattle.bis.specs.BisCluster.{bisByte}
 use Rattle.cluster.specs.EccCluster.{scrambledFrames}
-use Rattle.cluster.specs.Multiplex.{wordIndex, dataIndex, bisIndex, completedIn}
+use Rattle.cluster.specs.Multiplex.{wordColumn, wordIndex, dataIndex, bisIndex, completedIn}
+
+-- word, byte and column are those of byte p of the data block
+pub record Stands (word byte column p : ℕ) : Type 0 where
+  pub place : 216 * word + byte ≡ p
+  pub small : byte < 216
+  pub right : column ≡ wordColumn word byte
 
 -- the 2,052 bytes of data frame F stand at their places; all else is as it was
 pub record FramePut (before : List ℕ) (F : ℕ) (frame after : List ℕ) : Type 0 where

@@ -1,18 +1,20 @@
 // 13.14: the ECC cluster in a lent slice of 76,880 bytes.
 use address::Psn;
+use rows::Rows;
 ghost use mathlib.Core.Path.{_≡_};
-ghost use Prim.Native.Nat.{_<_, _≤_};
+ghost use Prim.Native.Nat.{_+_, _*_, _%_, _<_, _≤_};
 ghost use lib.ListN.{length, getD};
 ghost use Rattle.laws.specs.Tabulate.{tabulate};
 ghost use Rattle.column.specs.Column.{parity, hasRoots};
+ghost use Rattle.rows.specs.Rows.{AreRows};
 ghost use Rattle.address.specs.declared.Judged.the-variants.{Accepted};
 ghost use Rattle.address.specs.Judged.{judged};
 ghost use Rattle.ldc.specs.Places.{wordIn, frameIn};
 ghost use Rattle.bis.specs.BisCluster.{rowOf, columnOf, bisByte};
-ghost use Rattle.cluster.specs.Multiplex.{wordIndex, dataIndex, bisIndex, informationIn, ldcIn, columnIn, bisIn};
+ghost use Rattle.cluster.specs.Multiplex.{wordColumn, wordIndex, bisIndex, informationIn, ldcIn, columnIn, bisIn};
 ghost use Rattle.cluster.specs.EccCluster.{shownRow, eccCluster};
 ghost use Rattle.cluster.specs.Reading.{firstWrongWord, dataFrameIn, firstWrongSector, userIn};
-ghost use Rattle.cluster.specs.Written.{DataPut, FramePut, ParityPut, AllCompleted, BisPut};
+ghost use Rattle.cluster.specs.Written.{Stands, DataPut, FramePut, ParityPut, AllCompleted, BisPut};
 
 // Where byte `byte` of LDC code word `word` stands.
 fn word_index(word: usize, byte: usize) -> usize
@@ -23,12 +25,62 @@ fn word_index(word: usize, byte: usize) -> usize
     155 * place.row + place.column + place.column / 38
 }
 
-// Where byte p of the data block stands.
-fn data_index(p: usize) -> usize
-    requires { ⌜ p < 65664 ⌝ }
-    ensures { λ r. ⌜ r ≡ dataIndex p ⌝ }
+// Where byte `byte` of code word `word`, which stands in a column of the LDC cluster, stands.
+fn index_in(word: usize, byte: usize, column: usize) -> usize
+    requires { ⌜ ((word < 304) × (byte < 248)) × (column ≡ wordColumn word byte) ⌝ }
+    ensures { λ r. ⌜ r ≡ wordIndex word byte ⌝ }
 {
-    word_index(p / 216, p % 216)
+    155 * (2 * byte + word % 2) + column + column / 38
+}
+
+// The column of the next byte of a code word: three to the left, around.
+fn moved(column: usize) -> usize
+    requires { ⌜ column < 152 ⌝ }
+    ensures { λ r. ⌜ r ≡ (column + 149) % 152 ⌝ }
+{
+    if column < 3 {
+        return column + 149;
+    }
+    column - 3
+}
+
+// A byte of the data block: its code word, its number in it, and its column of the LDC cluster.
+struct Cursor {
+    word: usize,
+    byte: usize,
+    column: usize,
+}
+
+// Byte p of the data block.
+fn cursor_at(p: usize) -> Cursor
+    requires { ⌜ p < 65664 ⌝ }
+    ensures { λ r. ⌜ Stands (r .word) (r .byte) (r .column) p ⌝ }
+{
+    let place = ldc::locate(p / 216, p % 216);
+    Cursor {
+        word: p / 216,
+        byte: p % 216,
+        column: place.column,
+    }
+}
+
+// The byte behind it in the data block.
+fn next(cursor: Cursor) -> Cursor
+    requires { ⌜ Stands (cursor .word) (cursor .byte) (cursor .column) (216 * cursor .word + cursor .byte) × (cursor .word < 304) ⌝ }
+    ensures { λ r. ⌜ Stands (r .word) (r .byte) (r .column) (216 * cursor .word + cursor .byte + 1) ⌝ }
+{
+    if cursor.byte == 215 {
+        return Cursor {
+            word: cursor.word + 1,
+            byte: 0,
+            column: (cursor.word + 1) / 2 % 152,
+        };
+    }
+    Cursor {
+        word: cursor.word,
+        byte: cursor.byte + 1,
+        column: moved(cursor.column),
+    }
 }
 
 fn zero_frame() -> [u8; 2052]
@@ -42,9 +94,12 @@ fn put_frame(work: &mut [u8], f: usize, frame: &[u8; 2052])
     requires { ⌜ (length (now work) ≡ 76880) × (f < 32) ⌝ }
     ensures { λ _. ⌜ FramePut (now (work .entry)) f (now (frame .entry)) (now (work .exit)) ⌝ }
 {
+    let mut cursor = cursor_at(2052 * f);
     let mut k = 0;
     while k < 2052 {
-        work[data_index(2052 * f + k)] = frame[k];
+        work[index_in(cursor.word, cursor.byte, cursor.column)] = frame[k];
+        let behind = next(cursor);
+        cursor = behind;
         k += 1;
     }
 }
@@ -54,9 +109,11 @@ fn gather(work: &[u8], word: usize, bytes: &mut [u8])
     requires { ⌜ (length (now work) ≡ 76880) × ((word < 304) × (length (now bytes) ≤ 248)) ⌝ }
     ensures { λ _. ⌜ now (bytes .exit) ≡ tabulate (length (now (bytes .entry))) (λ N. getD (now (work .entry)) (wordIndex word N) 0) ⌝ }
 {
+    let mut column = word / 2;
     let mut n = 0;
     while n < bytes.len() {
-        bytes[n] = work[word_index(word, n)];
+        bytes[n] = work[index_in(word, n, column)];
+        column = moved(column);
         n += 1;
     }
 }
@@ -74,25 +131,25 @@ fn put_parity(work: &mut [u8], word: usize, parity: &[u8; 32])
 }
 
 // The parity of a code word whose information bytes stand in the cluster.
-fn complete(work: &mut [u8], word: usize)
-    requires { ⌜ (length (now work) ≡ 76880) × (word < 304) ⌝ }
+fn complete(rows: &Rows, work: &mut [u8], word: usize)
+    requires { ⌜ AreRows (now rows) × ((length (now work) ≡ 76880) × (word < 304)) ⌝ }
     ensures { λ _. ⌜ ParityPut (now (work .entry)) word (parity 32 (informationIn (now (work .entry)) word)) (now (work .exit)) ⌝ }
 {
     let mut message = [0u8; 216];
     gather(work, word, &mut message);
     let mut parity = [0u8; 32];
-    column::parity_32(&message, &mut parity);
+    rows::parity_32(rows, &message, &mut parity);
     put_parity(work, word, &parity);
 }
 
 // The parity of every code word.
-fn complete_all(work: &mut [u8])
-    requires { ⌜ length (now work) ≡ 76880 ⌝ }
+fn complete_all(rows: &Rows, work: &mut [u8])
+    requires { ⌜ AreRows (now rows) × (length (now work) ≡ 76880) ⌝ }
     ensures { λ _. ⌜ AllCompleted (now (work .entry)) (now (work .exit)) ⌝ }
 {
     let mut word = 0;
     while word < 304 {
-        complete(work, word);
+        complete(rows, work, word);
         word += 1;
     }
 }
@@ -146,8 +203,9 @@ pub fn encode(user: &[u8], psn: Psn, side: &[u8], work: &mut [u8])
 {
     let stream = sector::scrambling(psn);
     put_data(user, &stream, work);
-    complete_all(work);
-    let block = bis::block(psn, side);
+    let rows = rows::make();
+    complete_all(&rows, work);
+    let block = bis::block(&rows, psn, side);
     put_bis(work, &block);
 }
 
@@ -171,9 +229,12 @@ pub fn frame(work: &[u8], f: usize, bytes: &mut [u8])
     requires { ⌜ (length (now work) ≡ 76880) × ((f < 32) × (length (now bytes) ≡ 2052)) ⌝ }
     ensures { λ _. ⌜ now (bytes .exit) ≡ frameIn (ldcIn (now (work .entry))) f ⌝ }
 {
+    let mut cursor = cursor_at(2052 * f);
     let mut k = 0;
     while k < 2052 {
-        bytes[k] = work[data_index(2052 * f + k)];
+        bytes[k] = work[index_in(cursor.word, cursor.byte, cursor.column)];
+        let behind = next(cursor);
+        cursor = behind;
         k += 1;
     }
 }
@@ -236,23 +297,23 @@ fn zero_word() -> [u8; 248]
 }
 
 // Whether an LDC code word has its 32 roots.
-fn word_right(work: &[u8], word: usize) -> bool
-    requires { ⌜ (length (now work) ≡ 76880) × (word < 304) ⌝ }
+fn word_right(rows: &Rows, work: &[u8], word: usize) -> bool
+    requires { ⌜ AreRows (now rows) × ((length (now work) ≡ 76880) × (word < 304)) ⌝ }
     ensures { λ r. ⌜ r ≡ hasRoots 32 (wordIn (ldcIn (now (work .entry))) word) ⌝ }
 {
     let mut bytes = zero_word();
     gather(work, word, &mut bytes);
-    column::has_roots(&bytes, 32)
+    rows::is_code_word(rows, &bytes)
 }
 
 // The lowest LDC column whose parity is wrong, or 304. For the crates of this repository.
-pub fn first_wrong_word(work: &[u8]) -> usize
-    requires { ⌜ length (now work) ≡ 76880 ⌝ }
+pub fn first_wrong_word(rows: &Rows, work: &[u8]) -> usize
+    requires { ⌜ AreRows (now rows) × (length (now work) ≡ 76880) ⌝ }
     ensures { λ r. ⌜ r ≡ firstWrongWord (now (work .entry)) ⌝ }
 {
     let mut word = 0;
     while word < 304 {
-        if !word_right(work, word) {
+        if !word_right(rows, work, word) {
             return word;
         }
         word += 1;

@@ -130,8 +130,8 @@ fn no_parity() -> [u8; 32]
     [0u8; 32]
 }
 
-// Whether the bytes behind the first n are the ones given.
-fn ends_in(column: &[u8], n: usize, parity: &[u8; 32]) -> bool
+// Whether the bytes behind the first n are the ones given. For the crates of this repository.
+pub fn ends_in(column: &[u8], n: usize, parity: &[u8; 32]) -> bool
     requires { ⌜ (length (now parity) ≡ 32) × (length (now column) ≡ n + 32) ⌝ }
     ensures { λ r. ⌜ EndsIn (now (column .entry)) n (now (parity .entry)) r ⌝ }
 {

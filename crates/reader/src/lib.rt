@@ -5,12 +5,14 @@ use bis::PsnFound;
 use demodulator::Found;
 use demodulator::Table;
 use frame::FrameRead;
+use rows::Rows;
 ghost use mathlib.Core.Path.{_≡_};
 ghost use Prim.Native.Nat.{_+_, _<_, _≤_};
 ghost use lib.ListN.{length};
 ghost use Rattle.bits.specs.Bits.{bitsOf};
 ghost use Rattle.demodulator.specs.Table.{table};
 ghost use Rattle.demodulator.specs.Words.{Words};
+ghost use Rattle.rows.specs.Rows.{AreRows};
 ghost use Rattle.bis.specs.Reading.{psnIn};
 ghost use Rattle.reader.specs.Reading.{lastZero, firstWrongSync};
 ghost use Rattle.reader.specs.Outcome.{blockAnswer, psnNumber, dataAnswer, clusterAnswer, psnOf, Lent, Outcome, judgedOutcome, outcome};
@@ -125,11 +127,11 @@ fn read_frames(image: &[u8], dc: &mut [u32], work: &mut [u8]) -> usize
 }
 
 // Tests 15 and 16: the LDC columns and the sectors of a cluster with this PSN.
-fn judge_data(work: &[u8], psn: Psn) -> Answer
-    requires { ⌜ length (now work) ≡ 76880 ⌝ }
+fn judge_data(rows: &Rows, work: &[u8], psn: Psn) -> Answer
+    requires { ⌜ AreRows (now rows) × (length (now work) ≡ 76880) ⌝ }
     ensures { λ r. ⌜ r ≡ dataAnswer (psn .0) (now (work .entry)) ⌝ }
 {
-    let word = cluster::first_wrong_word(work);
+    let word = cluster::first_wrong_word(rows, work);
     if word < 304 {
         return Answer::LdcColumn(word);
     }
@@ -142,10 +144,11 @@ fn judge_data(work: &[u8], psn: Psn) -> Answer
 }
 
 // Tests 12 to 14: the columns, the address fields and the PSN of a BIS block.
-fn judge_block(block: bis::Block) -> Answer
+fn judge_block(rows: &Rows, block: bis::Block) -> Answer
+    requires { ⌜ AreRows (now rows) ⌝ }
     ensures { λ r. ⌜ r ≡ blockAnswer block ⌝ }
 {
-    let column = bis::first_wrong_column(block);
+    let column = bis::first_wrong_column(rows, block);
     if column < 24 {
         return Answer::BisColumn(column);
     }
@@ -178,10 +181,11 @@ fn judge_cluster(work: &[u8]) -> Read
 {
     let block = cluster::bis_block(work);
     let psn = psn_of(block);
-    let judged = judge_block(block);
+    let rows = rows::make();
+    let judged = judge_block(&rows, block);
     if judged.is_done() {
         return Read {
-            answer: judge_data(work, psn),
+            answer: judge_data(&rows, work, psn),
             psn: psn,
         };
     }

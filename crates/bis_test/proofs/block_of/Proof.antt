@@ -3,6 +3,9 @@ use borrow.Author.Needs.{needs}
 use Rattle.bis_test.proofs.block_of.Statement.{statement}
 use Rattle.bis_test.proofs.block_of.Tie as tie
 
+make-requires : tie.Need-make-requires
+make-requires c κs = search needs
+
 judge-requires : tie.Need-judge-requires
 judge-requires c κs = search needs
 
@@ -13,7 +16,7 @@ slice-aggregate-block : tie.Need-slice-aggregate-block
 slice-aggregate-block c = search needs
 
 block-requires : tie.Need-block-requires
-block-requires c κs = (search needs, cc)
+block-requires c κs = (search needs, (search needs, cc))
 
 enum-told-2 : tie.Need-enum-told-2
 enum-told-2 c = search needs
@@ -34,6 +37,7 @@ pub block-of-spec : {M : Type 1} → statement M
 block-of-spec =
     tie.close
     (tie.spec
+    make-requires
     judge-requires
     enum-told
     slice-aggregate-block

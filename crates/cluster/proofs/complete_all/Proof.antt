@@ -7,10 +7,10 @@ use Rattle.cluster.proofs.complete_all.Statement.{statement}
 use Rattle.cluster.proofs.complete_all.Tie as tie
 
 abbrev Inv-loop : tie.InvT-loop
-Inv-loop work₀ word₀ work word = (word ≤ 304) × Completed work₀ word work
+Inv-loop rows work₀ word₀ work word = (word ≤ 304) × Completed work₀ word work
 
 abbrev μ-loop : tie.MeasureT-loop
-μ-loop work₀ word₀ work word = 304 - word
+μ-loop rows work₀ word₀ work word = 304 - word
 
 loop-holds : tie.Need-loop-holds Inv-loop μ-loop
 loop-holds c = (omega arith, completed-none _)

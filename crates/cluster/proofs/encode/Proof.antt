@@ -13,6 +13,9 @@ slice-aggregate-put-data c = search needs
 put-data-requires : tie.Need-put-data-requires
 put-data-requires c κs = search needs
 
+make-requires : tie.Need-make-requires
+make-requires c κs = search needs
+
 complete-all-requires : tie.Need-complete-all-requires
 complete-all-requires c κs = search needs
 
@@ -35,6 +38,7 @@ encode-spec =
     scrambling-requires
     slice-aggregate-put-data
     put-data-requires
+    make-requires
     complete-all-requires
     block-requires
     put-bis-requires

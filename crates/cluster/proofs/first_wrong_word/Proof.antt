@@ -10,10 +10,10 @@ use Rattle.cluster.proofs.first_wrong_word.Statement.{statement}
 use Rattle.cluster.proofs.first_wrong_word.Tie as tie
 
 abbrev Inv-loop : tie.InvT-loop
-Inv-loop work word₀ word = (word ≤ 304) × Passed (wrongWord work) word
+Inv-loop rows work word₀ word = (word ≤ 304) × Passed (wrongWord work) word
 
 abbrev μ-loop : tie.MeasureT-loop
-μ-loop work word₀ word = 304 - word
+μ-loop rows work word₀ word = 304 - word
 
 loop-holds : tie.Need-loop-holds Inv-loop μ-loop
 loop-holds c = (omega arith, passed-none)

@@ -1,31 +1,36 @@
--- `gather` meets its contract: each turn reads the next byte of the code word at its index (Loops).
-use Rattle.cluster.proofs.Loops.{gather-turn}
-use Prim.Native.Nat.{_-_}
+-- `gather` meets its contract: each turn reads the next byte of the code word at its index (Loops), and moves to its column (Places).
+use mathlib.Core.Path.{_≡_, refl, ap, _∙_}
+use Prim.Native.Nat.{ℕ, _+_, _-_, _%_}
 use native.Mathlib.Omega.{arith}
 use borrow.Author.Needs.{needs}
 use lib.ListN.{length, getD}
-use Rattle.laws.proofs.Fill.{Upto, upto-all}
-use Rattle.cluster.specs.Multiplex.{wordIndex}
+use Rattle.laws.proofs.Fill.{Upto, upto-none, upto-all}
+use Rattle.cluster.specs.Multiplex.{wordColumn, wordIndex}
+use Rattle.cluster.proofs.Loops.{gather-turn}
+use Rattle.cluster.proofs.Places.{word-column-lt, word-column-next}
 use Rattle.cluster.proofs.gather.Statement.{statement}
 use Rattle.cluster.proofs.gather.Tie as tie
 
 abbrev Inv-loop : tie.InvT-loop
-Inv-loop work word bytes₀ n₀ bytes n = Upto 0 (λ N. getD work (wordIndex word N) 0) (length bytes₀) n bytes
+Inv-loop work word bytes₀ column₀ n₀ bytes column n = (column ≡ wordColumn word n) × Upto 0 (λ N. getD work (wordIndex word N) 0) (length bytes₀) n bytes
 
 abbrev μ-loop : tie.MeasureT-loop
-μ-loop work word bytes₀ n₀ bytes n = length bytes₀ - n
+μ-loop work word bytes₀ column₀ n₀ bytes column n = length bytes₀ - n
 
 loop-holds : tie.Need-loop-holds Inv-loop μ-loop
-loop-holds c = search needs
+loop-holds c = (omega arith, upto-none refl)
 
-word-index-requires : tie.Need-word-index-requires Inv-loop μ-loop
-word-index-requires c κs = search needs
+index-in-requires : tie.Need-index-in-requires Inv-loop μ-loop
+index-in-requires c κs = search needs
 
 shared-slice-read-bytes : tie.Need-shared-slice-read-bytes Inv-loop μ-loop
 shared-slice-read-bytes c = search needs
 
 slice-write-bytes : tie.Need-slice-write-bytes Inv-loop μ-loop
 slice-write-bytes c = search needs
+
+moved-requires : tie.Need-moved-requires Inv-loop μ-loop
+moved-requires c κs = let head = c .before .before .before in word-column-lt _ _ _ (head .loop .inv .0)
 
 add-n : tie.Need-add-n Inv-loop μ-loop
 add-n c = search needs
@@ -35,15 +40,18 @@ loop-less c = search needs
 
 loop-again : tie.Need-loop-again Inv-loop μ-loop
 loop-again c =
-    let head = c .before .before .before in
-    let args = head .before .before .before .args in
-    gather-turn (args .work .now) (args .word) _ (head .loop .n) (c .before .word-index .result) (head .loop .bytes) (omega arith) (c .before .word-index .ensures) (head .loop .inv)
+    let read = c .before in
+    let head = read .before .before .before in
+    let args = head .before .before .before .args in (
+      c .moved .ensures ∙ ap (λ (x : ℕ). (x + 149) % 152) (head .loop .inv .0) ∙ word-column-next (args .word) (head .loop .n),
+      gather-turn (args .work .now) (args .word) _ (head .loop .n) (read .before .index-in .result) (head .loop .bytes) (omega arith) (read .before .index-in .ensures) (head .loop .inv .1),
+    )
 
 same-length : tie.Need-same-length Inv-loop μ-loop
 same-length c = search needs
 
 returns : tie.Need-returns Inv-loop μ-loop
-returns c = upto-all (omega arith) (c .before .loop .inv)
+returns c = upto-all (omega arith) (c .before .loop .inv .1)
 
 pub gather-spec : {M : Type 1} → statement M
 gather-spec =
@@ -52,9 +60,10 @@ gather-spec =
     Inv-loop
     μ-loop
     loop-holds
-    word-index-requires
+    index-in-requires
     shared-slice-read-bytes
     slice-write-bytes
+    moved-requires
     add-n
     loop-less
     loop-again

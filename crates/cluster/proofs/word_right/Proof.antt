@@ -13,11 +13,11 @@ slice-aggregate-gather c = search needs
 gather-requires : tie.Need-gather-requires
 gather-requires c κs = search needs
 
-slice-aggregate-has-roots : tie.Need-slice-aggregate-has-roots
-slice-aggregate-has-roots c = search needs
+slice-aggregate-is-code-word : tie.Need-slice-aggregate-is-code-word
+slice-aggregate-is-code-word c = search needs
 
-has-roots-requires : tie.Need-has-roots-requires
-has-roots-requires c κs = search needs
+is-code-word-requires : tie.Need-is-code-word-requires
+is-code-word-requires c κs = search needs
 
 returns : tie.Need-returns
 returns c = search (word-read)
@@ -29,6 +29,6 @@ word-right-spec =
     zero-word-requires
     slice-aggregate-gather
     gather-requires
-    slice-aggregate-has-roots
-    has-roots-requires
+    slice-aggregate-is-code-word
+    is-code-word-requires
     returns)

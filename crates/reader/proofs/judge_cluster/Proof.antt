@@ -10,6 +10,9 @@ bis-block-requires c κs = search needs
 psn-of-requires : tie.Need-psn-of-requires
 psn-of-requires c κs = search needs
 
+make-requires : tie.Need-make-requires
+make-requires c κs = search needs
+
 judge-block-requires : tie.Need-judge-block-requires
 judge-block-requires c κs = search needs
 
@@ -31,6 +34,7 @@ judge-cluster-spec =
     (tie.spec
     bis-block-requires
     psn-of-requires
+    make-requires
     judge-block-requires
     is-done-requires
     judge-data-requires
