@@ -1,14 +1,12 @@
 -- Where the bytes of the LDC block stand in the ECC cluster: no two at one place, none in a column of the BIS cluster, and one at every
 -- other. Assumes nothing.
-use mathlib.Core.Path.{_≡_, refl, sym, ap, ap₂, subst, _∙_}
+use mathlib.Core.Path.{_≡_, sym, ap, ap₂, _∙_}
 use Prim.Native.Nat.{ℕ, _+_, _*_, _-_, _/_, _%_, _<_}
 use native.Mathlib.Omega.{arith}
 use Rattle.ldc.specs.LdcCluster.{Origin, shifted}
-use Rattle.ldc.specs.declared.Place.{Place}
 use Rattle.ldc.specs.Places.{placeOf}
 use Rattle.ldc.proofs.Interleaving.{shifted-word-lt, shifted-byte-lt, place-row, place-column, place-row-lt, place-column-lt, word-at-place, byte-at-place}
-use Rattle.cluster.specs.Multiplex.{ldcIndex, wordColumn, wordIndex, dataIndex, bisIndex}
-use Rattle.cluster.specs.Written.{Stands}
+use Rattle.cluster.specs.Multiplex.{ldcIndex, wordIndex, bisIndex}
 use Rattle.cluster.proofs.Multiplex.{ldc-index-lt, ldc-index-row, ldc-index-byte, ldc-column, bis-index-row, bis-index-byte, index-of-ldc}
 
 -- code word and byte of what stands at an index of the LDC cluster
@@ -71,59 +69,3 @@ pub bis-index-inj : (r c r′ c′ : ℕ) → r < 496 → c < 3 → r′ < 496 �
 bis-index-inj r c r′ c′ hr hc hr′ hc′ e =
     let byte : 39 * c + 38 ≡ 39 * c′ + 38 = sym (bis-index-byte r c hr hc) ∙ ap (λ (k : ℕ). k % 155) e ∙ bis-index-byte r′ c′ hr′ hc′ in
     (sym (bis-index-row r c hr hc) ∙ ap (λ (k : ℕ). k / 155) e ∙ bis-index-row r′ c′ hr′ hc′, omega arith)
-
--- what `locate` answers stays within the LDC cluster
-pub located : (p : Place) (L N : ℕ) → N < 248 → p ≡ placeOf L N → (p .row < 496) × (p .column < 152)
-located p L N hN e = (subst (λ (q : Place). q .row < 496) (sym e) (place-row-lt L N hN), subst (λ (q : Place). q .column < 152) (sym e) (place-column-lt L N))
-
-pub located-index : (p : Place) (L N : ℕ) → p ≡ placeOf L N → 155 * p .row + p .column + p .column / 38 ≡ wordIndex L N
-located-index p L N e = ap (λ (q : Place). 155 * q .row + q .column + q .column / 38) e
-
--- ---- from a byte of a code word, and of the data block, to the next
-
-shift-three : (x s : ℕ) → s < 152 → ((x + 152 - s) % 152 + 149) % 152 ≡ (x + 152 - (s + 3) % 152) % 152
-shift-three x s h = omega arith
-
-pub word-column-next : (L N : ℕ) → (wordColumn L N + 149) % 152 ≡ wordColumn L (N + 1)
-word-column-next L N =
-    let three : (3 * N % 152 + 3) % 152 ≡ 3 * (N + 1) % 152 = omega arith in
-    shift-three (L / 2) (3 * N % 152) (omega arith) ∙ ap (λ (s : ℕ). (L / 2 + 152 - s) % 152) three
-
-pub index-in : (L N c : ℕ) → c ≡ wordColumn L N → 155 * (2 * N + L % 2) + c + c / 38 ≡ wordIndex L N
-index-in L N c e = ap (λ (x : ℕ). 155 * (2 * N + L % 2) + x + x / 38) e
-
-pub word-column-lt : (L N c : ℕ) → c ≡ wordColumn L N → c < 152
-word-column-lt L N c e = subst (λ (x : ℕ). x < 152) (sym e) (place-column-lt L N)
-
-pub stands-first : (p c : ℕ) → c ≡ wordColumn (p / 216) (p % 216) → Stands (p / 216) (p % 216) c p
-stands-first p c e = record { place = omega arith; small = omega arith; right = e }
-
-pub stands-wrap : (L N : ℕ) → N ≡ 215 → Stands (L + 1) 0 ((L + 1) / 2 % 152) (216 * L + N + 1)
-stands-wrap L N e = record { place = omega arith; small = omega arith; right = omega arith }
-
-pub stands-next : (L N c d : ℕ) → Stands L N c (216 * L + N) → (N ≡ 215 → ⊥) → d ≡ (c + 149) % 152 → Stands L (N + 1) d (216 * L + N + 1)
-stands-next L N c d s other e =
-    record {
-      place = omega arith;
-      small = omega (arith, s .small, other);
-      right = e ∙ ap (λ (x : ℕ). (x + 149) % 152) (s .right) ∙ word-column-next L N;
-    }
-
-pub stands-word : {L N c p : ℕ} → Stands L N c p → p < 65664 → L < 304
-stands-word s h = omega (arith, s .place, s .small, h)
-
-pub stands-own : {L N c p : ℕ} → Stands L N c p → Stands L N c (216 * L + N)
-stands-own s = record { place = refl; small = s .small; right = s .right }
-
--- the next, as a byte of the data block
-pub stands-after : {L N c p L' N' c' : ℕ} (q : ℕ) → Stands L N c p → q ≡ p + 1 → Stands L' N' c' (216 * L + N + 1) → Stands L' N' c' q
-stands-after q s e t = record { place = t .place ∙ omega (arith, s .place, e); small = t .small; right = t .right }
-
-pub stands-zero : {L N c p : ℕ} → Stands L N c p → Stands L N c (p + 0)
-stands-zero {p = p} s = record { place = s .place ∙ (let q : p ≡ p + 0 = omega arith in q); small = s .small; right = s .right }
-
-pub stands-index : (L N c p i : ℕ) → Stands L N c p → i ≡ wordIndex L N → i ≡ dataIndex p
-stands-index L N c p i s e =
-    let word : L ≡ p / 216 = omega (arith, s .place, s .small) in
-    let byte : N ≡ p % 216 = omega (arith, s .place, s .small) in
-    e ∙ ap₂ wordIndex word byte

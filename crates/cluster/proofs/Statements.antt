@@ -192,7 +192,7 @@ module _ (work user : List ℕ) (psn : ℕ) (side : List ℕ) (size : length wor
 
   length-data : (F : ℕ) → length (dataFrameIn (scramblingOf psn) work F) ≡ 2052
   unfolding dataFrameIn
-  length-data F = length-scrambled (scramblingOf psn) (frameIn ldc F) ∙ length-frame-in ldc bytes-ldc F
+  length-data F = length-scrambled (scramblingOf psn) (frameIn ldc F) ∙ length-frame-in ldc F
 
   bytes-read : Bytes user
   unfolding userIn
@@ -221,7 +221,7 @@ module _ (work user : List ℕ) (psn : ℕ) (side : List ℕ) (size : length wor
   frame-read : (F : ℕ) → F < 32 → frames psn user F ≡ frameIn ldc F
   unfolding dataFrameIn
   frame-read F h =
-      sym (sector-accepted psn (frameIn ldc F) (length-frame-in ldc bytes-ldc F) (bytes-frame-in ldc bytes-ldc F) (read-sectors F h)
+      sym (sector-accepted psn (frameIn ldc F) (length-frame-in ldc F) (bytes-frame-in ldc bytes-ldc F) (read-sectors F h)
       ∙ ap (λ (u : List ℕ). scrambled (scramblingOf psn) (dataFrame u)) (sector-read F h))
 
   pub nothing-else : Written work user psn side

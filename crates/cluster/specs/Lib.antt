@@ -3,3 +3,4 @@ pub mod Multiplex
 pub mod EccCluster
 pub mod Reading
 pub mod Written
+pub mod Eighth

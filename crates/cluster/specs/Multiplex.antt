@@ -1,11 +1,10 @@
 -- 13.14, Figure 36: the ECC cluster, 496 rows of 155 bytes: 38 columns of the LDC cluster, one of the BIS cluster, 38, 1, 38, 1, 38.
 use mathlib.Core.Bool.{cond}
-use mathlib.Core.List.{List, _++_}
+use mathlib.Core.List.{List}
 use Prim.Native.Nat.{ℕ, _+_, _*_, _-_, _/_, _%_}
 use lib.Dec.{eqb}
 use lib.ListN.{getD}
 use Rattle.laws.specs.Tabulate.{tabulate}
-use Rattle.column.specs.Column.{parity}
 use Rattle.ldc.specs.Places.{placeOf}
 use Rattle.bis.specs.BisCluster as Bis
 
@@ -26,24 +25,9 @@ ldcIndex row column = 155 * row + column + column / 38
 abbrev pub bisIndex : ℕ → ℕ → ℕ
 bisIndex row column = 155 * row + 39 * column + 38
 
--- the column of the LDC cluster in which byte N of LDC code word L stands
-abbrev pub wordColumn : ℕ → ℕ → ℕ
-wordColumn L N = placeOf L N .column
-
 -- where byte N of LDC code word L stands
 abbrev pub wordIndex : ℕ → ℕ → ℕ
 wordIndex L N = ldcIndex (placeOf L N .row) (placeOf L N .column)
-
--- where byte p of the data block, down its columns of 216, stands
-abbrev pub dataIndex : ℕ → ℕ
-dataIndex p = wordIndex (p / 216) (p % 216)
-
--- the information bytes of LDC code word L, and what they make with their parity
-unfoldable pub informationIn : List ℕ → ℕ → List ℕ
-informationIn work L = tabulate 216 (λ i. getD work (wordIndex L i) 0)
-
-abbrev pub completedIn : List ℕ → ℕ → List ℕ
-completedIn work L = informationIn work L ++ parity 32 (informationIn work L)
 
 -- the LDC cluster by row and column
 abbrev pub ldcIn : List ℕ → ℕ → ℕ → ℕ

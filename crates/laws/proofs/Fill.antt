@@ -1,5 +1,5 @@
 -- A loop that fills a list from the front, an element or a part a turn. Assumes nothing.
-use mathlib.Core.Path.{_≡_, ap, _∙_}
+use mathlib.Core.Path.{_≡_, refl, sym, ap, _∙_}
 use mathlib.Core.List.{List, _++_}
 use Prim.Native.Nat.{ℕ, _+_, _-_, _<_, _≤_}
 use native.Mathlib.Nat.{not-suc-le-zero}
@@ -69,3 +69,7 @@ module _ {A : Type 0} {d : A} {f : ℕ → A} {n : ℕ} where
 
   pub upto-all : {i : ℕ} {l : List A} → n ≤ i → Upto d f n i l → l ≡ tabulate n f
   upto-all {i} {l} h u = is-tabulate d n f l (u .size) (λ k lt. u .below k (omega arith))
+
+-- a fill with the elements of another list, to its end
+pub upto-same : {A : Type 0} {d : A} {n i : ℕ} {l m : List A} → n ≤ i → length m ≡ n → Upto d (λ k. getD m k d) n i l → l ≡ m
+upto-same {d = d} {n = n} {m = m} h size u = upto-all h u ∙ sym (is-tabulate d n (λ k. getD m k d) m size (λ k _. refl))

@@ -1,8 +1,9 @@
 -- A search from the front for the lowest index at which a test holds. Assumes nothing.
-use mathlib.Core.Path.{_≡_, refl, sym, ap}
+use mathlib.Core.Path.{_≡_, refl, sym, ap, ap₂, _∙_}
 use mathlib.Core.Bool.{Bool, true, false, cond}
-use Prim.Native.Nat.{ℕ, zero, suc, _+_, _<_, _≤_}
+use Prim.Native.Nat.{ℕ, zero, suc, _+_, _-_, _<_, _≤_}
 use native.Mathlib.Nat.{not-suc-le-zero, le-of-suc-le-suc}
+use native.Mathlib.Decide.{decLt}
 use native.Mathlib.Omega.{arith}
 use borrow.Author.Count.{below-more}
 use Rattle.laws.specs.First.{first}
@@ -52,3 +53,50 @@ first-all (suc n) p h k lt = by (p zero) refl h k lt (λ l. first-all n (λ k. p
     by true e l k lt rest = absurd (not-suc-le-zero l)
     by false e l zero lt rest = e
     by false e l (suc k) lt rest = rest (le-of-suc-le-suc l) k (le-of-suc-le-suc lt)
+
+-- ---- a search in parts
+
+-- what is found is the lowest: the test holds there, and nowhere below
+pub first-holds : (n : ℕ) (p : ℕ → Bool) → first n p < n → (p (first n p) ≡ true) × Passed p (first n p)
+unfolding first
+first-holds zero p h = absurd (not-suc-le-zero h)
+first-holds (suc n) p h = by (p zero) refl h (λ l. first-holds n (λ k. p (suc k)) l)
+  where
+    rest : ℕ
+    rest = first n (λ k. p (suc k))
+
+    by : (b : Bool) → p zero ≡ b → cond b zero (suc rest) < suc n → (rest < n → (p (suc rest) ≡ true) × Passed (λ k. p (suc k)) rest)
+        → (p (cond b zero (suc rest)) ≡ true) × Passed p (cond b zero (suc rest))
+    by true e l more = (e, passed-none)
+    by false e l more = let found = more (le-of-suc-le-suc l) in (found .0, record { fails = below (found .1) })
+      where
+        below : Passed (λ k. p (suc k)) rest → (k : ℕ) → k < suc rest → p k ≡ false
+        below passed zero lt = e
+        below passed (suc k) lt = passed .fails k (le-of-suc-le-suc lt)
+
+-- from a on, m at a time
+module _ {p : ℕ → Bool} (a m r : ℕ) (passed : Passed p a) (e : r ≡ first m (λ k. p (a + k))) where
+  at-part : (k : ℕ) → a ≤ k → p k ≡ p (a + (k - a))
+  at-part k h = ap p (omega arith)
+
+  pub first-in-part : (n : ℕ) → a + m ≤ n → r < m → a + r ≡ first n p
+  first-in-part n h lt = first-here (omega arith) (record { fails = below }) (ap (λ (k : ℕ). p (a + k)) e ∙ found .0)
+    where
+      found : (p (a + first m (λ k. p (a + k))) ≡ true) × Passed (λ k. p (a + k)) (first m (λ k. p (a + k)))
+      found = first-holds m (λ k. p (a + k)) (omega arith)
+
+      below : (k : ℕ) → k < a + r → p k ≡ false
+      below k lt = elim (decLt k a) [ yes l ↦ passed .fails k l | no l ↦ at-part k (omega arith) ∙ found .1 .fails (k - a) (omega arith) ]
+
+  pub passed-part : m ≤ r → Passed p (a + m)
+  passed-part h = record { fails = below }
+    where
+      below : (k : ℕ) → k < a + m → p k ≡ false
+      below k lt = elim (decLt k a) [ yes l ↦ passed .fails k l | no l ↦ at-part k (omega arith) ∙ first-all m (λ k. p (a + k)) (omega arith) (k - a) (omega arith) ]
+
+-- two tests that agree below n
+pub first-ext : (n : ℕ) (p q : ℕ → Bool) → ((k : ℕ) → k < n → p k ≡ q k) → first n p ≡ first n q
+unfolding first
+first-ext zero p q agree = refl
+first-ext (suc n) p q agree =
+    ap₂ (λ (b : Bool) (k : ℕ). cond b zero (suc k)) (agree zero (omega arith)) (first-ext n (λ k. p (suc k)) (λ k. q (suc k)) (λ k h. agree (suc k) (omega arith)))

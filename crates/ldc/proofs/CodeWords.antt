@@ -84,11 +84,11 @@ frames-back frames F h size = sym (is-tabulate 0 2052 (λ k. dataIn (ldcByte fra
 
 -- ---- a cluster whose code words have their roots is made of what comes out
 
-module _ (cluster : ℕ → ℕ → ℕ) (bytes : (row column : ℕ) → row < 496 → column < 152 → cluster row column < 256) where
-  pub length-frame-in : (F : ℕ) → length (frameIn cluster F) ≡ 2052
-  unfolding frameIn
-  length-frame-in F = length-tabulate 2052 (λ k. dataIn cluster (2052 * F + k))
+pub length-frame-in : (cluster : ℕ → ℕ → ℕ) (F : ℕ) → length (frameIn cluster F) ≡ 2052
+unfolding frameIn
+length-frame-in cluster F = length-tabulate 2052 (λ k. dataIn cluster (2052 * F + k))
 
+module _ (cluster : ℕ → ℕ → ℕ) (bytes : (row column : ℕ) → row < 496 → column < 152 → cluster row column < 256) where
   pub bytes-word-in : (L : ℕ) → Bytes (wordIn cluster L)
   unfolding wordIn
   bytes-word-in L = bytes-tabulate 248 (λ N. at cluster (placeOf L N)) (λ N h. bytes (placeOf L N .row) (placeOf L N .column) (omega arith) (place-column-lt L N))

@@ -25,3 +25,15 @@ pub fn copy_words(from: &[u32], to: &mut [u32])
         i += 1;
     }
 }
+
+// Bytes into a slice of as many. For the crates of this repository.
+pub fn copy_bytes(from: &[u8], to: &mut [u8])
+    requires { ⌜ length (now from) ≡ length (now to) ⌝ }
+    ensures { λ _. ⌜ now (to .exit) ≡ now (from .entry) ⌝ }
+{
+    let mut i = 0;
+    while i < to.len() {
+        to[i] = from[i];
+        i += 1;
+    }
+}

@@ -1,34 +1,74 @@
--- `data_frame` meets its contract, from what `frame` and `scramble` ensure (Loops).
-use Rattle.cluster.proofs.Loops.{data-frame-read}
+use Rattle.cluster.proofs.Eighth.{frame-made}
 use borrow.Author.Needs.{needs}
+use Prim.Native.Nat.{_-_, _+_, _*_}
+use native.Mathlib.Omega.{arith}
 use Rattle.cluster.proofs.data_frame.Statement.{statement}
 use Rattle.cluster.proofs.data_frame.Tie as tie
+use Rattle.cluster.proofs.data_frame.Reads as reads
+use Rattle.cluster.proofs.data_frame.Lts as lts
+use Rattle.cluster.proofs.zero_frame.Reads as zero-frame-reads
+use Rattle.sector.proofs.scramble.Reads as scramble-reads
+use Rattle.slices.proofs.copy_bytes.Reads as copy-bytes-reads
 
+-- src/lib.rt:215:21
 zero-frame-requires : tie.Need-zero-frame-requires
 zero-frame-requires c κs = search needs
 
-slice-aggregate-frame : tie.Need-slice-aggregate-frame
-slice-aggregate-frame c = search needs
+-- src/lib.rt:216:16
+mul-from : tie.Need-mul-from
+mul-from c = search needs
 
-frame-requires : tie.Need-frame-requires
-frame-requires c κs = search needs
+-- src/lib.rt:217:15
+add-end : tie.Need-add-end
+add-end c = search needs
 
+-- src/lib.rt:218:24
+sub-copy-bytes : tie.Need-sub-copy-bytes
+sub-copy-bytes c = search needs
+
+-- src/lib.rt:218:24
+part-copy-bytes-start : tie.Need-part-copy-bytes-start
+part-copy-bytes-start c = search needs
+
+-- src/lib.rt:218:24
+part-copy-bytes-end : tie.Need-part-copy-bytes-end
+part-copy-bytes-end c = search needs
+
+-- src/lib.rt:218:44
+slice-aggregate-copy-bytes : tie.Need-slice-aggregate-copy-bytes
+slice-aggregate-copy-bytes c = search needs
+
+-- src/lib.rt:218:5
+copy-bytes-requires : tie.Need-copy-bytes-requires
+copy-bytes-requires c κs = search needs
+
+-- src/lib.rt:219:22
 slice-aggregate-scramble : tie.Need-slice-aggregate-scramble
 slice-aggregate-scramble c = search needs
 
+-- src/lib.rt:219:5
 scramble-requires : tie.Need-scramble-requires
 scramble-requires c κs = search needs
 
+-- src/lib.rt:211:1
 returns : tie.Need-returns
-returns c = search (data-frame-read)
+returns c = 
+    let copied = c .before .before .before .before .copy-bytes in
+    let args = c .before .before .before .before .before .before .before .before .before .before .args in
+    frame-made (args .stream .now) (args .frames .now) (copied .last .1 .0) (c .before .scramble .last .0) (args .f) (2052 * args .f + 2052 - 2052 * args .f) (omega arith) (copied .ensures) (c .before .scramble .ensures)
 
 pub data-frame-spec : {M : Type 1} → statement M
 data-frame-spec =
     tie.close
     (tie.spec
     zero-frame-requires
-    slice-aggregate-frame
-    frame-requires
+    mul-from
+    add-end
+    sub-copy-bytes
+    part-copy-bytes-start
+    part-copy-bytes-end
+    slice-aggregate-copy-bytes
+    copy-bytes-requires
     slice-aggregate-scramble
     scramble-requires
     returns)

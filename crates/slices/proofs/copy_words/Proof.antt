@@ -1,10 +1,9 @@
 -- `copy_words` meets its contract: a fill with the words of the other slice.
-use mathlib.Core.Path.{refl, sym, _∙_}
+use mathlib.Core.Path.{refl}
 use Prim.Native.Nat.{_-_}
 use borrow.Author.Needs.{needs}
 use lib.ListN.{length, getD}
-use Rattle.laws.proofs.Tabulate.{is-tabulate}
-use Rattle.laws.proofs.Fill.{Upto, upto-none, upto-more, upto-all}
+use Rattle.laws.proofs.Fill.{Upto, upto-none, upto-more, upto-same}
 use Rattle.slices.proofs.copy_words.Statement.{statement}
 use Rattle.slices.proofs.copy_words.Tie as tie
 
@@ -42,9 +41,7 @@ same-length : tie.Need-same-length Inv-loop μ-loop
 same-length c = search needs
 
 returns : tie.Need-returns Inv-loop μ-loop
-returns c =
-    let from = c .before .before .args .from .now in
-    upto-all (search needs) (c .before .loop .inv) ∙ sym (is-tabulate 0 _ (λ k. getD from k 0) from (search needs) (λ k _. refl))
+returns c = upto-same (search needs) (search needs) (c .before .loop .inv)
 
 pub copy-words-spec : {M : Type 1} → statement M
 copy-words-spec =
