@@ -1,3 +1,4 @@
+-- `copy_users` meets its contract: one data frame after the other (Eighth).
 use mathlib.Core.Path.{refl}
 use Prim.Native.Nat.{_-_, _+_, _*_, _/_, _%_, _≤_}
 use native.Mathlib.Omega.{arith}
@@ -9,10 +10,6 @@ use Rattle.cluster.specs.Eighth.{frameAt, userOf}
 use Rattle.cluster.proofs.Eighth.{user-turn}
 use Rattle.cluster.proofs.copy_users.Statement.{statement}
 use Rattle.cluster.proofs.copy_users.Tie as tie
-use Rattle.cluster.proofs.copy_users.Reads as reads
-use Rattle.cluster.proofs.copy_users.Lts as lts
-use Rattle.cluster.proofs.copy_user.Reads as copy-user-reads
-use Rattle.cluster.proofs.data_frame.Reads as data-frame-reads
 
 abbrev Inv-loop : tie.InvT-loop
 Inv-loop frames stream user₀ f₀ user f = (f ≤ 4) × Upto 0 (λ k. getD (scrambled stream (frameAt frames (k / 2048))) (k % 2048) 0) 8192 (2048 * f) user
@@ -20,53 +17,41 @@ Inv-loop frames stream user₀ f₀ user f = (f ≤ 4) × Upto 0 (λ k. getD (sc
 abbrev μ-loop : tie.MeasureT-loop
 μ-loop frames stream user₀ f₀ user f = 4 - f
 
--- src/lib.rt:277:5
 loop-holds : tie.Need-loop-holds Inv-loop μ-loop
 loop-holds c = (omega arith, upto-none (omega arith))
 
--- src/lib.rt:278:21
 data-frame-requires : tie.Need-data-frame-requires Inv-loop μ-loop
 data-frame-requires c κs = search needs
 
--- src/lib.rt:279:18
 mul-to : tie.Need-mul-to Inv-loop μ-loop
 mul-to c = search needs
 
--- src/lib.rt:280:20
 add-past : tie.Need-add-past Inv-loop μ-loop
 add-past c = search needs
 
--- src/lib.rt:281:19
 slice-aggregate-copy-user : tie.Need-slice-aggregate-copy-user Inv-loop μ-loop
 slice-aggregate-copy-user c = search needs
 
--- src/lib.rt:281:27
 sub-copy-user : tie.Need-sub-copy-user Inv-loop μ-loop
 sub-copy-user c = search needs
 
--- src/lib.rt:281:27
 part-copy-user-start : tie.Need-part-copy-user-start Inv-loop μ-loop
 part-copy-user-start c = search needs
 
--- src/lib.rt:281:27
 part-copy-user-end : tie.Need-part-copy-user-end Inv-loop μ-loop
 part-copy-user-end c = search needs
 
--- src/lib.rt:281:9
 copy-user-requires : tie.Need-copy-user-requires Inv-loop μ-loop
 copy-user-requires c κs = search needs
 
--- src/lib.rt:282:9
 add-f : tie.Need-add-f Inv-loop μ-loop
 add-f c = search needs
 
--- src/lib.rt:277:5
 loop-less : tie.Need-loop-less Inv-loop μ-loop
 loop-less c = search needs
 
--- src/lib.rt:277:5
 loop-again : tie.Need-loop-again Inv-loop μ-loop
-loop-again c = 
+loop-again c =
     let copied = c .before .before .copy-user in
     let made = c .before .before .before .before .before .data-frame in
     let head = c .before .before .before .before .before .before .before in
@@ -74,11 +59,9 @@ loop-again c =
     let f = head .loop .f in
     (omega arith, user-turn (args .stream .now) (args .frames .now) (made .result) (copied .last .1 .0) (head .loop .user) f (2048 * f + 2048 - 2048 * f) (2048 * (f + 1)) (omega arith) (omega arith) refl (made .ensures) (copied .ensures) (head .loop .inv .1))
 
--- src/lib.rt:272:1
 same-length : tie.Need-same-length Inv-loop μ-loop
 same-length c = search needs
 
--- src/lib.rt:272:1
 returns : tie.Need-returns Inv-loop μ-loop
 unfolding userOf
 returns c = upto-all (omega arith) (c .before .loop .inv .1)

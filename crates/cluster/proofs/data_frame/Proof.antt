@@ -1,58 +1,43 @@
-use Rattle.cluster.proofs.Eighth.{frame-made}
-use borrow.Author.Needs.{needs}
+-- `data_frame` meets its contract, from what `copy_bytes` and `scramble` ensure.
 use Prim.Native.Nat.{_-_, _+_, _*_}
 use native.Mathlib.Omega.{arith}
+use borrow.Author.Needs.{needs}
+use Rattle.cluster.proofs.Eighth.{frame-made}
 use Rattle.cluster.proofs.data_frame.Statement.{statement}
 use Rattle.cluster.proofs.data_frame.Tie as tie
-use Rattle.cluster.proofs.data_frame.Reads as reads
-use Rattle.cluster.proofs.data_frame.Lts as lts
-use Rattle.cluster.proofs.zero_frame.Reads as zero-frame-reads
-use Rattle.sector.proofs.scramble.Reads as scramble-reads
-use Rattle.slices.proofs.copy_bytes.Reads as copy-bytes-reads
 
--- src/lib.rt:215:21
 zero-frame-requires : tie.Need-zero-frame-requires
 zero-frame-requires c κs = search needs
 
--- src/lib.rt:216:16
 mul-from : tie.Need-mul-from
 mul-from c = search needs
 
--- src/lib.rt:217:15
 add-end : tie.Need-add-end
 add-end c = search needs
 
--- src/lib.rt:218:24
 sub-copy-bytes : tie.Need-sub-copy-bytes
 sub-copy-bytes c = search needs
 
--- src/lib.rt:218:24
 part-copy-bytes-start : tie.Need-part-copy-bytes-start
 part-copy-bytes-start c = search needs
 
--- src/lib.rt:218:24
 part-copy-bytes-end : tie.Need-part-copy-bytes-end
 part-copy-bytes-end c = search needs
 
--- src/lib.rt:218:44
 slice-aggregate-copy-bytes : tie.Need-slice-aggregate-copy-bytes
 slice-aggregate-copy-bytes c = search needs
 
--- src/lib.rt:218:5
 copy-bytes-requires : tie.Need-copy-bytes-requires
 copy-bytes-requires c κs = search needs
 
--- src/lib.rt:219:22
 slice-aggregate-scramble : tie.Need-slice-aggregate-scramble
 slice-aggregate-scramble c = search needs
 
--- src/lib.rt:219:5
 scramble-requires : tie.Need-scramble-requires
 scramble-requires c κs = search needs
 
--- src/lib.rt:211:1
 returns : tie.Need-returns
-returns c = 
+returns c =
     let copied = c .before .before .before .before .copy-bytes in
     let args = c .before .before .before .before .before .before .before .before .before .before .args in
     frame-made (args .stream .now) (args .frames .now) (copied .last .1 .0) (c .before .scramble .last .0) (args .f) (2052 * args .f + 2052 - 2052 * args .f) (omega arith) (copied .ensures) (c .before .scramble .ensures)

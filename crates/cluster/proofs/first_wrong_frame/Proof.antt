@@ -1,3 +1,4 @@
+-- `first_wrong_frame` meets its contract: a search from the front.
 use mathlib.Core.Path.{_≡_, _∙_}
 use mathlib.Core.Bool.{true, false}
 use Prim.Native.Nat.{_-_, _≤_}
@@ -8,10 +9,6 @@ use Rattle.cluster.specs.Eighth.{wrongFrame}
 use Rattle.cluster.proofs.Eighth.{frame-judged}
 use Rattle.cluster.proofs.first_wrong_frame.Statement.{statement}
 use Rattle.cluster.proofs.first_wrong_frame.Tie as tie
-use Rattle.cluster.proofs.first_wrong_frame.Reads as reads
-use Rattle.cluster.proofs.first_wrong_frame.Lts as lts
-use Rattle.cluster.proofs.data_frame.Reads as data-frame-reads
-use Rattle.sector.proofs.edc_right.Reads as edc-right-reads
 
 abbrev Inv-loop : tie.InvT-loop
 Inv-loop frames stream f₀ f = (f ≤ 4) × Passed (wrongFrame stream frames) f
@@ -19,49 +16,40 @@ Inv-loop frames stream f₀ f = (f ≤ 4) × Passed (wrongFrame stream frames) f
 abbrev μ-loop : tie.MeasureT-loop
 μ-loop frames stream f₀ f = 4 - f
 
--- src/lib.rt:229:5
 loop-holds : tie.Need-loop-holds Inv-loop μ-loop
 loop-holds c = (omega arith, passed-none)
 
--- src/lib.rt:230:21
 data-frame-requires : tie.Need-data-frame-requires Inv-loop μ-loop
 data-frame-requires c κs = search needs
 
--- src/lib.rt:231:30
 slice-aggregate-edc-right : tie.Need-slice-aggregate-edc-right Inv-loop μ-loop
 slice-aggregate-edc-right c = search needs
 
--- src/lib.rt:231:12
 edc-right-requires : tie.Need-edc-right-requires Inv-loop μ-loop
 edc-right-requires c κs = search needs
 
--- src/lib.rt:232:13
 add-f : tie.Need-add-f Inv-loop μ-loop
 add-f c = search needs
 
--- src/lib.rt:229:5
 loop-less : tie.Need-loop-less Inv-loop μ-loop
 loop-less c = search needs
 
--- src/lib.rt:229:5
 loop-again : tie.Need-loop-again Inv-loop μ-loop
-loop-again c = 
+loop-again c =
     let judged = c .before in
     let head = judged .before .before .before .before in
     let args = head .before .before .before .args in
     let made = judged .before .before .data-frame in
     (omega arith, passed-more (head .loop .inv .1) (frame-judged (args .stream .now) (args .frames .now) (made .result) (head .loop .f) _ true (made .ensures) (judged .edc-right .ensures) (c .if1 .taken)))
 
--- src/lib.rt:234:13
 returns : tie.Need-returns Inv-loop μ-loop
-returns c = 
+returns c =
     let judged = c .before in
     let head = judged .before .before .before .before in
     let args = head .before .before .before .args in
     let made = judged .before .before .data-frame in
     first-here (omega arith) (head .loop .inv .1) (frame-judged (args .stream .now) (args .frames .now) (made .result) (head .loop .f) _ false (made .ensures) (judged .edc-right .ensures) (c .if1 .left))
 
--- src/lib.rt:224:1
 returns-2 : tie.Need-returns-2 Inv-loop μ-loop
 returns-2 c = let all : c .before .loop .f ≡ 4 = omega arith in all ∙ first-past (omega arith) (c .before .loop .inv .1)
 

@@ -1,3 +1,4 @@
+-- `first_wrong_of` meets its contract: a search from the front.
 use mathlib.Core.Path.{_≡_, _∙_}
 use mathlib.Core.Bool.{true, false}
 use Prim.Native.Nat.{_-_, _+_, _*_, _≤_}
@@ -8,9 +9,6 @@ use Rattle.cluster.specs.Eighth.{wrongOf}
 use Rattle.cluster.proofs.Eighth.{word-judged}
 use Rattle.cluster.proofs.first_wrong_of.Statement.{statement}
 use Rattle.cluster.proofs.first_wrong_of.Tie as tie
-use Rattle.cluster.proofs.first_wrong_of.Reads as reads
-use Rattle.cluster.proofs.first_wrong_of.Lts as lts
-use Rattle.rows.proofs.is_code_word.Reads as is-code-word-reads
 
 abbrev Inv-loop : tie.InvT-loop
 Inv-loop rows words j₀ j = (j ≤ 38) × Passed (wrongOf words) j
@@ -18,61 +16,49 @@ Inv-loop rows words j₀ j = (j ≤ 38) × Passed (wrongOf words) j
 abbrev μ-loop : tie.MeasureT-loop
 μ-loop rows words j₀ j = 38 - j
 
--- src/lib.rt:164:5
 loop-holds : tie.Need-loop-holds Inv-loop μ-loop
 loop-holds c = (omega arith, passed-none)
 
--- src/lib.rt:165:20
 mul-from : tie.Need-mul-from Inv-loop μ-loop
 mul-from c = search needs
 
--- src/lib.rt:166:19
 add-end : tie.Need-add-end Inv-loop μ-loop
 add-end c = search needs
 
--- src/lib.rt:167:37
 sub-is-code-word : tie.Need-sub-is-code-word Inv-loop μ-loop
 sub-is-code-word c = search needs
 
--- src/lib.rt:167:37
 part-is-code-word-start : tie.Need-part-is-code-word-start Inv-loop μ-loop
 part-is-code-word-start c = search needs
 
--- src/lib.rt:167:37
 part-is-code-word-end : tie.Need-part-is-code-word-end Inv-loop μ-loop
 part-is-code-word-end c = search needs
 
--- src/lib.rt:167:12
 is-code-word-requires : tie.Need-is-code-word-requires Inv-loop μ-loop
 is-code-word-requires c κs = search needs
 
--- src/lib.rt:168:13
 add-j : tie.Need-add-j Inv-loop μ-loop
 add-j c = search needs
 
--- src/lib.rt:164:5
 loop-less : tie.Need-loop-less Inv-loop μ-loop
 loop-less c = search needs
 
--- src/lib.rt:164:5
 loop-again : tie.Need-loop-again Inv-loop μ-loop
-loop-again c = 
+loop-again c =
     let judged = c .before in
     let head = judged .before .before .before in
     let args = head .before .before .args in
     let j = head .loop .j in
     (omega arith, passed-more (head .loop .inv .1) (word-judged (args .words .now) j (248 * j + 248 - 248 * j) _ true (omega arith) (judged .is-code-word .ensures) (c .if1 .taken)))
 
--- src/lib.rt:170:13
 returns : tie.Need-returns Inv-loop μ-loop
-returns c = 
+returns c =
     let judged = c .before in
     let head = judged .before .before .before in
     let args = head .before .before .args in
     let j = head .loop .j in
     first-here (omega arith) (head .loop .inv .1) (word-judged (args .words .now) j (248 * j + 248 - 248 * j) _ false (omega arith) (judged .is-code-word .ensures) (c .if1 .left))
 
--- src/lib.rt:159:1
 returns-2 : tie.Need-returns-2 Inv-loop μ-loop
 returns-2 c = let all : c .before .loop .j ≡ 38 = omega arith in all ∙ first-past (omega arith) (c .before .loop .inv .1)
 

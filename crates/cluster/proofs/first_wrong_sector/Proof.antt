@@ -1,3 +1,4 @@
+-- `first_wrong_sector` meets its contract: a search in parts, an eighth each.
 use mathlib.Core.Path.{_≡_, subst}
 use Prim.Native.Nat.{_-_, _+_, _*_, _≤_}
 use native.Mathlib.Omega.{arith}
@@ -8,11 +9,6 @@ use Rattle.cluster.specs.Reading.{wrongSector, firstWrongSector}
 use Rattle.cluster.proofs.Eighth.{frames-judged}
 use Rattle.cluster.proofs.first_wrong_sector.Statement.{statement}
 use Rattle.cluster.proofs.first_wrong_sector.Tie as tie
-use Rattle.cluster.proofs.first_wrong_sector.Reads as reads
-use Rattle.cluster.proofs.first_wrong_sector.Lts as lts
-use Rattle.cluster.proofs.first_wrong_frame.Reads as first-wrong-frame-reads
-use Rattle.cluster.proofs.take_frames.Reads as take-frames-reads
-use Rattle.cluster.proofs.words.no_frames.Reads as no-frames-reads
 
 abbrev Inv-loop : tie.InvT-loop
 Inv-loop work stream frames₀ e₀ frames e = (length frames ≡ 8208) × ((e ≤ 8) × Passed (wrongSector stream work) (4 * e))
@@ -20,42 +16,33 @@ Inv-loop work stream frames₀ e₀ frames e = (length frames ≡ 8208) × ((e �
 abbrev μ-loop : tie.MeasureT-loop
 μ-loop work stream frames₀ e₀ frames e = 8 - e
 
--- src/lib.rt:245:22
 no-frames-requires : tie.Need-no-frames-requires Inv-loop μ-loop
 no-frames-requires c κs = search needs
 
--- src/lib.rt:247:5
 loop-holds : tie.Need-loop-holds Inv-loop μ-loop
 loop-holds c = (search needs, (omega arith, passed-none))
 
--- src/lib.rt:248:30
 slice-aggregate-take-frames : tie.Need-slice-aggregate-take-frames Inv-loop μ-loop
 slice-aggregate-take-frames c = search needs
 
--- src/lib.rt:248:9
 take-frames-requires : tie.Need-take-frames-requires Inv-loop μ-loop
 take-frames-requires c κs = search needs
 
--- src/lib.rt:249:35
 slice-aggregate-first-wrong-frame : tie.Need-slice-aggregate-first-wrong-frame Inv-loop μ-loop
 slice-aggregate-first-wrong-frame c = search needs
 
--- src/lib.rt:249:13
 first-wrong-frame-requires : tie.Need-first-wrong-frame-requires Inv-loop μ-loop
 first-wrong-frame-requires c κs = search needs
 
--- src/lib.rt:251:20
 mul-result : tie.Need-mul-result Inv-loop μ-loop
 mul-result c = search needs
 
--- src/lib.rt:251:20
 add-result : tie.Need-add-result Inv-loop μ-loop
 add-result c = search needs
 
--- src/lib.rt:251:13
 returns : tie.Need-returns Inv-loop μ-loop
 unfolding firstWrongSector
-returns c = 
+returns c =
     let judged = c .before in
     let taken = judged .before .before .before in
     let head = taken .before .before .before in
@@ -63,17 +50,14 @@ returns c =
     let e = head .loop .e in
     first-in-part (4 * e) 4 _ (head .loop .inv .1 .1) (frames-judged (args .stream .now) (args .work .now) (taken .take-frames .last .1 .1 .0) e (taken .take-frames .ensures) _ (judged .first-wrong-frame .ensures)) 32 (omega arith) (c .if1 .taken)
 
--- src/lib.rt:253:9
 add-e : tie.Need-add-e Inv-loop μ-loop
 add-e c = search needs
 
--- src/lib.rt:247:5
 loop-less : tie.Need-loop-less Inv-loop μ-loop
 loop-less c = search needs
 
--- src/lib.rt:247:5
 loop-again : tie.Need-loop-again Inv-loop μ-loop
-loop-again c = 
+loop-again c =
     let judged = c .before in
     let taken = judged .before .before .before in
     let head = taken .before .before .before in
@@ -82,7 +66,6 @@ loop-again c =
     let next : 4 * e + 4 ≡ 4 * (e + 1) = omega arith in
     (search needs, (omega arith, subst (Passed (wrongSector (args .stream .now) (args .work .now))) next (passed-part (4 * e) 4 _ (head .loop .inv .1 .1) (frames-judged (args .stream .now) (args .work .now) (taken .take-frames .last .1 .1 .0) e (taken .take-frames .ensures) _ (judged .first-wrong-frame .ensures)) (c .if1 .left))))
 
--- src/lib.rt:241:1
 returns-2 : tie.Need-returns-2 Inv-loop μ-loop
 unfolding firstWrongSector
 returns-2 c = first-past (omega arith) (c .before .loop .inv .1 .1)

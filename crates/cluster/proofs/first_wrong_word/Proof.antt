@@ -1,3 +1,4 @@
+-- `first_wrong_word` meets its contract: a search in parts, an eighth each.
 use mathlib.Core.Path.{_≡_, subst}
 use Prim.Native.Nat.{_-_, _+_, _*_, _≤_}
 use native.Mathlib.Omega.{arith}
@@ -8,11 +9,6 @@ use Rattle.cluster.specs.Reading.{wrongWord, firstWrongWord}
 use Rattle.cluster.proofs.Eighth.{words-judged}
 use Rattle.cluster.proofs.first_wrong_word.Statement.{statement}
 use Rattle.cluster.proofs.first_wrong_word.Tie as tie
-use Rattle.cluster.proofs.first_wrong_word.Reads as reads
-use Rattle.cluster.proofs.first_wrong_word.Lts as lts
-use Rattle.cluster.proofs.first_wrong_of.Reads as first-wrong-of-reads
-use Rattle.cluster.proofs.words.no_words.Reads as no-words-reads
-use Rattle.cluster.proofs.words.take_words.Reads as take-words-reads
 
 abbrev Inv-loop : tie.InvT-loop
 Inv-loop rows work words₀ e₀ words e = (length words ≡ 9424) × ((e ≤ 8) × Passed (wrongWord work) (38 * e))
@@ -20,42 +16,33 @@ Inv-loop rows work words₀ e₀ words e = (length words ≡ 9424) × ((e ≤ 8)
 abbrev μ-loop : tie.MeasureT-loop
 μ-loop rows work words₀ e₀ words e = 8 - e
 
--- src/lib.rt:181:21
 no-words-requires : tie.Need-no-words-requires Inv-loop μ-loop
 no-words-requires c κs = search needs
 
--- src/lib.rt:183:5
 loop-holds : tie.Need-loop-holds Inv-loop μ-loop
 loop-holds c = (search needs, (omega arith, passed-none))
 
--- src/lib.rt:184:41
 slice-aggregate-take-words : tie.Need-slice-aggregate-take-words Inv-loop μ-loop
 slice-aggregate-take-words c = search needs
 
--- src/lib.rt:184:9
 take-words-requires : tie.Need-take-words-requires Inv-loop μ-loop
 take-words-requires c κs = search needs
 
--- src/lib.rt:185:38
 slice-aggregate-first-wrong-of : tie.Need-slice-aggregate-first-wrong-of Inv-loop μ-loop
 slice-aggregate-first-wrong-of c = search needs
 
--- src/lib.rt:185:13
 first-wrong-of-requires : tie.Need-first-wrong-of-requires Inv-loop μ-loop
 first-wrong-of-requires c κs = search needs
 
--- src/lib.rt:187:20
 mul-result : tie.Need-mul-result Inv-loop μ-loop
 mul-result c = search needs
 
--- src/lib.rt:187:20
 add-result : tie.Need-add-result Inv-loop μ-loop
 add-result c = search needs
 
--- src/lib.rt:187:13
 returns : tie.Need-returns Inv-loop μ-loop
 unfolding firstWrongWord
-returns c = 
+returns c =
     let judged = c .before in
     let taken = judged .before .before .before in
     let head = taken .before .before .before in
@@ -63,17 +50,14 @@ returns c =
     let e = head .loop .e in
     first-in-part (38 * e) 38 _ (head .loop .inv .1 .1) (words-judged (args .work .now) (taken .take-words .last .1 .1 .1 .0) e _ (omega arith) (taken .take-words .ensures) (judged .first-wrong-of .ensures)) 304 (omega arith) (c .if1 .taken)
 
--- src/lib.rt:189:9
 add-e : tie.Need-add-e Inv-loop μ-loop
 add-e c = search needs
 
--- src/lib.rt:183:5
 loop-less : tie.Need-loop-less Inv-loop μ-loop
 loop-less c = search needs
 
--- src/lib.rt:183:5
 loop-again : tie.Need-loop-again Inv-loop μ-loop
-loop-again c = 
+loop-again c =
     let judged = c .before in
     let taken = judged .before .before .before in
     let head = taken .before .before .before in
@@ -82,7 +66,6 @@ loop-again c =
     let next : 38 * e + 38 ≡ 38 * (e + 1) = omega arith in
     (search needs, (omega arith, subst (Passed (wrongWord (args .work .now))) next (passed-part (38 * e) 38 _ (head .loop .inv .1 .1) (words-judged (args .work .now) (taken .take-words .last .1 .1 .1 .0) e _ (omega arith) (taken .take-words .ensures) (judged .first-wrong-of .ensures)) (c .if1 .left))))
 
--- src/lib.rt:177:1
 returns-2 : tie.Need-returns-2 Inv-loop μ-loop
 unfolding firstWrongWord
 returns-2 c = first-past (omega arith) (c .before .loop .inv .1 .1)

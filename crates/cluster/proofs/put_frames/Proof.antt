@@ -1,8 +1,8 @@
+-- `put_frames` meets its contract: one data frame after the other (Encoding).
 use mathlib.Core.Path.{refl}
 use Prim.Native.Nat.{_-_, _+_, _*_, _≤_}
 use native.Mathlib.Omega.{arith}
 use borrow.Author.Needs.{needs}
-use lib.ListN.{getD}
 use Rattle.laws.proofs.Fill.{Upto, upto-none, upto-all}
 use Rattle.ldc.specs.LdcBlock.{dataByte}
 use Rattle.cluster.specs.EccCluster.{scrambledFrames}
@@ -10,9 +10,6 @@ use Rattle.cluster.specs.Eighth.{framesOf}
 use Rattle.cluster.proofs.Encoding.{frame-more}
 use Rattle.cluster.proofs.put_frames.Statement.{statement}
 use Rattle.cluster.proofs.put_frames.Tie as tie
-use Rattle.cluster.proofs.put_frames.Reads as reads
-use Rattle.cluster.proofs.put_frames.Lts as lts
-use Rattle.sector.proofs.data_frame.Reads as data-frame-reads
 
 abbrev Inv-loop : tie.InvT-loop
 Inv-loop user stream e frames₀ f₀ frames f = (f ≤ 4) × Upto 0 (λ p. dataByte (scrambledFrames stream user) (8208 * e + p)) 8208 (2052 * f) frames
@@ -20,73 +17,56 @@ Inv-loop user stream e frames₀ f₀ frames f = (f ≤ 4) × Upto 0 (λ p. data
 abbrev μ-loop : tie.MeasureT-loop
 μ-loop user stream e frames₀ f₀ frames f = 4 - f
 
--- src/lib.rt:54:5
 loop-holds : tie.Need-loop-holds Inv-loop μ-loop
 loop-holds c = (omega arith, upto-none (omega arith))
 
--- src/lib.rt:55:20
 mul-from : tie.Need-mul-from Inv-loop μ-loop
 mul-from c = search needs
 
--- src/lib.rt:55:31
 mul-from-2 : tie.Need-mul-from-2 Inv-loop μ-loop
 mul-from-2 c = search needs
 
--- src/lib.rt:55:20
 add-from : tie.Need-add-from Inv-loop μ-loop
 add-from c = search needs
 
--- src/lib.rt:56:19
 add-end : tie.Need-add-end Inv-loop μ-loop
 add-end c = search needs
 
--- src/lib.rt:57:18
 mul-to : tie.Need-mul-to Inv-loop μ-loop
 mul-to c = search needs
 
--- src/lib.rt:58:20
 add-past : tie.Need-add-past Inv-loop μ-loop
 add-past c = search needs
 
--- src/lib.rt:59:28
 sub-data-frame : tie.Need-sub-data-frame Inv-loop μ-loop
 sub-data-frame c = search needs
 
--- src/lib.rt:59:28
 part-data-frame-start : tie.Need-part-data-frame-start Inv-loop μ-loop
 part-data-frame-start c = search needs
 
--- src/lib.rt:59:28
 part-data-frame-end : tie.Need-part-data-frame-end Inv-loop μ-loop
 part-data-frame-end c = search needs
 
--- src/lib.rt:59:54
 sub-data-frame-2 : tie.Need-sub-data-frame-2 Inv-loop μ-loop
 sub-data-frame-2 c = search needs
 
--- src/lib.rt:59:54
 part-data-frame-start-2 : tie.Need-part-data-frame-start-2 Inv-loop μ-loop
 part-data-frame-start-2 c = search needs
 
--- src/lib.rt:59:54
 part-data-frame-end-2 : tie.Need-part-data-frame-end-2 Inv-loop μ-loop
 part-data-frame-end-2 c = search needs
 
--- src/lib.rt:59:9
 data-frame-requires : tie.Need-data-frame-requires Inv-loop μ-loop
 data-frame-requires c κs = search needs
 
--- src/lib.rt:60:9
 add-f : tie.Need-add-f Inv-loop μ-loop
 add-f c = search needs
 
--- src/lib.rt:54:5
 loop-less : tie.Need-loop-less Inv-loop μ-loop
 loop-less c = search needs
 
--- src/lib.rt:54:5
 loop-again : tie.Need-loop-again Inv-loop μ-loop
-loop-again c = 
+loop-again c =
     let made = c .before .before .data-frame in
     let head = c .before .before .before .before .before .before in
     let args = head .before .before .before .before .args in
@@ -96,11 +76,9 @@ loop-again c =
           (omega arith) (omega arith) (omega arith) refl (omega arith) (omega arith) refl (made .ensures) (head .loop .inv .1),
     )
 
--- src/lib.rt:49:1
 same-length : tie.Need-same-length Inv-loop μ-loop
 same-length c = search needs
 
--- src/lib.rt:49:1
 returns : tie.Need-returns Inv-loop μ-loop
 unfolding framesOf
 returns c = upto-all (omega arith) (c .before .loop .inv .1)

@@ -1,5 +1,6 @@
-use mathlib.Core.Path.{_≡_, _∙_}
-use Prim.Native.Nat.{_-_, _+_, _*_, _≤_}
+-- `put_ldc` meets its contract: one eighth after the other (Eighth).
+use mathlib.Core.Path.{_≡_}
+use Prim.Native.Nat.{_-_, _*_, _≤_}
 use native.Mathlib.Omega.{arith}
 use borrow.Author.Needs.{needs}
 use lib.ListN.{length}
@@ -8,13 +9,6 @@ use Rattle.cluster.specs.Eighth.{LdcPut}
 use Rattle.cluster.proofs.Eighth.{ldc-put-none, ldc-put-more, ldc-put-end}
 use Rattle.cluster.proofs.put_ldc.Statement.{statement}
 use Rattle.cluster.proofs.put_ldc.Tie as tie
-use Rattle.cluster.proofs.put_ldc.Reads as reads
-use Rattle.cluster.proofs.put_ldc.Lts as lts
-use Rattle.cluster.proofs.put_frames.Reads as put-frames-reads
-use Rattle.cluster.proofs.words.complete_words.Reads as complete-words-reads
-use Rattle.cluster.proofs.words.no_frames.Reads as no-frames-reads
-use Rattle.cluster.proofs.words.no_words.Reads as no-words-reads
-use Rattle.cluster.proofs.words.put_words.Reads as put-words-reads
 
 abbrev Inv-loop : tie.InvT-loop
 Inv-loop rows user stream work₀ frames₀ words₀ e₀ work frames words e = ((length frames ≡ 8208) × (length words ≡ 9424)) × ((e ≤ 8) × LdcPut (scrambledFrames stream user) (38 * e) work₀ work)
@@ -22,57 +16,44 @@ Inv-loop rows user stream work₀ frames₀ words₀ e₀ work frames words e = 
 abbrev μ-loop : tie.MeasureT-loop
 μ-loop rows user stream work₀ frames₀ words₀ e₀ work frames words e = 8 - e
 
--- src/lib.rt:69:22
 no-frames-requires : tie.Need-no-frames-requires Inv-loop μ-loop
 no-frames-requires c κs = search needs
 
--- src/lib.rt:70:21
 no-words-requires : tie.Need-no-words-requires Inv-loop μ-loop
 no-words-requires c κs = search needs
 
--- src/lib.rt:72:5
 loop-holds : tie.Need-loop-holds Inv-loop μ-loop
 loop-holds c = ((search needs, search needs), (omega arith, ldc-put-none _ _))
 
--- src/lib.rt:73:37
 slice-aggregate-put-frames : tie.Need-slice-aggregate-put-frames Inv-loop μ-loop
 slice-aggregate-put-frames c = search needs
 
--- src/lib.rt:73:9
 put-frames-requires : tie.Need-put-frames-requires Inv-loop μ-loop
 put-frames-requires c κs = search needs
 
--- src/lib.rt:74:37
 slice-aggregate-complete-words : tie.Need-slice-aggregate-complete-words Inv-loop μ-loop
 slice-aggregate-complete-words c = search needs
 
--- src/lib.rt:74:46
 slice-aggregate-complete-words-2 : tie.Need-slice-aggregate-complete-words-2 Inv-loop μ-loop
 slice-aggregate-complete-words-2 c = search needs
 
--- src/lib.rt:74:9
 complete-words-requires : tie.Need-complete-words-requires Inv-loop μ-loop
 complete-words-requires c κs = search needs
 
--- src/lib.rt:75:26
 slice-aggregate-put-words : tie.Need-slice-aggregate-put-words Inv-loop μ-loop
 slice-aggregate-put-words c = search needs
 
--- src/lib.rt:75:9
 put-words-requires : tie.Need-put-words-requires Inv-loop μ-loop
 put-words-requires c κs = search needs
 
--- src/lib.rt:76:9
 add-e : tie.Need-add-e Inv-loop μ-loop
 add-e c = search needs
 
--- src/lib.rt:72:5
 loop-less : tie.Need-loop-less Inv-loop μ-loop
 loop-less c = search needs
 
--- src/lib.rt:72:5
 loop-again : tie.Need-loop-again Inv-loop μ-loop
-loop-again c = 
+loop-again c =
     let put = c .before .before in
     let completed = put .before .before .before .before in
     let made = completed .before .before .before .before in
@@ -86,11 +67,9 @@ loop-again c =
       ),
     )
 
--- src/lib.rt:65:1
 same-length : tie.Need-same-length Inv-loop μ-loop
 same-length c = search needs
 
--- src/lib.rt:65:1
 returns : tie.Need-returns Inv-loop μ-loop
 returns c = search (ldc-put-end)
 

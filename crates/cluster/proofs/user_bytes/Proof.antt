@@ -1,3 +1,4 @@
+-- `user_bytes` meets its contract: one eighth after the other (Eighth).
 use mathlib.Core.Path.{_≡_, refl}
 use Prim.Native.Nat.{_-_, _+_, _*_, _≤_}
 use native.Mathlib.Omega.{arith}
@@ -8,11 +9,6 @@ use Rattle.cluster.specs.Reading.{userByteIn, userIn}
 use Rattle.cluster.proofs.Eighth.{users-turn}
 use Rattle.cluster.proofs.user_bytes.Statement.{statement}
 use Rattle.cluster.proofs.user_bytes.Tie as tie
-use Rattle.cluster.proofs.user_bytes.Reads as reads
-use Rattle.cluster.proofs.user_bytes.Lts as lts
-use Rattle.cluster.proofs.copy_users.Reads as copy-users-reads
-use Rattle.cluster.proofs.take_frames.Reads as take-frames-reads
-use Rattle.cluster.proofs.words.no_frames.Reads as no-frames-reads
 
 abbrev Inv-loop : tie.InvT-loop
 Inv-loop work stream user₀ frames₀ e₀ user frames e = (length frames ≡ 8208) × ((e ≤ 8) × Upto 0 (userByteIn stream work) 65536 (8192 * e) user)
@@ -20,69 +16,56 @@ Inv-loop work stream user₀ frames₀ e₀ user frames e = (length frames ≡ 8
 abbrev μ-loop : tie.MeasureT-loop
 μ-loop work stream user₀ frames₀ e₀ user frames e = 8 - e
 
--- src/lib.rt:278:22
 no-frames-requires : tie.Need-no-frames-requires Inv-loop μ-loop
 no-frames-requires c κs = search needs
 
--- src/lib.rt:280:5
 loop-holds : tie.Need-loop-holds Inv-loop μ-loop
 loop-holds c = (search needs, (omega arith, upto-none (omega arith)))
 
--- src/lib.rt:281:30
 slice-aggregate-take-frames : tie.Need-slice-aggregate-take-frames Inv-loop μ-loop
 slice-aggregate-take-frames c = search needs
 
--- src/lib.rt:281:9
 take-frames-requires : tie.Need-take-frames-requires Inv-loop μ-loop
 take-frames-requires c κs = search needs
 
--- src/lib.rt:282:20
 mul-from : tie.Need-mul-from Inv-loop μ-loop
 mul-from c = search needs
 
--- src/lib.rt:283:19
 add-end : tie.Need-add-end Inv-loop μ-loop
 add-end c = search needs
 
--- src/lib.rt:284:20
 slice-aggregate-copy-users : tie.Need-slice-aggregate-copy-users Inv-loop μ-loop
 slice-aggregate-copy-users c = search needs
 
--- src/lib.rt:284:37
 sub-copy-users : tie.Need-sub-copy-users Inv-loop μ-loop
 sub-copy-users c = search needs
 
--- src/lib.rt:284:37
 part-copy-users-start : tie.Need-part-copy-users-start Inv-loop μ-loop
 part-copy-users-start c = search needs
 
--- src/lib.rt:284:37
 part-copy-users-end : tie.Need-part-copy-users-end Inv-loop μ-loop
 part-copy-users-end c = search needs
 
--- src/lib.rt:284:9
 copy-users-requires : tie.Need-copy-users-requires Inv-loop μ-loop
 copy-users-requires c κs = search needs
 
--- src/lib.rt:285:9
 add-e : tie.Need-add-e Inv-loop μ-loop
 add-e c = search needs
 
--- src/lib.rt:280:5
 loop-less : tie.Need-loop-less Inv-loop μ-loop
 loop-less c = search needs
 
--- src/lib.rt:280:5
 loop-again : tie.Need-loop-again Inv-loop μ-loop
-loop-again c = let copied = c .before .before .copy-users in let taken = c .before .before .before .before .before .before .take-frames in let head = c .before .before .before .before .before .before .before .before .before in
+loop-again c =
+    let copied = c .before .before .copy-users in
+    let taken = c .before .before .before .before .before .before .take-frames in
+    let head = c .before .before .before .before .before .before .before .before .before in
     let args = head .before .before .before .before .before .args in let e = head .loop .e in
     (search needs, (omega arith, users-turn (args .stream .now) (args .work .now) (taken .last .1 .1 .0) e (taken .ensures) (copied .last .1 .1 .0) (head .loop .user) (8192 * e + 8192 - 8192 * e) (8192 * (e + 1)) (omega arith) (omega arith) refl (copied .ensures) (head .loop .inv .1 .1)))
 
--- src/lib.rt:274:1
 same-length : tie.Need-same-length Inv-loop μ-loop
 same-length c = search needs
 
--- src/lib.rt:274:1
 returns : tie.Need-returns Inv-loop μ-loop
 unfolding userIn
 returns c = upto-all (omega arith) (c .before .loop .inv .1 .1)

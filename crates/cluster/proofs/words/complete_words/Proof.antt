@@ -1,3 +1,4 @@
+-- `complete_words` meets its contract: one code word after the other (Eighth).
 use mathlib.Core.Path.{refl}
 use Prim.Native.Nat.{_-_, _+_, _*_, _/_, _%_, _≤_}
 use native.Mathlib.Omega.{arith}
@@ -8,9 +9,6 @@ use Rattle.cluster.specs.Eighth.{completed, completedWords}
 use Rattle.cluster.proofs.Eighth.{completed-turn}
 use Rattle.cluster.proofs.words.complete_words.Statement.{statement}
 use Rattle.cluster.proofs.words.complete_words.Tie as tie
-use Rattle.cluster.proofs.words.complete_words.Reads as reads
-use Rattle.cluster.proofs.words.complete_words.Lts as lts
-use Rattle.cluster.proofs.words.complete.Reads as complete-reads
 
 abbrev Inv-loop : tie.InvT-loop
 Inv-loop rows frames words₀ j₀ words j = (j ≤ 38) × Upto 0 (λ k. getD (completed (take 216 (drop (216 * (k / 248)) frames))) (k % 248) 0) 9424 (248 * j) words
@@ -18,72 +16,59 @@ Inv-loop rows frames words₀ j₀ words j = (j ≤ 38) × Upto 0 (λ k. getD (c
 abbrev μ-loop : tie.MeasureT-loop
 μ-loop rows frames words₀ j₀ words j = 38 - j
 
--- src/words.rt:155:5
 loop-holds : tie.Need-loop-holds Inv-loop μ-loop
 loop-holds c = (omega arith, upto-none (omega arith))
 
--- src/words.rt:156:20
 mul-from : tie.Need-mul-from Inv-loop μ-loop
 mul-from c = search needs
 
--- src/words.rt:157:19
 add-end : tie.Need-add-end Inv-loop μ-loop
 add-end c = search needs
 
--- src/words.rt:158:18
 mul-to : tie.Need-mul-to Inv-loop μ-loop
 mul-to c = search needs
 
--- src/words.rt:159:20
 add-past : tie.Need-add-past Inv-loop μ-loop
 add-past c = search needs
 
--- src/words.rt:160:24
 sub-complete : tie.Need-sub-complete Inv-loop μ-loop
 sub-complete c = search needs
 
--- src/words.rt:160:24
 part-complete-start : tie.Need-part-complete-start Inv-loop μ-loop
 part-complete-start c = search needs
 
--- src/words.rt:160:24
 part-complete-end : tie.Need-part-complete-end Inv-loop μ-loop
 part-complete-end c = search needs
 
--- src/words.rt:160:44
 sub-complete-2 : tie.Need-sub-complete-2 Inv-loop μ-loop
 sub-complete-2 c = search needs
 
--- src/words.rt:160:44
 part-complete-start-2 : tie.Need-part-complete-start-2 Inv-loop μ-loop
 part-complete-start-2 c = search needs
 
--- src/words.rt:160:44
 part-complete-end-2 : tie.Need-part-complete-end-2 Inv-loop μ-loop
 part-complete-end-2 c = search needs
 
--- src/words.rt:160:9
 complete-requires : tie.Need-complete-requires Inv-loop μ-loop
 complete-requires c κs = search needs
 
--- src/words.rt:161:9
 add-j : tie.Need-add-j Inv-loop μ-loop
 add-j c = search needs
 
--- src/words.rt:155:5
 loop-less : tie.Need-loop-less Inv-loop μ-loop
 loop-less c = search needs
 
--- src/words.rt:155:5
 loop-again : tie.Need-loop-again Inv-loop μ-loop
-loop-again c = let made = c .before .before .complete in let head = c .before .before .before .before .before .before in let args = head .before .before .before .args in let j = head .loop .j in
+loop-again c =
+    let made = c .before .before .complete in
+    let head = c .before .before .before .before .before .before in
+    let args = head .before .before .before .args in
+    let j = head .loop .j in
     (omega arith, completed-turn (args .frames .now) (head .loop .words) (made .last .1 .1 .0) j (216 * j + 216 - 216 * j) (248 * j + 248 - 248 * j) (248 * (j + 1)) (omega arith) (omega arith) (omega arith) (omega arith) refl (made .ensures) (head .loop .inv .1))
 
--- src/words.rt:150:1
 same-length : tie.Need-same-length Inv-loop μ-loop
 same-length c = search needs
 
--- src/words.rt:150:1
 returns : tie.Need-returns Inv-loop μ-loop
 unfolding completedWords
 returns c = upto-all (omega arith) (c .before .loop .inv .1)

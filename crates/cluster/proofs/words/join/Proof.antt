@@ -1,15 +1,13 @@
-use mathlib.Core.Path.{_≡_, sym, ap, _∙_}
+-- `join` meets its contract: a fill with the bytes of both.
 use mathlib.Core.List.{_++_}
-use Prim.Native.Nat.{ℕ, _-_, _+_, _≤_}
+use Prim.Native.Nat.{_-_, _+_, _≤_}
 use native.Mathlib.Omega.{arith}
 use borrow.Author.Needs.{needs}
-use lib.ListN.{length, getD, length-append}
+use lib.ListN.{getD, length-append}
 use Rattle.laws.proofs.Fill.{Upto, upto-none, upto-more, upto-same}
 use Rattle.cluster.proofs.Eighth.{join-first, join-second}
 use Rattle.cluster.proofs.words.join.Statement.{statement}
 use Rattle.cluster.proofs.words.join.Tie as tie
-use Rattle.cluster.proofs.words.join.Reads as reads
-use Rattle.cluster.proofs.words.join.Lts as lts
 
 abbrev Inv-loop : tie.InvT-loop
 Inv-loop information parity word₀ k₀ word k = (k ≤ 216) × Upto 0 (λ i. getD (information ++ parity) i 0) 248 k word
@@ -23,71 +21,56 @@ Inv-loop2 information parity word₀ k₀ word k = (216 ≤ k) × Upto 0 (λ i. 
 abbrev μ-loop2 : tie.MeasureT-loop2
 μ-loop2 information parity word₀ k₀ word k = 248 - k
 
--- src/words.rt:145:5
 loop-holds : tie.Need-loop-holds Inv-loop μ-loop Inv-loop2 μ-loop2
 loop-holds c = (omega arith, upto-none (omega arith))
 
--- src/words.rt:146:19
 shared-slice-read-word : tie.Need-shared-slice-read-word Inv-loop μ-loop Inv-loop2 μ-loop2
 shared-slice-read-word c = search needs
 
--- src/words.rt:146:9
 slice-write-word : tie.Need-slice-write-word Inv-loop μ-loop Inv-loop2 μ-loop2
 slice-write-word c = search needs
 
--- src/words.rt:147:9
 add-k : tie.Need-add-k Inv-loop μ-loop Inv-loop2 μ-loop2
 add-k c = search needs
 
--- src/words.rt:145:5
 loop-less : tie.Need-loop-less Inv-loop μ-loop Inv-loop2 μ-loop2
 loop-less c = search needs
 
--- src/words.rt:145:5
 loop-again : tie.Need-loop-again Inv-loop μ-loop Inv-loop2 μ-loop2
-loop-again c = 
+loop-again c =
     let head = c .before .before in
     let args = head .before .args in
     (omega arith, upto-more (omega arith) (join-first (args .information .now) (args .parity .now) (head .loop .k) (omega arith) (omega arith)) (head .loop .inv .1))
 
--- src/words.rt:149:5
 loop2-holds : tie.Need-loop2-holds Inv-loop μ-loop Inv-loop2 μ-loop2
 loop2-holds c = (omega arith, c .before .loop .inv .1)
 
--- src/words.rt:150:26
 sub-word : tie.Need-sub-word Inv-loop μ-loop Inv-loop2 μ-loop2
 sub-word c = search needs
 
--- src/words.rt:150:19
 element-copy-out-word : tie.Need-element-copy-out-word Inv-loop μ-loop Inv-loop2 μ-loop2
 element-copy-out-word c = search needs
 
--- src/words.rt:150:9
 slice-write-word-2 : tie.Need-slice-write-word-2 Inv-loop μ-loop Inv-loop2 μ-loop2
 slice-write-word-2 c = search needs
 
--- src/words.rt:151:9
 add-k-2 : tie.Need-add-k-2 Inv-loop μ-loop Inv-loop2 μ-loop2
 add-k-2 c = search needs
 
--- src/words.rt:149:5
 loop2-less : tie.Need-loop2-less Inv-loop μ-loop Inv-loop2 μ-loop2
 loop2-less c = search needs
 
--- src/words.rt:149:5
 loop2-again : tie.Need-loop2-again Inv-loop μ-loop Inv-loop2 μ-loop2
-loop2-again c = 
+loop2-again c =
     let head = c .before .before in
     let args = head .before .before .before .args in
     (omega arith, upto-more (omega arith) (join-second (args .information .now) (args .parity .now) (head .loop2 .k) (omega arith) (omega arith)) (head .loop2 .inv .1))
 
--- src/words.rt:140:1
 same-length : tie.Need-same-length Inv-loop μ-loop Inv-loop2 μ-loop2
 same-length c = search needs
 
--- src/words.rt:140:1
 returns : tie.Need-returns Inv-loop μ-loop Inv-loop2 μ-loop2
-returns c = 
+returns c =
     let args = c .before .before .before .before .args in
     upto-same (omega arith) (omega (arith, length-append (args .information .now) (args .parity .now))) (c .before .loop2 .inv .1)
 

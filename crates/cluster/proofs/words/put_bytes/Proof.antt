@@ -1,4 +1,4 @@
-use mathlib.Core.Path.{_≡_}
+-- `put_bytes` meets its contract: a turn puts the byte of an even code word and that of the odd one behind it (Eighth).
 use Prim.Native.Nat.{_-_, _+_, _*_, _≤_}
 use native.Mathlib.Omega.{arith}
 use borrow.Author.Needs.{needs}
@@ -9,10 +9,6 @@ use Rattle.cluster.specs.Multiplex.{wordIndex}
 use Rattle.cluster.proofs.Eighth.{run-inside, put-turn}
 use Rattle.cluster.proofs.words.put_bytes.Statement.{statement}
 use Rattle.cluster.proofs.words.put_bytes.Tie as tie
-use Rattle.cluster.proofs.words.put_bytes.Reads as reads
-use Rattle.cluster.proofs.words.put_bytes.Lts as lts
-use Rattle.cluster.proofs.words.run_index.Reads as run-index-reads
-use Rattle.cluster.proofs.words.run_of.Reads as run-of-reads
 
 abbrev Inv-loop : tie.InvT-loop
 Inv-loop words e n work₀ run i₀ work i = (i ≤ 19) × Scattered 0 (λ j. wordIndex (38 * e + j) n) (λ j. getD words (248 * j + n) 0) work₀ (2 * i) work
@@ -20,80 +16,76 @@ Inv-loop words e n work₀ run i₀ work i = (i ≤ 19) × Scattered 0 (λ j. wo
 abbrev μ-loop : tie.MeasureT-loop
 μ-loop words e n work₀ run i₀ work i = 19 - i
 
--- src/words.rt:94:9
 run-of-requires : tie.Need-run-of-requires Inv-loop μ-loop
 run-of-requires c κs = search needs
 
--- src/words.rt:96:5
 loop-holds : tie.Need-loop-holds Inv-loop μ-loop
 loop-holds c = (omega arith, scattered-none)
 
--- src/words.rt:97:13
 run-index-requires : tie.Need-run-index-requires Inv-loop μ-loop
 run-index-requires c κs = search needs
 
--- src/words.rt:98:26
 mul-work : tie.Need-mul-work Inv-loop μ-loop
 mul-work c = search needs
 
--- src/words.rt:98:26
 add-work : tie.Need-add-work Inv-loop μ-loop
 add-work c = search needs
 
--- src/words.rt:98:20
 shared-slice-read-work : tie.Need-shared-slice-read-work Inv-loop μ-loop
 shared-slice-read-work c = search needs
 
--- src/words.rt:98:9
 slice-write-work : tie.Need-slice-write-work Inv-loop μ-loop
-slice-write-work c = let turn = c .before in let head = turn .before .before in let args = head .before .before .before .before .args in
+slice-write-work c =
+    let turn = c .before in
+    let head = turn .before .before in
+    let args = head .before .before .before .before .args in
     omega (arith, head .loop .inv .1 .size, run-inside (args .e) (args .n) (head .loop .i) _ (omega arith) (omega arith) (omega arith) (turn .run-index .ensures (args .e) (args .n) (head .before .run-of .ensures)))
 
--- src/words.rt:99:32
 mul-work-2 : tie.Need-mul-work-2 Inv-loop μ-loop
 mul-work-2 c = search needs
 
--- src/words.rt:99:32
 add-work-2 : tie.Need-add-work-2 Inv-loop μ-loop
 add-work-2 c = search needs
 
--- src/words.rt:99:32
 add-work-3 : tie.Need-add-work-3 Inv-loop μ-loop
 add-work-3 c = search needs
 
--- src/words.rt:99:26
 shared-slice-read-work-2 : tie.Need-shared-slice-read-work-2 Inv-loop μ-loop
 shared-slice-read-work-2 c = search needs
 
--- src/words.rt:99:14
 add-work-4 : tie.Need-add-work-4 Inv-loop μ-loop
-add-work-4 c = let turn = c .before .before in let head = turn .before .before in let args = head .before .before .before .before .args in
+add-work-4 c =
+    let turn = c .before .before in
+    let head = turn .before .before in
+    let args = head .before .before .before .before .args in
     omega (arith, run-inside (args .e) (args .n) (head .loop .i) _ (omega arith) (omega arith) (omega arith) (turn .run-index .ensures (args .e) (args .n) (head .before .run-of .ensures)))
 
--- src/words.rt:99:9
 slice-write-work-2 : tie.Need-slice-write-work-2 Inv-loop μ-loop
-slice-write-work-2 c = let turn = c .before .before in let head = turn .before .before in let args = head .before .before .before .before .args in
+slice-write-work-2 c =
+    let turn = c .before .before in
+    let head = turn .before .before in
+    let args = head .before .before .before .before .args in
     simp length-set (omega (arith, head .loop .inv .1 .size, run-inside (args .e) (args .n) (head .loop .i) _ (omega arith) (omega arith) (omega arith) (turn .run-index .ensures (args .e) (args .n) (head .before .run-of .ensures))))
 
--- src/words.rt:100:9
 add-i : tie.Need-add-i Inv-loop μ-loop
 add-i c = search needs
 
--- src/words.rt:96:5
 loop-less : tie.Need-loop-less Inv-loop μ-loop
 loop-less c = search needs
 
--- src/words.rt:96:5
 loop-again : tie.Need-loop-again Inv-loop μ-loop
-loop-again c = let turn = c .before .before in let head = turn .before .before in let args = head .before .before .before .before .args in
-    (omega arith, put-turn (args .words .now) (args .work .now) (head .loop .work) (args .e) (args .n) (head .loop .i) (turn .run-index .result) (omega arith) (omega arith) (omega arith) (omega arith)
-    (turn .run-index .ensures (args .e) (args .n) (head .before .run-of .ensures)) (head .loop .inv .1))
+loop-again c =
+    let turn = c .before .before in
+    let head = turn .before .before in
+    let args = head .before .before .before .before .args in (
+      omega arith,
+      put-turn (args .words .now) (args .work .now) (head .loop .work) (args .e) (args .n) (head .loop .i) (turn .run-index .result) (omega arith) (omega arith) (omega arith) (omega arith)
+          (turn .run-index .ensures (args .e) (args .n) (head .before .run-of .ensures)) (head .loop .inv .1),
+    )
 
--- src/words.rt:90:1
 same-length : tie.Need-same-length Inv-loop μ-loop
 same-length c = search needs
 
--- src/words.rt:90:1
 returns : tie.Need-returns Inv-loop μ-loop
 returns c = record { put = scattered-end (omega arith) (c .before .loop .inv .1) }
 

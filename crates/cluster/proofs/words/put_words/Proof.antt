@@ -1,3 +1,4 @@
+-- `put_words` meets its contract: a byte more of each code word (Eighth).
 use Prim.Native.Nat.{_-_, _≤_}
 use native.Mathlib.Omega.{arith}
 use borrow.Author.Needs.{needs}
@@ -5,9 +6,6 @@ use Rattle.cluster.specs.Eighth.{WordsPut}
 use Rattle.cluster.proofs.Eighth.{words-put-none, words-put-more, words-put-end}
 use Rattle.cluster.proofs.words.put_words.Statement.{statement}
 use Rattle.cluster.proofs.words.put_words.Tie as tie
-use Rattle.cluster.proofs.words.put_words.Reads as reads
-use Rattle.cluster.proofs.words.put_words.Lts as lts
-use Rattle.cluster.proofs.words.put_bytes.Reads as put-bytes-reads
 
 abbrev Inv-loop : tie.InvT-loop
 Inv-loop words e work₀ n₀ work n = (n ≤ 248) × WordsPut words e n work₀ work
@@ -15,31 +13,24 @@ Inv-loop words e work₀ n₀ work n = (n ≤ 248) × WordsPut words e n work₀
 abbrev μ-loop : tie.MeasureT-loop
 μ-loop words e work₀ n₀ work n = 248 - n
 
--- src/words.rt:110:5
 loop-holds : tie.Need-loop-holds Inv-loop μ-loop
 loop-holds c = (omega arith, words-put-none _ _ _)
 
--- src/words.rt:111:9
 put-bytes-requires : tie.Need-put-bytes-requires Inv-loop μ-loop
 put-bytes-requires c κs = search needs
 
--- src/words.rt:112:9
 add-n : tie.Need-add-n Inv-loop μ-loop
 add-n c = search needs
 
--- src/words.rt:110:5
 loop-less : tie.Need-loop-less Inv-loop μ-loop
 loop-less c = search needs
 
--- src/words.rt:110:5
 loop-again : tie.Need-loop-again Inv-loop μ-loop
 loop-again c = (omega arith, search (words-put-more))
 
--- src/words.rt:105:1
 same-length : tie.Need-same-length Inv-loop μ-loop
 same-length c = search needs
 
--- src/words.rt:105:1
 returns : tie.Need-returns Inv-loop μ-loop
 returns c = search (words-put-end)
 

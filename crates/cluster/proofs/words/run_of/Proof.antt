@@ -1,53 +1,40 @@
+-- `run_of` meets its contract: the run begins where `locate` finds its first byte (Eighth).
 use native.Mathlib.Omega.{arith}
-use Rattle.cluster.proofs.Eighth.{run-of, located}
 use borrow.Author.Needs.{needs}
+use Rattle.cluster.proofs.Eighth.{run-of, located}
 use Rattle.cluster.proofs.words.run_of.Statement.{statement}
 use Rattle.cluster.proofs.words.run_of.Tie as tie
-use Rattle.cluster.proofs.words.run_of.Reads as reads
-use Rattle.cluster.proofs.words.run_of.Lts as lts
-use Rattle.ldc.proofs.locate.Reads as locate-reads
 
--- src/words.rt:41:29
 mul-locate : tie.Need-mul-locate
 mul-locate c = search needs
 
--- src/words.rt:41:9
 locate-requires : tie.Need-locate-requires
 locate-requires c κs = search needs
 
--- src/words.rt:42:16
 sub-left : tie.Need-sub-left
 sub-left c = search needs
 
--- src/words.rt:43:17
 add-next : tie.Need-add-next
 add-next c = omega (arith, located _ _ _ (c .before .before .locate .ensures))
 
--- src/words.rt:46:16
 mul-t6 : tie.Need-mul-t6
 mul-t6 c = search needs
 
--- src/words.rt:46:16
 add-t7 : tie.Need-add-t7
 add-t7 c = omega (arith, located _ _ _ (c .before .before .before .locate .ensures))
 
--- src/words.rt:46:16
 add-t9 : tie.Need-add-t9
 add-t9 c = omega (arith, located _ _ _ (c .before .before .before .before .locate .ensures))
 
--- src/words.rt:47:17
 mul-t10 : tie.Need-mul-t10
 mul-t10 c = search needs
 
--- src/words.rt:47:17
 add-t11 : tie.Need-add-t11
 add-t11 c = search needs
 
--- src/words.rt:47:17
 add-t13 : tie.Need-add-t13
 add-t13 c = search needs
 
--- src/words.rt:37:1
 returns : tie.Need-returns
 returns c = let args = c .before .before .before .before .before .args in run-of (args .e) (args .n) _ (search needs) (c .before .before .before .before .locate .ensures)
 

@@ -1,4 +1,4 @@
-use mathlib.Core.Path.{_≡_}
+-- `take_bytes` meets its contract: a turn takes the byte of an even code word and that of the odd one behind it (Eighth).
 use Prim.Native.Nat.{_-_, _+_, _*_, _≤_}
 use native.Mathlib.Omega.{arith}
 use borrow.Author.Needs.{needs}
@@ -9,10 +9,6 @@ use Rattle.cluster.specs.Multiplex.{wordIndex}
 use Rattle.cluster.proofs.Eighth.{run-inside, taken-turn}
 use Rattle.cluster.proofs.words.take_bytes.Statement.{statement}
 use Rattle.cluster.proofs.words.take_bytes.Tie as tie
-use Rattle.cluster.proofs.words.take_bytes.Reads as reads
-use Rattle.cluster.proofs.words.take_bytes.Lts as lts
-use Rattle.cluster.proofs.words.run_index.Reads as run-index-reads
-use Rattle.cluster.proofs.words.run_of.Reads as run-of-reads
 
 abbrev Inv-loop : tie.InvT-loop
 Inv-loop work e n words₀ run i₀ words i = (i ≤ 19) × Scattered 0 (λ j. 248 * j + n) (λ j. getD work (wordIndex (38 * e + j) n) 0) words₀ (2 * i) words
@@ -20,81 +16,65 @@ Inv-loop work e n words₀ run i₀ words i = (i ≤ 19) × Scattered 0 (λ j. 2
 abbrev μ-loop : tie.MeasureT-loop
 μ-loop work e n words₀ run i₀ words i = 19 - i
 
--- src/words.rt:67:9
 run-of-requires : tie.Need-run-of-requires Inv-loop μ-loop
 run-of-requires c κs = search needs
 
--- src/words.rt:69:5
 loop-holds : tie.Need-loop-holds Inv-loop μ-loop
 loop-holds c = (omega arith, scattered-none)
 
--- src/words.rt:70:13
 run-index-requires : tie.Need-run-index-requires Inv-loop μ-loop
 run-index-requires c κs = search needs
 
--- src/words.rt:71:30
 shared-slice-read-words : tie.Need-shared-slice-read-words Inv-loop μ-loop
-shared-slice-read-words c = 
+shared-slice-read-words c =
     let turn = c .before in
     let head = turn .before .before in
     let args = head .before .before .before .before .args in
     omega (arith, run-inside (args .e) (args .n) (head .loop .i) _ (omega arith) (omega arith) (omega arith) (turn .run-index .ensures (args .e) (args .n) (head .before .run-of .ensures)))
 
--- src/words.rt:71:15
 mul-words : tie.Need-mul-words Inv-loop μ-loop
 mul-words c = search needs
 
--- src/words.rt:71:15
 add-words : tie.Need-add-words Inv-loop μ-loop
 add-words c = search needs
 
--- src/words.rt:71:9
 slice-write-words : tie.Need-slice-write-words Inv-loop μ-loop
 slice-write-words c = search needs
 
--- src/words.rt:72:41
 add-words-2 : tie.Need-add-words-2 Inv-loop μ-loop
-add-words-2 c = 
+add-words-2 c =
     let turn = c .before in
     let head = turn .before .before in
     let args = head .before .before .before .before .args in
     omega (arith, run-inside (args .e) (args .n) (head .loop .i) _ (omega arith) (omega arith) (omega arith) (turn .run-index .ensures (args .e) (args .n) (head .before .run-of .ensures)))
 
--- src/words.rt:72:36
 shared-slice-read-words-2 : tie.Need-shared-slice-read-words-2 Inv-loop μ-loop
-shared-slice-read-words-2 c = 
+shared-slice-read-words-2 c =
     let turn = c .before .before in
     let head = turn .before .before in
     let args = head .before .before .before .before .args in
     omega (arith, run-inside (args .e) (args .n) (head .loop .i) _ (omega arith) (omega arith) (omega arith) (turn .run-index .ensures (args .e) (args .n) (head .before .run-of .ensures)))
 
--- src/words.rt:72:15
 mul-words-2 : tie.Need-mul-words-2 Inv-loop μ-loop
 mul-words-2 c = search needs
 
--- src/words.rt:72:15
 add-words-3 : tie.Need-add-words-3 Inv-loop μ-loop
 add-words-3 c = search needs
 
--- src/words.rt:72:15
 add-words-4 : tie.Need-add-words-4 Inv-loop μ-loop
 add-words-4 c = search needs
 
--- src/words.rt:72:9
 slice-write-words-2 : tie.Need-slice-write-words-2 Inv-loop μ-loop
 slice-write-words-2 c = simp length-set (omega arith)
 
--- src/words.rt:73:9
 add-i : tie.Need-add-i Inv-loop μ-loop
 add-i c = search needs
 
--- src/words.rt:69:5
 loop-less : tie.Need-loop-less Inv-loop μ-loop
 loop-less c = search needs
 
--- src/words.rt:69:5
 loop-again : tie.Need-loop-again Inv-loop μ-loop
-loop-again c = 
+loop-again c =
     let turn = c .before .before in
     let head = turn .before .before in
     let args = head .before .before .before .before .args in (
@@ -103,11 +83,9 @@ loop-again c =
           (turn .run-index .ensures (args .e) (args .n) (head .before .run-of .ensures)) (head .loop .inv .1),
     )
 
--- src/words.rt:63:1
 same-length : tie.Need-same-length Inv-loop μ-loop
 same-length c = search needs
 
--- src/words.rt:63:1
 returns : tie.Need-returns Inv-loop μ-loop
 returns c = record { taken = scattered-end (omega arith) (c .before .loop .inv .1) }
 

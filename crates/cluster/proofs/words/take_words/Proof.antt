@@ -1,3 +1,4 @@
+-- `take_words` meets its contract: a byte more of each code word (Eighth).
 use Prim.Native.Nat.{_-_, _≤_}
 use native.Mathlib.Omega.{arith}
 use borrow.Author.Needs.{needs}
@@ -5,9 +6,6 @@ use Rattle.cluster.specs.Eighth.{WordsTaken}
 use Rattle.cluster.proofs.Eighth.{words-taken-none, words-taken-more, words-taken-end}
 use Rattle.cluster.proofs.words.take_words.Statement.{statement}
 use Rattle.cluster.proofs.words.take_words.Tie as tie
-use Rattle.cluster.proofs.words.take_words.Reads as reads
-use Rattle.cluster.proofs.words.take_words.Lts as lts
-use Rattle.cluster.proofs.words.take_bytes.Reads as take-bytes-reads
 
 abbrev Inv-loop : tie.InvT-loop
 Inv-loop work e count words₀ n₀ words n = (n ≤ count) × WordsTaken work e n words
@@ -15,35 +13,28 @@ Inv-loop work e count words₀ n₀ words n = (n ≤ count) × WordsTaken work e
 abbrev μ-loop : tie.MeasureT-loop
 μ-loop work e count words₀ n₀ words n = count - n
 
--- src/words.rt:83:5
 loop-holds : tie.Need-loop-holds Inv-loop μ-loop
 loop-holds c = (omega arith, words-taken-none _ _ _ (omega arith))
 
--- src/words.rt:84:9
 take-bytes-requires : tie.Need-take-bytes-requires Inv-loop μ-loop
 take-bytes-requires c κs = search needs
 
--- src/words.rt:85:9
 add-n : tie.Need-add-n Inv-loop μ-loop
 add-n c = search needs
 
--- src/words.rt:83:5
 loop-less : tie.Need-loop-less Inv-loop μ-loop
 loop-less c = search needs
 
--- src/words.rt:83:5
 loop-again : tie.Need-loop-again Inv-loop μ-loop
-loop-again c = 
+loop-again c =
     let taken = c .before .before .take-bytes in
     let head = c .before .before .before .before .before in
     let args = head .before .before .before .args in
     (omega arith, words-taken-more (args .work .now) (head .loop .words) (taken .last .1 .1 .1 .0) (args .e) (head .loop .n) (omega arith) (head .loop .inv .1) (taken .ensures))
 
--- src/words.rt:78:1
 same-length : tie.Need-same-length Inv-loop μ-loop
 same-length c = search needs
 
--- src/words.rt:78:1
 returns : tie.Need-returns Inv-loop μ-loop
 returns c = search (words-taken-end)
 
