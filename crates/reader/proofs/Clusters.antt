@@ -33,16 +33,16 @@ module _ (work : List ℕ) where
     pub reads-done : clusterAnswer work ≡ Done
     unfolding clusterAnswer blockAnswer dataAnswer
     reads-done =
-        then-both (blockAnswer (bisIn work)) (dataAnswer (psnOf work) work)
+        then-both (blockAnswer (bisIn work)) (dataAnswer (scramblingOf (psnOf work)) work)
         (then-both (lowest BisColumn 24 (Bis.firstWrongColumn (bisIn work))) _ (lowest-end BisColumn (r .bis .right-columns))
         (then-both (lowest AddressUnit 16 (Bis.firstWrongField (bisIn work))) _ (lowest-end AddressUnit (r .bis .right-fields)) (ap psnAnswer (r .bis .has-psn))))
         (then-both (lowest LdcColumn 304 (firstWrongWord work)) _ (lowest-end LdcColumn (r .right-words))
         (lowest-end Sector (ap (λ (p : ℕ). firstWrongSector (scramblingOf p) work) read-psn ∙ r .right-sectors)))
 
   module _ (e : clusterAnswer work ≡ Done) where
-    both : (blockAnswer (bisIn work) ≡ Done) × (dataAnswer (psnOf work) work ≡ Done)
+    both : (blockAnswer (bisIn work) ≡ Done) × (dataAnswer (scramblingOf (psnOf work)) work ≡ Done)
     unfolding clusterAnswer
-    both = then-done (blockAnswer (bisIn work)) (dataAnswer (psnOf work) work) e
+    both = then-done (blockAnswer (bisIn work)) (dataAnswer (scramblingOf (psnOf work)) work) e
 
     block-reads : Bis.Reads (bisIn work) (psnOf work) (Bis.sideIn (bisIn work))
     unfolding blockAnswer Bis.firstWrongColumn Bis.firstWrongField

@@ -14,16 +14,15 @@ use Rattle.frame.proofs.SyncTables.{fs-number}
 use Rattle.answer.specs.declared.Answer.{Answer}
 use Rattle.answer.specs.declared.Answer.the-variants.{Done, LastBits, Sync, Frame, BisColumn, AddressUnit, NoPsn, LdcColumn, Sector}
 use Rattle.answer.specs.Answer.{isDone, andThen, lowest}
-use Rattle.answer.proofs.Tests.{done-is, then-next, then-here, lowest-here, lowest-none, stop-here, go-on}
-use Rattle.sector.specs.Scrambling.{scramblingOf}
+use Rattle.answer.proofs.Tests.{done-not, lowest-here, lowest-none, stop-here, go-on}
 use Rattle.address.specs.declared.Psn.{Psn}
 use Rattle.bis.specs.declared.PsnFound.{PsnFound}
 use Rattle.bis.specs.declared.PsnFound.the-variants.{Found, NotFound}
 use Rattle.bis.specs.Reading.{firstWrongColumn, firstWrongField, psnIn}
-use Rattle.cluster.specs.Multiplex.{bisIn}
 use Rattle.cluster.specs.Reading.{firstWrongWord, firstWrongSector}
-use Rattle.reader.specs.Reading.{lastZero, wrongSync, firstWrongSync, firstNoFrame, clusterIn}
-use Rattle.reader.specs.Outcome.{framesAnswer, psnAnswer, psnNumber, blockAnswer, dataAnswer, psnOf, clusterAnswer, imageAnswer}
+use Rattle.reader.specs.Reading.{lastZero, wrongSync, firstWrongSync, firstNoFrame}
+use Rattle.reader.specs.Outcome.{framesAnswer, psnAnswer, psnNumber, blockAnswer, dataAnswer}
+use Rattle.reader.specs.Read.{BlockJudged}
 
 -- ---- 9
 
@@ -66,100 +65,73 @@ module _ (b : List ℕ) where
 
 -- ---- 12 to 14
 
-module _ (block : List (List ℕ)) (c : ℕ) (ec : c ≡ firstWrongColumn block) where
-  pub wrong-column : c < 24 → BisColumn c ≡ blockAnswer block
-  unfolding blockAnswer
-  wrong-column h = stop-here BisColumn _ ec refl h
+module _ (block : List (List ℕ)) (a : Answer) (psn : ℕ) where
+  -- a refusal has no PSN to be right
+  refusal : (r : Answer) → (a ≡ r) × (psn ≡ 0) → r ≡ blockAnswer block → isDone r ≡ false → BlockJudged block a psn
+  refusal r e is f = record { answer-is = e .0 ∙ is; psn-is = λ d. absurd (done-not r f (sym (e .0) ∙ d)) }
 
-  module _ (hc : 24 ≤ c) (y : ℕ) (ey : y ≡ firstWrongField block) where
-    pub wrong-unit : y < 16 → AddressUnit y ≡ blockAnswer block
+  module _ (c : ℕ) (ec : c ≡ firstWrongColumn block) where
+    pub wrong-column : c < 24 → (a ≡ BisColumn c) × (psn ≡ 0) → BlockJudged block a psn
     unfolding blockAnswer
-    wrong-unit h = stop-here AddressUnit _ ey refl h ∙ go-on BisColumn _ ec hc
+    wrong-column h e = refusal (BisColumn c) e (stop-here BisColumn _ ec refl h) refl
 
-    psn-judged : 16 ≤ y → (p : PsnFound) → p ≡ psnIn block → psnAnswer p ≡ blockAnswer block
-    unfolding blockAnswer
-    psn-judged hy p ep = ap psnAnswer ep ∙ go-on AddressUnit _ ey hy ∙ go-on BisColumn _ ec hc
+    module _ (hc : 24 ≤ c) (y : ℕ) (ey : y ≡ firstWrongField block) where
+      pub wrong-unit : y < 16 → (a ≡ AddressUnit y) × (psn ≡ 0) → BlockJudged block a psn
+      unfolding blockAnswer
+      wrong-unit h e = refusal (AddressUnit y) e (stop-here AddressUnit _ ey refl h ∙ go-on BisColumn _ ec hc) refl
 
-    pub a-psn : (p : PsnFound) (psn : Psn) → 16 ≤ y → p ≡ psnIn block → p ≡ Found psn → Done ≡ blockAnswer block
-    a-psn p psn hy ep e = sym (ap psnAnswer e) ∙ psn-judged hy p ep
+      module _ (hy : 16 ≤ y) (p : PsnFound) (ep : p ≡ psnIn block) where
+        psn-judged : psnAnswer p ≡ blockAnswer block
+        unfolding blockAnswer
+        psn-judged = ap psnAnswer ep ∙ go-on AddressUnit _ ey hy ∙ go-on BisColumn _ ec hc
 
-    pub no-psn : (p : PsnFound) → 16 ≤ y → p ≡ psnIn block → p ≡ NotFound → NoPsn ≡ blockAnswer block
-    no-psn p hy ep e = sym (ap psnAnswer e) ∙ psn-judged hy p ep
+        pub no-psn : p ≡ NotFound → (a ≡ NoPsn) × (psn ≡ 0) → BlockJudged block a psn
+        no-psn found e = refusal NoPsn e (sym (ap psnAnswer found) ∙ psn-judged) refl
 
-module _ (block : List (List ℕ)) (p : PsnFound) (ep : p ≡ psnIn block) where
-  pub psn-there : (psn : Psn) → p ≡ Found psn → psn .0 ≡ psnNumber (psnIn block)
-  psn-there psn e = ap psnNumber (sym e ∙ ep)
-
-  pub psn-not-there : p ≡ NotFound → 0 ≡ psnNumber (psnIn block)
-  psn-not-there e = ap psnNumber (sym e ∙ ep)
+-- all three are passed
+pub a-psn : (block : List (List ℕ)) (c y : ℕ) (p : PsnFound) (psn : Psn) → c ≡ firstWrongColumn block → 24 ≤ c → y ≡ firstWrongField block → 16 ≤ y → p ≡ psnIn block → p ≡ Found psn
+    → BlockJudged block Done (psn .0)
+a-psn block c y p psn ec hc ey hy ep found =
+    record { answer-is = sym (ap psnAnswer found) ∙ psn-judged block Done 0 c ec hc y ey hy p ep; psn-is = λ _. ap psnNumber (sym found ∙ ep) }
 
 -- ---- 15, 16
 
-module _ (psn : ℕ) (work : List ℕ) (l : ℕ) (el : l ≡ firstWrongWord work) where
-  pub wrong-word : l < 304 → LdcColumn l ≡ dataAnswer psn work
+module _ (stream work : List ℕ) (l : ℕ) (el : l ≡ firstWrongWord work) where
+  pub wrong-word : l < 304 → LdcColumn l ≡ dataAnswer stream work
   unfolding dataAnswer
   wrong-word h = stop-here LdcColumn _ el refl h
 
-  module _ (stream : List ℕ) (f : ℕ) (h : 304 ≤ l) (es : stream ≡ scramblingOf psn) (ef : f ≡ firstWrongSector stream work) where
-    is-first : f ≡ firstWrongSector (scramblingOf psn) work
-    is-first = ef ∙ ap (λ (s : List ℕ). firstWrongSector s work) es
-
-    pub wrong-sector : f < 32 → Sector f ≡ dataAnswer psn work
+  module _ (f : ℕ) (h : 304 ≤ l) (ef : f ≡ firstWrongSector stream work) where
+    pub wrong-sector : f < 32 → Sector f ≡ dataAnswer stream work
     unfolding dataAnswer
-    wrong-sector hf = sym (ap (lowest Sector 32) (sym is-first) ∙ lowest-here Sector hf) ∙ go-on LdcColumn _ el h
+    wrong-sector hf = sym (ap (lowest Sector 32) (sym ef) ∙ lowest-here Sector hf) ∙ go-on LdcColumn _ el h
 
-    pub right-data : 32 ≤ f → Done ≡ dataAnswer psn work
+    pub right-data : 32 ≤ f → Done ≡ dataAnswer stream work
     unfolding dataAnswer
-    right-data hf = sym (ap (lowest Sector 32) (sym is-first) ∙ lowest-none Sector hf) ∙ go-on LdcColumn _ el h
+    right-data hf = sym (ap (lowest Sector 32) (sym ef) ∙ lowest-none Sector hf) ∙ go-on LdcColumn _ el h
 
--- ---- 12 to 16
-
-module _ (work : List ℕ) (block : List (List ℕ)) (psn : ℕ) (a : Answer) (d : Bool)
-    (eb : block ≡ bisIn work) (ep : psn ≡ psnNumber (psnIn block)) (ea : a ≡ blockAnswer block) (ed : d ≡ isDone a) where
-  pub cluster-psn : psn ≡ psnOf work
-  cluster-psn = ep ∙ ap (λ (b : List (List ℕ)). psnNumber (psnIn b)) eb
-
-  block-judged : a ≡ blockAnswer (bisIn work)
-  block-judged = ea ∙ ap blockAnswer eb
-
-  pub cluster-judged : (r : Answer) → d ≡ true → r ≡ dataAnswer psn work → r ≡ clusterAnswer work
-  unfolding clusterAnswer
-  cluster-judged r t e =
-      e ∙ ap (λ (p : ℕ). dataAnswer p work) cluster-psn ∙ sym (then-next (blockAnswer (bisIn work)) (dataAnswer (psnOf work) work) (sym block-judged ∙ done-is a (sym ed ∙ t)))
-
-  pub block-refused : d ≡ false → a ≡ clusterAnswer work
-  unfolding clusterAnswer
-  block-refused t = block-judged ∙ sym (then-here (blockAnswer (bisIn work)) (dataAnswer (psnOf work) work) (ap isDone (sym block-judged) ∙ sym ed ∙ t))
-
--- ---- 9 to 11, in front of them
-
-refused-early : (b : List ℕ) (r : Answer) → r ≡ framesAnswer b → isDone r ≡ false → r ≡ imageAnswer b
-unfolding imageAnswer
-refused-early b r e f = e ∙ sym (then-here (framesAnswer b) (clusterAnswer (clusterIn b)) (ap isDone (sym e) ∙ f))
+-- ---- 9 to 11
 
 module _ (b : List ℕ) (z : Bool) (ez : z ≡ lastZero b) where
-  pub last-wrong : z ≡ false → LastBits ≡ imageAnswer b
+  pub last-wrong : z ≡ false → LastBits ≡ framesAnswer b
   unfolding framesAnswer
-  last-wrong e =
-      refused-early b LastBits
-      (sym (ap (λ (t : Bool). andThen (cond t Done LastBits) (andThen (lowest Sync 497 (firstWrongSync b)) (lowest Frame 496 (firstNoFrame b)))) (sym ez ∙ e))) refl
+  last-wrong e = sym (ap (λ (t : Bool). andThen (cond t Done LastBits) (andThen (lowest Sync 497 (firstWrongSync b)) (lowest Frame 496 (firstNoFrame b)))) (sym ez ∙ e))
 
   module _ (s : ℕ) (e : z ≡ true) (es : s ≡ firstWrongSync b) where
     past-nine : (next : Answer) → next ≡ andThen (cond (lastZero b) Done LastBits) next
     past-nine next = sym (ap (λ (t : Bool). andThen (cond t Done LastBits) next) (sym ez ∙ e))
 
-    pub sync-wrong : s < 497 → Sync s ≡ imageAnswer b
+    pub sync-wrong : s < 497 → Sync s ≡ framesAnswer b
     unfolding framesAnswer
-    sync-wrong h = refused-early b (Sync s) (stop-here Sync (lowest Frame 496 (firstNoFrame b)) es refl h ∙ past-nine _) refl
+    sync-wrong h = stop-here Sync (lowest Frame 496 (firstNoFrame b)) es refl h ∙ past-nine _
 
     module _ (n : ℕ) (hs : 497 ≤ s) (en : n ≡ firstNoFrame b) where
       past-ten : lowest Frame 496 (firstNoFrame b) ≡ framesAnswer b
       unfolding framesAnswer
       past-ten = go-on Sync (lowest Frame 496 (firstNoFrame b)) es hs ∙ past-nine _
 
-      pub frame-wrong : n < 496 → Frame n ≡ imageAnswer b
-      frame-wrong hn = refused-early b (Frame n) (sym (ap (lowest Frame 496) (sym en) ∙ lowest-here Frame hn) ∙ past-ten) refl
+      pub frame-wrong : n < 496 → Frame n ≡ framesAnswer b
+      frame-wrong hn = sym (ap (lowest Frame 496) (sym en) ∙ lowest-here Frame hn) ∙ past-ten
 
-      pub frames-right : (r : Answer) → 496 ≤ n → r ≡ clusterAnswer (clusterIn b) → r ≡ imageAnswer b
-      unfolding imageAnswer
-      frames-right r hn er = er ∙ sym (then-next (framesAnswer b) (clusterAnswer (clusterIn b)) (sym past-ten ∙ ap (lowest Frame 496) (sym en) ∙ lowest-none Frame hn))
+      pub frames-right : 496 ≤ n → Done ≡ framesAnswer b
+      frames-right hn = sym (ap (lowest Frame 496) (sym en) ∙ lowest-none Frame hn) ∙ past-ten

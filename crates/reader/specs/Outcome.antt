@@ -35,16 +35,16 @@ psnNumber NotFound = 0
 unfoldable pub blockAnswer : List (List ℕ) → Answer
 blockAnswer block = andThen (lowest BisColumn 24 (firstWrongColumn block)) (andThen (lowest AddressUnit 16 (firstWrongField block)) (psnAnswer (psnIn block)))
 
--- 15 and 16, in the ECC cluster of a PSN
-unfoldable pub dataAnswer : ℕ → List ℕ → Answer
-dataAnswer psn work = andThen (lowest LdcColumn 304 (firstWrongWord work)) (lowest Sector 32 (firstWrongSector (scramblingOf psn) work))
+-- 15 and 16, in an ECC cluster that is scrambled with a stream
+unfoldable pub dataAnswer : List ℕ → List ℕ → Answer
+dataAnswer stream work = andThen (lowest LdcColumn 304 (firstWrongWord work)) (lowest Sector 32 (firstWrongSector stream work))
 
 abbrev pub psnOf : List ℕ → ℕ
 psnOf work = psnNumber (psnIn (bisIn work))
 
 -- 12 to 16
 unfoldable pub clusterAnswer : List ℕ → Answer
-clusterAnswer work = andThen (blockAnswer (bisIn work)) (dataAnswer (psnOf work) work)
+clusterAnswer work = andThen (blockAnswer (bisIn work)) (dataAnswer (scramblingOf (psnOf work)) work)
 
 unfoldable pub imageAnswer : List ℕ → Answer
 imageAnswer b = andThen (framesAnswer b) (clusterAnswer (clusterIn b))

@@ -4,6 +4,7 @@ use mathlib.Core.Bool.{Bool, true, false}
 use mathlib.Core.List.{List, _++_}
 use Prim.Native.Nat.{ℕ, _*_, _≤_}
 use lib.ListN.{length, set, take, drop}
+use Rattle.laws.specs.Tabulate.{tabulate}
 use Rattle.modulation.specs.Sync.{syncNumber}
 use Rattle.frame.specs.FrameBits.{rowOf}
 use Rattle.frame.specs.Reading.{FrameWords}
@@ -11,12 +12,12 @@ use Rattle.frame.specs.declared.FrameRead.{FrameRead}
 use Rattle.frame.specs.declared.FrameRead.the-variants.{Found, NoFrame}
 use Rattle.answer.specs.declared.Answer.the-variants.{Done}
 use Rattle.answer.specs.declared.Answer.{Answer}
+use Rattle.answer.specs.Answer.{isDone}
 use Rattle.sector.specs.Scrambling.{scramblingOf}
-use Rattle.bis.specs.Reading.{sideIn}
-use Rattle.cluster.specs.Multiplex.{bisIn}
+use Rattle.bis.specs.Reading.{psnIn, sideIn}
 use Rattle.cluster.specs.Reading.{userIn}
 use Rattle.reader.specs.Reading.{modulatedAt, hashBehind, noFrame, frameBitsIn, dcWordIn, firstNoFrame, clusterIn, dcIn}
-use Rattle.reader.specs.Outcome.{imageAnswer, psnOf}
+use Rattle.reader.specs.Outcome.{framesAnswer, blockAnswer, psnNumber}
 
 -- frame n, its row in its place of the cluster
 pub record RowRead (b : List ℕ) (n : ℕ) (before : List ℕ) (answer : FrameRead) (after : List ℕ) : Type 0 where
@@ -48,13 +49,17 @@ pub record FramesRead (b : List ℕ) (answer : ℕ) (dc work : List ℕ) : Type 
   pub work-is : 496 ≤ answer → work ≡ clusterIn b
   pub size : length work ≡ 76880
 
--- tests 9 to 16; where they are passed, the PSN, the dc words and the cluster
-pub record ImageRead (b : List ℕ) (answer : Answer) (psn : ℕ) (dc work : List ℕ) : Type 0 where
-  pub answer-is : answer ≡ imageAnswer b
-  pub psn-is : answer ≡ Done → psn ≡ psnOf (clusterIn b)
+-- tests 9 to 11; where they are passed, the dc words and the cluster
+pub record FramesJudged (b : List ℕ) (answer : Answer) (dc work : List ℕ) : Type 0 where
+  pub answer-is : answer ≡ framesAnswer b
   pub dc-is : answer ≡ Done → dc ≡ dcIn b
   pub work-is : answer ≡ Done → work ≡ clusterIn b
   pub size : length work ≡ 76880
+
+-- tests 12 to 14; where they are passed, the PSN
+pub record BlockJudged (block : List (List ℕ)) (answer : Answer) (psn : ℕ) : Type 0 where
+  pub answer-is : answer ≡ blockAnswer block
+  pub psn-is : answer ≡ Done → psn ≡ psnNumber (psnIn block)
 
 -- slices of the right lengths
 pub record Sized (image user side dc work : List ℕ) : Type 0 where
@@ -64,8 +69,21 @@ pub record Sized (image user side dc work : List ℕ) : Type 0 where
   pub dc-size : length dc ≡ 496
   pub work-size : length work ≡ 76880
 
--- what the cluster of a PSN was made of, with the dc words that were read
-pub record Given (work : List ℕ) (psn : ℕ) (words user side dc : List ℕ) : Type 0 where
-  pub user-is : user ≡ userIn (scramblingOf psn) work
-  pub side-is : side ≡ sideIn (bisIn work)
+-- what a cluster was made of, with the dc words that were read
+pub record Given (work stream : List ℕ) (block : List (List ℕ)) (words user side dc : List ℕ) : Type 0 where
+  pub user-is : user ≡ userIn stream work
+  pub side-is : side ≡ sideIn block
   pub dc-is : dc ≡ words
+
+-- a cluster that is judged so: where all is right its PSN and what it was made of, else the PSN is 0 and the slices are as they were
+pub record DataRead (right : Answer) (number : ℕ) (block : List (List ℕ)) (work words user side dc : List ℕ) (answer : Answer) (psn : ℕ) (user′ side′ dc′ : List ℕ) : Type 0 where
+  pub answer-is : answer ≡ right
+  pub psn-is : answer ≡ Done → psn ≡ number
+  pub given : answer ≡ Done → Given work (scramblingOf number) block words user′ side′ dc′
+  pub no-psn : isDone answer ≡ false → psn ≡ 0
+  pub kept : isDone answer ≡ false → (user′ ≡ user) × ((side′ ≡ side) × (dc′ ≡ dc))
+
+-- work as it was, or zeros on a refusal
+pub record WorkLeft (answer : Answer) (before after : List ℕ) : Type 0 where
+  pub same : answer ≡ Done → after ≡ before
+  pub zeros : isDone answer ≡ false → after ≡ tabulate (length before) (λ _. 0)

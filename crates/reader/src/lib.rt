@@ -13,15 +13,25 @@ ghost use Rattle.bits.specs.Bits.{bitsOf};
 ghost use Rattle.demodulator.specs.Table.{table};
 ghost use Rattle.demodulator.specs.Words.{Words};
 ghost use Rattle.rows.specs.Rows.{AreRows};
-ghost use Rattle.bis.specs.Reading.{psnIn};
+ghost use Rattle.sector.specs.Scrambling.{scramblingOf};
+ghost use Rattle.cluster.specs.Multiplex.{bisIn};
 ghost use Rattle.reader.specs.Reading.{lastZero, firstWrongSync};
-ghost use Rattle.reader.specs.Outcome.{blockAnswer, psnNumber, dataAnswer, clusterAnswer, psnOf, Lent, Outcome, judgedOutcome, outcome};
-ghost use Rattle.reader.specs.Read.{WordsAt, RowTaken, FramePut, FramesRead, ImageRead, Sized, Given};
+ghost use Rattle.reader.specs.Outcome.{dataAnswer, clusterAnswer, psnOf, Lent, Outcome, judgedOutcome, outcome};
+ghost use Rattle.reader.specs.Read.{WordsAt, RowTaken, FramePut, FramesRead, FramesJudged, BlockJudged, Sized, Given, DataRead, WorkLeft};
 
 // What the reader answers; the PSN is 0 on refusal.
 pub struct Read {
     pub answer: Answer,
     pub psn: Psn,
+}
+
+fn refused(answer: Answer) -> Read
+    ensures { λ r. ⌜ (r .answer ≡ answer) × (r .psn .0 ≡ 0) ⌝ }
+{
+    Read {
+        answer: answer,
+        psn: Psn(0),
+    }
 }
 
 // Test 9: the last two bits.
@@ -126,113 +136,149 @@ fn read_frames(image: &[u8], dc: &mut [u32], work: &mut [u8]) -> usize
     n
 }
 
-// Tests 15 and 16: the LDC columns and the sectors of a cluster with this PSN.
-fn judge_data(rows: &Rows, work: &[u8], psn: Psn) -> Answer
+// Tests 9 to 11; where they are passed the cluster stands in work and its dc words in dc.
+fn judge_frames(image: &[u8], dc: &mut [u32], work: &mut [u8]) -> Answer
+    requires { ⌜ (length (now image) ≡ 119788) × ((length (now dc) ≡ 496) × (length (now work) ≡ 76880)) ⌝ }
+    ensures { λ r. ⌜ FramesJudged (bitsOf (now (image .entry))) r (now (dc .exit)) (now (work .exit)) ⌝ }
+{
+    if !last_zero(image) {
+        return Answer::LastBits;
+    }
+    let sync = first_wrong_sync(image);
+    if sync < 497 {
+        return Answer::Sync(sync);
+    }
+    let n = read_frames(image, dc, work);
+    if n < 496 {
+        return Answer::Frame(n);
+    }
+    Answer::Done
+}
+
+// Tests 12 to 14: the columns, the address fields and the PSN of a BIS block.
+fn judge_block(rows: &Rows, block: bis::Block) -> Read
+    requires { ⌜ AreRows (now rows) ⌝ }
+    ensures { λ r. ⌜ BlockJudged block (r .answer) (r .psn .0) ⌝ }
+{
+    let column = bis::first_wrong_column(rows, block);
+    if column < 24 {
+        return refused(Answer::BisColumn(column));
+    }
+    let unit = bis::first_wrong_field(block);
+    if unit < 16 {
+        return refused(Answer::AddressUnit(unit));
+    }
+    let found = bis::psn_in(block);
+    match found {
+        PsnFound::Found(psn) => Read {
+            answer: Answer::Done,
+            psn: psn,
+        },
+        PsnFound::NotFound => refused(Answer::NoPsn),
+    }
+}
+
+// Tests 15 and 16: the LDC columns and the sectors of a cluster, scrambled with this stream.
+fn judge_data(rows: &Rows, work: &[u8], stream: &[u8]) -> Answer
     requires { ⌜ AreRows (now rows) × (length (now work) ≡ 76880) ⌝ }
-    ensures { λ r. ⌜ r ≡ dataAnswer (psn .0) (now (work .entry)) ⌝ }
+    ensures { λ r. ⌜ r ≡ dataAnswer (now (stream .entry)) (now (work .entry)) ⌝ }
 {
     let word = cluster::first_wrong_word(rows, work);
     if word < 304 {
         return Answer::LdcColumn(word);
     }
-    let stream = sector::scrambling(psn);
-    let sector = cluster::first_wrong_sector(work, &stream);
+    let sector = cluster::first_wrong_sector(work, stream);
     if sector < 32 {
         return Answer::Sector(sector);
     }
     Answer::Done
 }
 
-// Tests 12 to 14: the columns, the address fields and the PSN of a BIS block.
-fn judge_block(rows: &Rows, block: bis::Block) -> Answer
-    requires { ⌜ AreRows (now rows) ⌝ }
-    ensures { λ r. ⌜ r ≡ blockAnswer block ⌝ }
+// What a cluster was made of, into the caller's slices.
+fn give(
+    work: &[u8],
+    stream: &[u8],
+    block: bis::Block,
+    words: &[u32; 496],
+    user: &mut [u8],
+    side: &mut [u8],
+    dc: &mut [u32],
+)
+    requires { ⌜ ((length (now work) ≡ 76880) × (length (now user) ≡ 65536)) × ((length (now side) ≡ 592) × ((length (now words) ≡ 496) × (length (now dc) ≡ 496))) ⌝ }
+    ensures { λ _. ⌜ Given (now (work .entry)) (now (stream .entry)) block (now (words .entry)) (now (user .exit)) (now (side .exit)) (now (dc .exit)) ⌝ }
 {
-    let column = bis::first_wrong_column(rows, block);
-    if column < 24 {
-        return Answer::BisColumn(column);
-    }
-    let unit = bis::first_wrong_field(block);
-    if unit < 16 {
-        return Answer::AddressUnit(unit);
-    }
-    let found = bis::psn_in(block);
-    match found {
-        PsnFound::Found(_) => Answer::Done,
-        PsnFound::NotFound => Answer::NoPsn,
-    }
+    cluster::user_bytes(work, stream, user);
+    bis::side_data(block, side);
+    slices::copy_words(words, dc);
 }
 
-// The PSN of a BIS block; 0 where no accepted PSN has its AUNs.
-fn psn_of(block: bis::Block) -> Psn
-    ensures { λ r. ⌜ r .0 ≡ psnNumber (psnIn block) ⌝ }
+// Tests 15 and 16 of a cluster with this PSN and this BIS block; where they are passed, what it was made of.
+fn read_data(
+    rows: &Rows,
+    work: &[u8],
+    psn: Psn,
+    block: bis::Block,
+    words: &[u32; 496],
+    user: &mut [u8],
+    side: &mut [u8],
+    dc: &mut [u32],
+) -> Read
+    requires { ⌜ AreRows (now rows) × (((length (now work) ≡ 76880) × (length (now user) ≡ 65536)) × ((length (now side) ≡ 592) × ((length (now words) ≡ 496) × (length (now dc) ≡ 496)))) ⌝ }
+    ensures { λ r. ⌜ DataRead (dataAnswer (scramblingOf (psn .0)) (now (work .entry))) (psn .0) block (now (work .entry)) (now (words .entry)) (now (user .entry)) (now (side .entry)) (now (dc .entry)) (r .answer) (r .psn .0) (now (user .exit)) (now (side .exit)) (now (dc .exit)) ⌝ }
 {
-    let found = bis::psn_in(block);
-    match found {
-        PsnFound::Found(psn) => psn,
-        PsnFound::NotFound => Psn(0),
-    }
-}
-
-// Tests 12 to 16.
-fn judge_cluster(work: &[u8]) -> Read
-    requires { ⌜ length (now work) ≡ 76880 ⌝ }
-    ensures { λ r. ⌜ (r .answer ≡ clusterAnswer (now (work .entry))) × (r .psn .0 ≡ psnOf (now (work .entry))) ⌝ }
-{
-    let block = cluster::bis_block(work);
-    let psn = psn_of(block);
-    let rows = rows::make();
-    let judged = judge_block(&rows, block);
+    let stream = sector::scrambling(psn);
+    let judged = judge_data(rows, work, &stream);
     if judged.is_done() {
+        give(work, &stream, block, words, user, side, dc);
         return Read {
-            answer: judge_data(&rows, work, psn),
+            answer: Answer::Done,
             psn: psn,
         };
     }
-    Read {
-        answer: judged,
-        psn: psn,
-    }
+    refused(judged)
 }
 
-fn refused(answer: Answer) -> Read
-    ensures { λ r. ⌜ (r .answer ≡ answer) × (r .psn .0 ≡ 0) ⌝ }
-{
-    Read {
-        answer: answer,
-        psn: Psn(0),
-    }
-}
-
-// Tests 9 to 16; where all are passed the cluster stands in work and its dc words in dc.
-fn judge_image(image: &[u8], dc: &mut [u32], work: &mut [u8]) -> Read
-    requires { ⌜ (length (now image) ≡ 119788) × ((length (now dc) ≡ 496) × (length (now work) ≡ 76880)) ⌝ }
-    ensures { λ r. ⌜ ImageRead (bitsOf (now (image .entry))) (r .answer) (r .psn .0) (now (dc .exit)) (now (work .exit)) ⌝ }
-{
-    if !last_zero(image) {
-        return refused(Answer::LastBits);
-    }
-    let sync = first_wrong_sync(image);
-    if sync < 497 {
-        return refused(Answer::Sync(sync));
-    }
-    let n = read_frames(image, dc, work);
-    if n < 496 {
-        return refused(Answer::Frame(n));
-    }
-    judge_cluster(work)
-}
-
-// What a cluster was made of, into the caller's slices.
-fn give(work: &[u8], psn: Psn, words: &[u32; 496], user: &mut [u8], side: &mut [u8], dc: &mut [u32])
+// Tests 12 to 16 of a cluster; where they are passed, what it was made of.
+fn read_cluster(
+    work: &[u8],
+    words: &[u32; 496],
+    user: &mut [u8],
+    side: &mut [u8],
+    dc: &mut [u32],
+) -> Read
     requires { ⌜ ((length (now work) ≡ 76880) × (length (now user) ≡ 65536)) × ((length (now side) ≡ 592) × ((length (now words) ≡ 496) × (length (now dc) ≡ 496))) ⌝ }
-    ensures { λ _. ⌜ Given (now (work .entry)) (psn .0) (now (words .entry)) (now (user .exit)) (now (side .exit)) (now (dc .exit)) ⌝ }
+    ensures { λ r. ⌜ DataRead (clusterAnswer (now (work .entry))) (psnOf (now (work .entry))) (bisIn (now (work .entry))) (now (work .entry)) (now (words .entry)) (now (user .entry)) (now (side .entry)) (now (dc .entry)) (r .answer) (r .psn .0) (now (user .exit)) (now (side .exit)) (now (dc .exit)) ⌝ }
 {
-    let stream = sector::scrambling(psn);
-    cluster::user_bytes(work, &stream, user);
     let block = cluster::bis_block(work);
-    bis::side_data(block, side);
-    slices::copy_words(words, dc);
+    let rows = rows::make();
+    let found = judge_block(&rows, block);
+    let judged = found.answer;
+    let psn = found.psn;
+    if judged.is_done() {
+        return read_data(&rows, work, psn, block, words, user, side, dc);
+    }
+    refused(judged)
+}
+
+// The same; where it is refused, zeros in work.
+fn read_or_clear(
+    work: &mut [u8],
+    words: &[u32; 496],
+    user: &mut [u8],
+    side: &mut [u8],
+    dc: &mut [u32],
+) -> Read
+    requires { ⌜ ((length (now work) ≡ 76880) × (length (now user) ≡ 65536)) × ((length (now side) ≡ 592) × ((length (now words) ≡ 496) × (length (now dc) ≡ 496))) ⌝ }
+    ensures { λ r. ⌜ DataRead (clusterAnswer (now (work .entry))) (psnOf (now (work .entry))) (bisIn (now (work .entry))) (now (work .entry)) (now (words .entry)) (now (user .entry)) (now (side .entry)) (now (dc .entry)) (r .answer) (r .psn .0) (now (user .exit)) (now (side .exit)) (now (dc .exit)) ⌝ }
+    ensures { λ r. ⌜ WorkLeft (r .answer) (now (work .entry)) (now (work .exit)) ⌝ }
+{
+    let read = read_cluster(work, words, user, side, dc);
+    let answer = read.answer;
+    if answer.is_done() {
+        return read;
+    }
+    slices::clear(work);
+    read
 }
 
 fn no_words() -> [u32; 496]
@@ -254,15 +300,9 @@ fn read_sized(
         ≡ judgedOutcome (bitsOf (now (image .entry))) (record { user = now (user .entry); side = now (side .entry); dc = now (dc .entry); work = now (work .entry) }) ⌝ }
 {
     let mut words = no_words();
-    let found = judge_image(image, &mut words, work);
-    let judged = found.answer;
-    let psn = found.psn;
+    let judged = judge_frames(image, &mut words, work);
     if judged.is_done() {
-        give(work, psn, &words, user, side, dc);
-        return Read {
-            answer: Answer::Done,
-            psn: psn,
-        };
+        return read_or_clear(work, &words, user, side, dc);
     }
     slices::clear(work);
     refused(judged)

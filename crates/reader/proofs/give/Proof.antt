@@ -1,20 +1,11 @@
-use Rattle.reader.proofs.Reading.{given-all}
 -- `give` meets its contract: each part from the cluster or the words (Reading).
 use borrow.Author.Needs.{needs}
+use Rattle.reader.proofs.Reading.{given-all}
 use Rattle.reader.proofs.give.Statement.{statement}
 use Rattle.reader.proofs.give.Tie as tie
 
-scrambling-requires : tie.Need-scrambling-requires
-scrambling-requires c κs = search needs
-
-slice-aggregate-user-bytes : tie.Need-slice-aggregate-user-bytes
-slice-aggregate-user-bytes c = search needs
-
 user-bytes-requires : tie.Need-user-bytes-requires
 user-bytes-requires c κs = search needs
-
-bis-block-requires : tie.Need-bis-block-requires
-bis-block-requires c κs = search needs
 
 side-data-requires : tie.Need-side-data-requires
 side-data-requires c κs = search needs
@@ -38,10 +29,7 @@ pub give-spec : {M : Type 1} → statement M
 give-spec =
     tie.close
     (tie.spec
-    scrambling-requires
-    slice-aggregate-user-bytes
     user-bytes-requires
-    bis-block-requires
     side-data-requires
     copy-words-requires
     same-length

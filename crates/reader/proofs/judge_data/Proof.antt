@@ -1,6 +1,6 @@
-use Rattle.reader.proofs.Judging.{wrong-word, wrong-sector, right-data}
 -- `judge_data` meets its contract, test by test (Judging).
 use borrow.Author.Needs.{needs}
+use Rattle.reader.proofs.Judging.{wrong-word, wrong-sector, right-data}
 use Rattle.reader.proofs.judge_data.Statement.{statement}
 use Rattle.reader.proofs.judge_data.Tie as tie
 
@@ -9,12 +9,6 @@ first-wrong-word-requires c κs = search needs
 
 returns : tie.Need-returns
 returns c = search (wrong-word)
-
-scrambling-requires : tie.Need-scrambling-requires
-scrambling-requires c κs = search needs
-
-slice-aggregate-first-wrong-sector : tie.Need-slice-aggregate-first-wrong-sector
-slice-aggregate-first-wrong-sector c = search needs
 
 first-wrong-sector-requires : tie.Need-first-wrong-sector-requires
 first-wrong-sector-requires c κs = search needs
@@ -28,11 +22,4 @@ returns-3 c = search (right-data)
 pub judge-data-spec : {M : Type 1} → statement M
 judge-data-spec =
     tie.close
-    (tie.spec
-    first-wrong-word-requires
-    returns
-    scrambling-requires
-    slice-aggregate-first-wrong-sector
-    first-wrong-sector-requires
-    returns-2
-    returns-3)
+    (tie.spec first-wrong-word-requires returns first-wrong-sector-requires returns-2 returns-3)
