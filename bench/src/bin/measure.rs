@@ -7,6 +7,7 @@ use bench::numbers;
 use bench::random::Random;
 use bench::reference::fast::Fast;
 use bench::reference::plain;
+use std::ops::Range;
 use std::time::Instant;
 
 /// The plain path runs on one cluster of so many.
@@ -125,25 +126,26 @@ fn row(name: &str, times: &mut Times) {
     println!();
 }
 
-fn growth(bench: &mut Bench, r: &Random) {
-    println!("ms for 1 to 1,000 clusters written and read, in all and for each");
-    println!("{:<8}{:>12}{:>9}{:>12}{:>9}{:>14}", "", "library", "each", "fast", "each", "library/fast");
-    for count in [1, 10, 100, 1000] {
-        let mut total = [0.0; 3];
-        for i in 0..count {
-            let (c, image) = &bench.cluster(r, i);
-            for by in turns(i) {
-                total[by as usize] += bench.write(by, c) + bench.read(by, image);
-            }
+/// Milliseconds in which the library and the fast path write and read these clusters.
+fn total(bench: &mut Bench, r: &Random, clusters: Range<usize>) -> [f64; 2] {
+    let mut total = [0.0; 3];
+    for i in clusters {
+        let (c, image) = &bench.cluster(r, i);
+        for by in turns(i) {
+            total[by as usize] += bench.write(by, c) + bench.read(by, image);
         }
-        let [library, _, fast] = total;
-        let each = |ms: f64| ms / count as f64;
-        println!(
-            "{count:<8}{library:>12.2}{:>9.3}{fast:>12.2}{:>9.3}{:>14.2}",
-            each(library),
-            each(fast),
-            library / fast
-        );
+    }
+    [total[By::Library as usize], total[By::Fast as usize]]
+}
+
+fn growth(bench: &mut Bench, r: &Random) {
+    println!("ms for clusters written and read, in all and for each; medians of 101, 21, 5 and 1 runs");
+    println!("{:<8}{:>10}{:>9}{:>10}{:>9}{:>14}", "", "library", "each", "fast", "each", "library/fast");
+    for (count, runs) in [(1, 101), (10, 21), (100, 5), (1000, 1)] {
+        let totals: Vec<[f64; 2]> = (0..runs).map(|k| total(bench, r, k * count..(k + 1) * count)).collect();
+        let median = |by: usize| quantile(&mut totals.iter().map(|t| t[by]).collect::<Vec<f64>>(), 0.5);
+        let (library, fast, n) = (median(0), median(1), count as f64);
+        println!("{count:<8}{library:>10.2}{:>9.3}{fast:>10.2}{:>9.3}{:>14.2}", library / n, fast / n, library / fast);
     }
 }
 

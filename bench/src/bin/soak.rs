@@ -61,7 +61,7 @@ impl Soak {
         }
     }
 
-    /// On a terminal a line that changes, else ten lines in all, until the workers are done.
+    /// On a terminal a line that changes, else ten lines in all, none in the first second.
     fn progress(&self, working: impl Fn() -> bool) {
         let (start, terminal, count) = (Instant::now(), is_terminal(), self.images.len());
         let mut tenths = 0;
@@ -73,7 +73,7 @@ impl Soak {
             if terminal {
                 eprint!("\r{done} of {count} images, {left:.0} s left   ");
                 std::io::stderr().flush().ok();
-            } else if 10 * done / count.max(1) > tenths {
+            } else if seconds > 1.0 && 10 * done / count > tenths {
                 tenths = 10 * done / count;
                 eprintln!("{done} of {count} images, {left:.0} s left");
             }
@@ -95,7 +95,7 @@ fn is_terminal() -> bool {
 fn main() {
     let words = numbers("bench/soak [IMAGES [SEED [FIRST]]]");
     let word = |k: usize, otherwise: usize| words.get(k).copied().unwrap_or(otherwise);
-    let (count, seed, first) = (word(0, 10_000), word(1, 1), word(2, 0));
+    let (count, seed, first) = (word(0, 10_000).max(1), word(1, 1), word(2, 0));
     let soak = &Soak {
         seed: seed as u64,
         images: first..first + count,
@@ -115,13 +115,13 @@ fn main() {
             }
         }
     });
-    println!("answer    images    places");
+    println!("{:>6}{:>10}{:>10}", "answer", "images", "places");
     for (number, (images, places)) in answers.iter().enumerate().filter(|(n, _)| *n == 0 || *n > 8) {
         println!("{number:>6}{images:>10}{:>10}", places.len());
         agree(count < MANY || *images > 0, || format!("answer {number} did not occur"));
     }
+    let seconds = start.elapsed().as_secs_f64();
     println!(
-        "{count} damaged images from {first} on, seed {seed}: the library and the reference agree ({:.0} s, {threads} threads)",
-        start.elapsed().as_secs_f64()
+        "{count} damaged images, seed {seed}, from {first} on: the library and the reference agree ({seconds:.0} s)"
     );
 }
