@@ -181,7 +181,7 @@ fn main() {
     refused_inputs(r, if short { 200 } else { 2000 });
     conversions(r, 1_000_000);
     clusters(r, &mut fast, if short { 30 } else { 240 }, if short { 6 } else { 1 });
-    damaged(r, &mut fast, if short { 12 } else { 2000 });
+    damaged(r, &mut fast, if short { 10 } else { 2000 });
     marks(r, &mut fast, if short { 30 } else { 300 });
     println!("the library and the reference agree ({:.0} s)", start.elapsed().as_secs_f64());
 }

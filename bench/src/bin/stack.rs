@@ -12,6 +12,12 @@ use std::collections::BTreeMap;
 const LIMIT: usize = 131_072;
 const ROOM: usize = 4 * LIMIT;
 
+/// The answers of writer, reader and conversions, and the marker's verdicts.
+const WRITTEN: [u32; 9] = [0, 1, 2, 3, 4, 5, 6, 7, 8];
+const READ: [u32; 14] = [0, 1, 2, 3, 4, 5, 9, 10, 11, 12, 13, 14, 15, 16];
+const MARKED: [u32; 5] = [0, 1, 2, 3, 4];
+const CONVERTED: [u32; 3] = [0, 6, 7];
+
 /// Runs `call` with the stack pointer at `top`, which is a multiple of 16.
 unsafe fn call_at<F: FnMut()>(top: *mut u8, call: &mut F) {
     extern "C" fn enter<F: FnMut()>(call: &mut F) {
@@ -84,7 +90,7 @@ fn lengths(wrong: usize) -> [usize; 5] {
 fn writes(stack: &mut Stack, r: &Random) -> usize {
     let mut write = Operation::new("write_image");
     let mut f = Filled::random(r);
-    for i in 0..60 {
+    for i in 0..40 {
         let mut c = Cluster::random(r, i);
         match i % 10 {
             6 => c.psn += 1,
@@ -97,34 +103,34 @@ fn writes(stack: &mut Stack, r: &Random) -> usize {
         let (image, work) = (&mut f.image[..n[3]], &mut f.work[..n[4]]);
         write.run(stack, || bdre::write_image(user, c.psn, side, dc, image, work).number);
     }
-    write.most(&[0, 1, 2, 3, 4, 5, 6, 7, 8])
+    write.most(&WRITTEN)
 }
 
-/// Damaged images, read and marked.
+/// Images, damaged ones among them, read and marked until every answer has occurred.
 fn reads(stack: &mut Stack, r: &Random) -> usize {
     let (mut read, mut mark) = (Operation::new("read_image"), Operation::new("mark_image"));
     let mut fast = Fast::new();
     let mut l = Lent::random(r);
-    for i in 0..200 {
+    for i in 0..1000 {
         let mut w = Written::random(r, &mut fast, i);
         let mut c = w.cluster.clone();
-        if i % 2 == 0 {
-            damage(r, &mut fast, &mut w);
+        match i % 8 {
+            0 => {}
+            1 => c.psn += 32,
+            2 => c.user[r.below(USER)] ^= 1,
+            3 => c.side[r.below(SIDE)] ^= 1,
+            _ => drop(damage(r, &mut fast, &mut w)),
         }
-        match i % 10 {
-            5 => c.psn += 32,
-            7 => c.user[r.below(USER)] ^= 1,
-            9 => c.side[r.below(SIDE)] ^= 1,
-            _ => {}
-        }
-        let n = lengths(i % 40);
+        let n = lengths(i % 16);
         let (user, side, dc) = (&mut l.user[..n[0]], &mut l.side[..n[1]], &mut l.dc[..n[2]]);
         let (image, work) = (&w.image[..n[3]], &mut l.work[..n[4]]);
         read.run(stack, || bdre::read_image(image, user, side, dc, work).number);
         mark.run(stack, || bdre::mark_image(c.psn, &c.user, &c.side, image, user, side, dc, work).verdict);
+        if i >= 64 && read.taken.len() == READ.len() && mark.taken.len() == MARKED.len() {
+            break;
+        }
     }
-    let most = read.most(&[0, 1, 2, 3, 4, 5, 9, 10, 11, 12, 13, 14, 15, 16]);
-    most.max(mark.most(&[0, 1, 2, 3, 4]))
+    read.most(&READ).max(mark.most(&MARKED))
 }
 
 fn conversions(stack: &mut Stack) -> usize {
@@ -141,7 +147,7 @@ fn conversions(stack: &mut Stack) -> usize {
                 conversion.run(stack, || convert(number).number);
             }
         }
-        conversion.most(&[0, 6, 7])
+        conversion.most(&CONVERTED)
     });
     most.into_iter().max().unwrap()
 }
