@@ -6,6 +6,9 @@ use crate::reference::code::{bits, WORDS};
 use crate::reference::fast::Fast;
 use crate::reference::{columns, plain};
 
+/// Of so many damaged images each answer must occur.
+pub const MANY: usize = 300;
+
 const FRAME: usize = 1932;
 
 /// An image with what it was made of.

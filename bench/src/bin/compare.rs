@@ -4,7 +4,7 @@
 use bench::bdre::{self, DC, IMAGE, SIDE, USER, WORK};
 use bench::both::{self, agree};
 use bench::clusters::{Cluster, Filled, Lent, LARGEST, ZONES};
-use bench::damage::{damage, Written};
+use bench::damage::{damage, Written, MANY};
 use bench::random::Random;
 use bench::reference::fast::Fast;
 use bench::reference::plain;
@@ -170,6 +170,7 @@ fn damaged(r: &Random, fast: &mut Fast, count: usize) {
         answers[a.number as usize] += 1;
     }
     println!("damaged images: {count}; answered 0: {}; 9 to 16: {:?}", answers[0], &answers[9..]);
+    agree(count < MANY || answers[9..].iter().all(|&n| n > 0), || "an answer from 9 to 16 did not occur".into());
 }
 
 fn main() {

@@ -3,7 +3,7 @@
 //! An image depends on the seed and its index alone, so each can be read again by itself.
 use bench::both::{self, agree};
 use bench::clusters::Lent;
-use bench::damage::{damage, Written};
+use bench::damage::{damage, Written, MANY};
 use bench::numbers;
 use bench::random::Random;
 use bench::reference::fast::Fast;
@@ -16,8 +16,6 @@ use std::time::{Duration, Instant};
 
 /// Images that are one image damaged in several ways.
 const BLOCK: usize = 8;
-/// From this many on each answer must occur.
-const MANY: usize = 300;
 
 /// For each answer how often it was given, and at which places.
 type Answers = [(usize, BTreeSet<usize>); 17];
