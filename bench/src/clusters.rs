@@ -7,6 +7,7 @@ pub const LARGEST: u32 = 0x0FFF_FFFF;
 /// First and last PSN of each data zone (17.2).
 pub const ZONES: [(u32, u32); 3] = [(0x0010_0000, 0x0108_9BFF), (0x02F7_6400, 0x03EF_FFFF), (0x0410_0000, 0x0508_9BFF)];
 
+#[derive(Clone)]
 pub struct Cluster {
     pub psn: u32,
     pub user: Vec<u8>,

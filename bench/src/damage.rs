@@ -2,12 +2,17 @@
 use crate::bdre::{DC, IMAGE, SIDE, USER, WORK};
 use crate::clusters::{psn, Cluster, LARGEST};
 use crate::random::Random;
+use crate::reference::code::{bits, WORDS};
 use crate::reference::fast::Fast;
 use crate::reference::{columns, plain};
+
+/// Of so many damaged images each answer must occur.
+pub const MANY: usize = 300;
 
 const FRAME: usize = 1932;
 
 /// An image with what it was made of.
+#[derive(Clone)]
 pub struct Written {
     pub cluster: Cluster,
     pub image: Vec<u8>,
@@ -71,9 +76,10 @@ fn last_bits(r: &Random, image: &mut [u8]) {
     image[IMAGE - 1] ^= 1 + r.below(3) as u8;
 }
 
-/// Two frames change places, with their syncs or without.
+/// Two frames change places, with their syncs or without; at times such as have the same sync.
 fn swap_frames(r: &Random, image: &mut [u8]) {
     let (a, b, from) = (r.below(496), r.below(496), r.pick(&[0, 30]));
+    let b = if r.below(2) == 0 { b - b % 31 + a % 31 } else { b };
     for i in from..FRAME {
         let (x, y) = (bit(image, FRAME * a + i), bit(image, FRAME * b + i));
         put(image, FRAME * a + i, y);
@@ -123,24 +129,37 @@ fn groups(r: &Random, image: &mut [u8]) {
     }
 }
 
+/// Where these groups stand in a frame, at least two groups before its end: the first such place behind a random one.
+fn find(r: &Random, image: &[u8], groups: &[u8]) -> Option<usize> {
+    let (start, all) = (r.below(496 * 634), 496 * 634);
+    (start..start + all)
+        .map(|i| (i % all / 634, i % 634))
+        .filter(|(_, k)| k + groups.len() / 3 + 2 <= 634)
+        .map(|(n, k)| FRAME * n + 30 + 3 * k)
+        .find(|at| groups.iter().enumerate().all(|(j, &b)| bit(image, at + j) == b))
+}
+
 /// 001 000 000 010 for 101 010 101 010 or the other way, where one stands: the same data bits, substituted where they must not be or not
 /// where they must.
 fn substitution(r: &Random, image: &mut [u8]) {
     let words = [[0, 0, 1, 0, 0, 0, 0, 0, 0, 0, 1, 0], [1, 0, 1, 0, 1, 0, 1, 0, 1, 0, 1, 0]];
-    let start = r.below(496);
-    for n in (0..496).map(|n| (n + start) % 496) {
-        for k in 0..631 {
-            let at = FRAME * n + 30 + 3 * k;
-            let found = words.iter().position(|w| (0..12).all(|j| bit(image, at + j) == w[j]));
-            if let (Some(w), 0) = (found, r.below(20)) {
-                for j in 0..9 {
-                    put(image, at + j, words[1 - w][j]);
-                }
-                return;
-            }
+    let w = r.below(2);
+    if let Some(at) = find(r, image, &words[w]) {
+        for (j, &b) in words[1 - w].iter().enumerate() {
+            put(image, at + j, b);
         }
     }
-    some_bits(r, image);
+}
+
+/// One or two groups behind a long word, or behind 110111 unsubstituted: the rules of what may follow are there.
+fn behind_word(r: &Random, image: &mut [u8]) {
+    let long: Vec<&str> = WORDS.iter().map(|w| w.1).filter(|m| m.len() >= 9).chain(["101010101"]).collect();
+    let word = bits(r.pick(&long));
+    if let Some(at) = find(r, image, &word) {
+        for j in 0..r.pick(&[3, 6]) {
+            put(image, at + word.len() + j, r.below(2) as u8);
+        }
+    }
 }
 
 /// Bits of no cluster, with right syncs or without.
@@ -174,6 +193,15 @@ fn ldc_bytes(r: &Random, w: &mut Written) {
     for _ in 0..1 + r.below(3) {
         w.work[plain::ldc_place(r.below(248), r.below(304))] ^= 1 + r.below(255) as u8;
     }
+}
+
+/// Two rows change places, with their dc words.
+fn swap_rows(r: &Random, w: &mut Written) {
+    let (a, b) = (r.below(496), r.below(496));
+    for i in 0..155 {
+        w.work.swap(155 * a + i, 155 * b + i);
+    }
+    w.cluster.dc.swap(a, b);
 }
 
 /// The BIS columns of an access block, with their parity.
@@ -266,7 +294,7 @@ fn other_data(r: &Random, fast: &mut Fast, w: &mut Written) {
 
 // ---- all of them
 
-const IN_IMAGE: [(&str, fn(&Random, &mut [u8])); 11] = [
+const IN_IMAGE: [(&str, fn(&Random, &mut [u8])); 12] = [
     ("one bit", one_bit),
     ("some bits", some_bits),
     ("bits of a sync", sync_bits),
@@ -277,12 +305,14 @@ const IN_IMAGE: [(&str, fn(&Random, &mut [u8])); 11] = [
     ("a burst", burst),
     ("groups of three bits", groups),
     ("a substitution", substitution),
+    ("groups behind a long word", behind_word),
     ("bits of no cluster", noise),
 ];
 
-const IN_CLUSTER: [(&str, fn(&Random, &mut Written)); 7] = [
+const IN_CLUSTER: [(&str, fn(&Random, &mut Written)); 8] = [
     ("BIS bytes", bis_bytes),
     ("LDC bytes", ldc_bytes),
+    ("two rows change places", swap_rows),
     ("address fields", address_bytes),
     ("AUNs", auns),
     ("data under right parity", data_byte),
@@ -311,10 +341,11 @@ fn in_cluster(r: &Random, fast: &mut Fast, w: &mut Written) -> &'static str {
 
 /// Damages an image in one way, at times in two, and says how.
 pub fn damage(r: &Random, fast: &mut Fast, w: &mut Written) -> String {
-    match r.below(10) {
+    match r.below(12) {
         0..=3 => in_image(r, &mut w.image).to_string(),
-        4..=7 => in_cluster(r, fast, w).to_string(),
-        8 => format!("{}, then {}", in_image(r, &mut w.image), in_image(r, &mut w.image)),
-        _ => format!("{}, then {}", in_cluster(r, fast, w), in_cluster(r, fast, w)),
+        4..=8 => in_cluster(r, fast, w).to_string(),
+        9 => format!("{}, then {}", in_image(r, &mut w.image), in_image(r, &mut w.image)),
+        10 => format!("{}, then {}", in_cluster(r, fast, w), in_cluster(r, fast, w)),
+        _ => format!("{}, then {}", in_cluster(r, fast, w), in_image(r, &mut w.image)),
     }
 }

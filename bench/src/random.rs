@@ -8,6 +8,11 @@ impl Random {
         Random(Cell::new(seed))
     }
 
+    /// The stream `index` of a seed, for work that is shared among threads and repeated in part.
+    pub fn stream(seed: u64, index: u64) -> Random {
+        Random::new(Random::new(Random::new(seed).next() ^ index).next())
+    }
+
     fn next(&self) -> u64 {
         let x = self.0.get().wrapping_add(0x9E37_79B9_7F4A_7C15);
         self.0.set(x);
