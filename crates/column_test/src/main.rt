@@ -1,6 +1,10 @@
 // Columns of clusters that an independent program encoded, from standard input: three LDC columns, the first of them again with one root
 // taken from it, two BIS columns and four primary address fields, each with its parity. Prints the parity of what stands before it,
-// whether the column has its roots, and how many changes of one byte go unseen.
+// whether the column has its roots, and how many changes of one byte go unseen; of 32 roots also by the table of remainders.
+use column::Remainders;
+ghost use Prim.Native.Nat.{_≤_};
+ghost use lib.ListN.{length};
+ghost use Rattle.column.specs.Remainders.{AreRemainders};
 
 fn print_bytes(bytes: &[u8]) {
     let mut i = 0;
@@ -26,14 +30,91 @@ fn unseen(column: &mut [u8], roots: u8) -> u64 {
     count
 }
 
-fn print_roots(column: &mut [u8], roots: u8) {
-    if column::has_roots(column, roots) {
+fn print_answer(roots: bool, unseen: u64) {
+    if roots {
         io::write_all(1, b" roots, changes unseen ");
     } else {
         io::write_all(1, b" no roots, changes unseen ");
     }
-    io::print_decimal(1, unseen(column, roots));
+    io::print_decimal(1, unseen);
     io::write_all(1, b"\n");
+}
+
+fn print_roots(column: &mut [u8], roots: u8) {
+    let found = column::has_roots(column, roots);
+    print_answer(found, unseen(column, roots));
+}
+
+// The same as `unseen`, of 32 roots, by the table.
+fn unseen_by(table: &Remainders, column: &mut [u8]) -> u64
+    requires { ⌜ AreRemainders (now table) × (32 ≤ length (now column)) ⌝ }
+{
+    let mut count: u64 = 0;
+    let mut i = 0;
+    while i < column.len() {
+        let byte = column[i];
+        column[i] = byte ^ 0x40;
+        if column::is_code_word(table, column) {
+            count += 1;
+        }
+        column[i] = byte;
+        i += 1;
+    }
+    count
+}
+
+fn same(a: &[u8; 32], b: &[u8; 32]) -> bool {
+    let mut j = 0;
+    while j < 32 {
+        if a[j] != b[j] {
+            return false;
+        }
+        j += 1;
+    }
+    true
+}
+
+// Whether the table gives the parity of eight bytes that the division gives.
+fn agrees(table: &Remainders, message: &[u8; 8]) -> bool
+    requires { ⌜ AreRemainders (now table) ⌝ }
+{
+    let mut divided = [0u8; 32];
+    column::parity_32(message, &mut divided);
+    let mut looked = [0u8; 32];
+    column::parity_32_by(table, message, &mut looked);
+    same(&divided, &looked)
+}
+
+// How many rows of the table are right: row n is read for byte n % 256 with n / 256 zeros behind it.
+fn right_rows(table: &Remainders) -> u64
+    requires { ⌜ AreRemainders (now table) ⌝ }
+{
+    let mut count: u64 = 0;
+    let mut n: usize = 0;
+    while n < 2048 {
+        let mut message = [0u8; 8];
+        message[7 - n / 256] = (n % 256) as u8;
+        if agrees(table, &message) {
+            count += 1;
+        }
+        n += 1;
+    }
+    count
+}
+
+fn report_by(table: &Remainders, column: &mut [u8])
+    requires { ⌜ AreRemainders (now table) ⌝ }
+{
+    let n = column.len();
+    if n < 32 {
+        return;
+    }
+    let m = n - 32;
+    let mut parity = [0u8; 32];
+    column::parity_32_by(table, &column[..m], &mut parity);
+    print_bytes(&parity);
+    let found = column::is_code_word(table, column);
+    print_answer(found, unseen_by(table, column));
 }
 
 fn report_32(column: &mut [u8]) {
@@ -60,18 +141,26 @@ fn report_4(column: &mut [u8]) {
     print_roots(column, 4);
 }
 
-fn ldc(name: &[u8]) {
+fn ldc(table: &Remainders, name: &[u8])
+    requires { ⌜ AreRemainders (now table) ⌝ }
+{
     let mut column = [0u8; 248];
     io::read_full(0, &mut column);
     io::write_all(1, name);
     report_32(&mut column);
+    io::write_all(1, b"by the table: ");
+    report_by(table, &mut column);
 }
 
-fn bis(name: &[u8]) {
+fn bis(table: &Remainders, name: &[u8])
+    requires { ⌜ AreRemainders (now table) ⌝ }
+{
     let mut column = [0u8; 62];
     io::read_full(0, &mut column);
     io::write_all(1, name);
     report_32(&mut column);
+    io::write_all(1, b"by the table: ");
+    report_by(table, &mut column);
 }
 
 fn address(name: &[u8]) {
@@ -82,15 +171,20 @@ fn address(name: &[u8]) {
 }
 
 fn main() {
-    ldc(b"LDC column 0, zero cluster: ");
-    ldc(b"LDC column 0, seed 0: ");
-    ldc(b"LDC column 0, seed 1: ");
-    ldc(b"the first, without root 0: ");
-    ldc(b"the first, without root 31: ");
-    bis(b"BIS column 0, zone 1: ");
-    bis(b"BIS column 23, zone 2: ");
+    let mut table = column::no_remainders();
+    column::fill_remainders(&mut table);
+    ldc(&table, b"LDC column 0, zero cluster: ");
+    ldc(&table, b"LDC column 0, seed 0: ");
+    ldc(&table, b"LDC column 0, seed 1: ");
+    ldc(&table, b"the first, without root 0: ");
+    ldc(&table, b"the first, without root 31: ");
+    bis(&table, b"BIS column 0, zone 1: ");
+    bis(&table, b"BIS column 23, zone 2: ");
     address(b"address field 0, seed 0: ");
     address(b"address field 15, seed 0: ");
     address(b"address field 0, seed 1: ");
     address(b"address field 15, seed 1: ");
+    io::write_all(1, b"rows of the table that agree with the division: ");
+    io::print_decimal(1, right_rows(&table));
+    io::write_all(1, b"\n");
 }
