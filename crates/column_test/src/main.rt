@@ -2,8 +2,6 @@
 // taken from it, two BIS columns and four primary address fields, each with its parity. Prints the parity of what stands before it,
 // whether the column has its roots, and how many changes of one byte go unseen; of 32 roots also by the table of remainders.
 use column::Remainders;
-ghost use Prim.Native.Nat.{_≤_};
-ghost use lib.ListN.{length};
 ghost use Rattle.column.specs.Remainders.{AreRemainders};
 
 fn print_bytes(bytes: &[u8]) {
@@ -14,53 +12,46 @@ fn print_bytes(bytes: &[u8]) {
     }
 }
 
-// How many columns that differ from this one in one byte have the roots as well.
-fn unseen(column: &mut [u8], roots: u8) -> u64 {
-    let mut count: u64 = 0;
-    let mut i = 0;
-    while i < column.len() {
-        let byte = column[i];
-        column[i] = byte ^ 0x40;
-        if column::has_roots(column, roots) {
-            count += 1;
+// Whether the column has its roots, one by one or by the table, which tests 32.
+fn has_roots(table: &Remainders, column: &[u8], roots: u8, looked: bool) -> bool
+    requires { ⌜ AreRemainders (now table) ⌝ }
+{
+    if looked {
+        if 32 <= column.len() {
+            return column::is_code_word(table, column);
         }
-        column[i] = byte;
-        i += 1;
     }
-    count
+    column::has_roots(column, roots)
 }
 
-fn print_answer(roots: bool, unseen: u64) {
-    if roots {
-        io::write_all(1, b" roots, changes unseen ");
-    } else {
-        io::write_all(1, b" no roots, changes unseen ");
-    }
-    io::print_decimal(1, unseen);
-    io::write_all(1, b"\n");
-}
-
-fn print_roots(column: &mut [u8], roots: u8) {
-    let found = column::has_roots(column, roots);
-    print_answer(found, unseen(column, roots));
-}
-
-// The same as `unseen`, of 32 roots, by the table.
-fn unseen_by(table: &Remainders, column: &mut [u8]) -> u64
-    requires { ⌜ AreRemainders (now table) × (32 ≤ length (now column)) ⌝ }
+// How many columns that differ from this one in one byte have the roots as well.
+fn unseen(table: &Remainders, column: &mut [u8], roots: u8, looked: bool) -> u64
+    requires { ⌜ AreRemainders (now table) ⌝ }
 {
     let mut count: u64 = 0;
     let mut i = 0;
     while i < column.len() {
         let byte = column[i];
         column[i] = byte ^ 0x40;
-        if column::is_code_word(table, column) {
+        if has_roots(table, column, roots, looked) {
             count += 1;
         }
         column[i] = byte;
         i += 1;
     }
     count
+}
+
+fn print_roots(table: &Remainders, column: &mut [u8], roots: u8, looked: bool)
+    requires { ⌜ AreRemainders (now table) ⌝ }
+{
+    if has_roots(table, column, roots, looked) {
+        io::write_all(1, b" roots, changes unseen ");
+    } else {
+        io::write_all(1, b" no roots, changes unseen ");
+    }
+    io::print_decimal(1, unseen(table, column, roots, looked));
+    io::write_all(1, b"\n");
 }
 
 fn same(a: &[u8; 32], b: &[u8; 32]) -> bool {
@@ -113,11 +104,12 @@ fn report_by(table: &Remainders, column: &mut [u8])
     let mut parity = [0u8; 32];
     column::parity_32_by(table, &column[..m], &mut parity);
     print_bytes(&parity);
-    let found = column::is_code_word(table, column);
-    print_answer(found, unseen_by(table, column));
+    print_roots(table, column, 32, true);
 }
 
-fn report_32(column: &mut [u8]) {
+fn report_32(table: &Remainders, column: &mut [u8])
+    requires { ⌜ AreRemainders (now table) ⌝ }
+{
     let n = column.len();
     if n < 32 {
         return;
@@ -126,10 +118,12 @@ fn report_32(column: &mut [u8]) {
     let mut parity = [0u8; 32];
     column::parity_32(&column[..m], &mut parity);
     print_bytes(&parity);
-    print_roots(column, 32);
+    print_roots(table, column, 32, false);
 }
 
-fn report_4(column: &mut [u8]) {
+fn report_4(table: &Remainders, column: &mut [u8])
+    requires { ⌜ AreRemainders (now table) ⌝ }
+{
     let n = column.len();
     if n < 4 {
         return;
@@ -138,7 +132,7 @@ fn report_4(column: &mut [u8]) {
     let mut parity = [0u8; 4];
     column::parity_4(&column[..m], &mut parity);
     print_bytes(&parity);
-    print_roots(column, 4);
+    print_roots(table, column, 4, false);
 }
 
 fn ldc(table: &Remainders, name: &[u8])
@@ -147,7 +141,7 @@ fn ldc(table: &Remainders, name: &[u8])
     let mut column = [0u8; 248];
     io::read_full(0, &mut column);
     io::write_all(1, name);
-    report_32(&mut column);
+    report_32(table, &mut column);
     io::write_all(1, b"by the table: ");
     report_by(table, &mut column);
 }
@@ -158,33 +152,53 @@ fn bis(table: &Remainders, name: &[u8])
     let mut column = [0u8; 62];
     io::read_full(0, &mut column);
     io::write_all(1, name);
-    report_32(&mut column);
+    report_32(table, &mut column);
     io::write_all(1, b"by the table: ");
     report_by(table, &mut column);
 }
 
-fn address(name: &[u8]) {
+fn address(table: &Remainders, name: &[u8])
+    requires { ⌜ AreRemainders (now table) ⌝ }
+{
     let mut field = [0u8; 9];
     io::read_full(0, &mut field);
     io::write_all(1, name);
-    report_4(&mut field);
+    report_4(table, &mut field);
+}
+
+fn columns(table: &Remainders)
+    requires { ⌜ AreRemainders (now table) ⌝ }
+{
+    ldc(table, b"LDC column 0, zero cluster: ");
+    ldc(table, b"LDC column 0, seed 0: ");
+    ldc(table, b"LDC column 0, seed 1: ");
+    ldc(table, b"the first, without root 0: ");
+    ldc(table, b"the first, without root 31: ");
+    bis(table, b"BIS column 0, zone 1: ");
+    bis(table, b"BIS column 23, zone 2: ");
+}
+
+fn addresses(table: &Remainders)
+    requires { ⌜ AreRemainders (now table) ⌝ }
+{
+    address(table, b"address field 0, seed 0: ");
+    address(table, b"address field 15, seed 0: ");
+    address(table, b"address field 0, seed 1: ");
+    address(table, b"address field 15, seed 1: ");
+}
+
+fn report(table: &Remainders)
+    requires { ⌜ AreRemainders (now table) ⌝ }
+{
+    columns(table);
+    addresses(table);
+    io::write_all(1, b"rows of the table that agree with the division: ");
+    io::print_decimal(1, right_rows(table));
+    io::write_all(1, b"\n");
 }
 
 fn main() {
     let mut table = column::no_remainders();
     column::fill_remainders(&mut table);
-    ldc(&table, b"LDC column 0, zero cluster: ");
-    ldc(&table, b"LDC column 0, seed 0: ");
-    ldc(&table, b"LDC column 0, seed 1: ");
-    ldc(&table, b"the first, without root 0: ");
-    ldc(&table, b"the first, without root 31: ");
-    bis(&table, b"BIS column 0, zone 1: ");
-    bis(&table, b"BIS column 23, zone 2: ");
-    address(b"address field 0, seed 0: ");
-    address(b"address field 15, seed 0: ");
-    address(b"address field 0, seed 1: ");
-    address(b"address field 15, seed 1: ");
-    io::write_all(1, b"rows of the table that agree with the division: ");
-    io::print_decimal(1, right_rows(&table));
-    io::write_all(1, b"\n");
+    report(&table);
 }
