@@ -15,7 +15,7 @@ use Rattle.laws.proofs.Bytes.{bytes-tabulate}
 use Rattle.laws.proofs.Fill.{Upto, upto-none, upto-more, upto-all}
 use Rattle.laws.proofs.Tabulate.{length-tabulate, getD-tabulate, is-tabulate}
 use Rattle.field.specs.Field.{sum}
-use Rattle.column.specs.Column.{sums, generator, remainder, parity}
+use Rattle.column.specs.Column.{sums, remainder, parity}
 use Rattle.column.specs.Remainders.{leaves, divisor, Padded, front, added}
 use Rattle.column.proofs.Sums.{length-snoc, snoc-at, sums-at}
 use Rattle.column.proofs.Generator.{coefficients-length}

@@ -6,11 +6,11 @@ use native.Mathlib.Nat.{suc-inj}
 use native.Mathlib.Omega.{arith}
 use lib.ListN.{length}
 use Rattle.laws.specs.Tabulate.{tabulate}
-use Rattle.field.specs.Field.{sum, product}
+use Rattle.field.specs.Field.{sum}
 use Rattle.field.proofs.Sum.{sum-zero, zero-sum, sum-self, sum-swap}
 use Rattle.field.proofs.Product.{sum-product}
 use Rattle.column.specs.Column.{sums, scaled, pushed, remainder}
-use Rattle.column.proofs.Sums.{length-snoc, length-sums, length-scaled}
+use Rattle.column.proofs.Sums.{length-snoc, length-scaled}
 use Rattle.column.proofs.Division.{length-pushed}
 
 sums-swap : (a b c d : List ℕ) → sums (sums a b) (sums c d) ≡ sums (sums a c) (sums b d)

@@ -1,6 +1,6 @@
 -- The table, row by row: each follows from the row of its byte with one zero less behind it. Assumes nothing.
 use mathlib.Core.Path.{_≡_, sym, ap, ap₂, _∙_, subst}
-use mathlib.Core.List.{List, [], _∷_, _++_}
+use mathlib.Core.List.{List, [], _∷_}
 use Prim.Native.Nat.{ℕ, suc, _+_, _*_, _/_, _%_, _<_, _≤_}
 use native.Mathlib.Nat.{not-suc-le-zero}
 use native.Mathlib.Omega.{arith}
@@ -46,9 +46,6 @@ pub all-first : {table : List ℕ} → AreRemainders table → FirstTable table
 all-first {table} are = record { at = λ b j hb hj. first-at table b j ∙ are .at 0 b j (omega arith) hb hj }
 
 -- ---- a row is put
-
-pub filled-is : {table : List ℕ} {m n : ℕ} → m ≡ n → Filled m table → Filled n table
-filled-is {table} e filled = subst (λ (k : ℕ). Filled k table) e filled
 
 pub filled-less : {table : List ℕ} {m n : ℕ} → m ≤ n → Filled n table → Filled m table
 filled-less h filled = record { size = filled .size; below = λ k q. filled .below k (omega arith) }

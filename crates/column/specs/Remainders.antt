@@ -32,8 +32,8 @@ front was message at k = sum (getD message (at + k) 0) (getD was k 0)
 
 -- byte j of what the last n of eight bytes leave, added to a byte
 unfoldable pub added : List ℕ → ℕ → ℕ → ℕ → ℕ
-added f j byte zero = byte
-added f j byte (suc n) = sum (added f j byte n) (getD (leaves n (getD f (7 - n) 0)) j 0)
+added eight j byte zero = byte
+added eight j byte (suc n) = sum (added eight j byte n) (getD (leaves n (getD eight (7 - n) 0)) j 0)
 
 -- ---- the table, as it is filled
 

@@ -17,7 +17,7 @@ pub type Remainders = [u8; 65536];
 
 // ---- the step
 
-// 32 bytes and eight zeros, so that the loops over the 32 do not ask where they are.
+// 32 bytes and eight zeros: a loop over the 32 reads eight places ahead without a test, which would keep it from wide loads.
 type Register = [u8; 40];
 
 fn zeros() -> Register
@@ -46,29 +46,29 @@ fn entry(table: &Remainders, k: usize, b: usize, j: usize) -> u8
     table[8192 * k + 32 * b + j]
 }
 
-// The register's first eight bytes with those of the message.
+// The register's first eight bytes, which come out, with those of the message from `at` on.
 fn fronts(was: &Register, message: &[u8], at: usize) -> [usize; 8]
     requires { ⌜ at + 8 ≤ length (now message) ⌝ }
     ensures { λ r. ⌜ (r ≡ tabulate 8 (front (now (was .entry)) (now (message .entry)) at)) × Bytes r ⌝ }
 {
-    let mut f = [0usize; 8];
+    let mut eight = [0usize; 8];
     let mut k = 0;
     while k < 8 {
-        f[k] = wide(plus(message[at + k], was[k]));
+        eight[k] = wide(plus(message[at + k], was[k]));
         k += 1;
     }
-    f
+    eight
 }
 
 // Byte j of what the eight leave, added to a byte.
-fn added(table: &Remainders, f: [usize; 8], j: usize, byte: u8) -> u8
-    requires { ⌜ AreRemainders (now table) × (Bytes f × (j < 32)) ⌝ }
-    ensures { λ r. ⌜ r ≡ added f j byte 8 ⌝ }
+fn added(table: &Remainders, eight: [usize; 8], j: usize, byte: u8) -> u8
+    requires { ⌜ AreRemainders (now table) × (Bytes eight × (j < 32)) ⌝ }
+    ensures { λ r. ⌜ r ≡ added eight j byte 8 ⌝ }
 {
     let mut v = byte;
     let mut k = 0;
     while k < 8 {
-        v = plus(v, entry(table, k, f[7 - k], j));
+        v = plus(v, entry(table, k, eight[7 - k], j));
         k += 1;
     }
     v
@@ -79,26 +79,26 @@ fn pushed_eight(table: &Remainders, was: Register, message: &[u8], at: usize) ->
     requires { ⌜ AreRemainders (now table) × (Padded was × (at + 8 ≤ length (now message))) ⌝ }
     ensures { λ r. ⌜ Padded r × (take 32 r ≡ remainder divisor (take 32 was) (take 8 (drop at (now (message .entry))))) ⌝ }
 {
-    let f = fronts(&was, message, at);
+    let eight = fronts(&was, message, at);
     let mut next = zeros();
     let mut j = 0;
     while j < 32 {
-        next[j] = added(table, f, j, was[j + 8]);
+        next[j] = added(table, eight, j, was[j + 8]);
         j += 1;
     }
     next
 }
 
-// The register behind one byte more, by the table's first rows.
+// The register behind one byte more: the rows with no zeros behind the byte do.
 fn pushed_byte(table: &Remainders, was: Register, byte: u8) -> Register
     requires { ⌜ FirstTable (now table) × Padded was ⌝ }
     ensures { λ r. ⌜ Padded r × (take 32 r ≡ remainder divisor (take 32 was) (byte ∷ [])) ⌝ }
 {
-    let f = wide(plus(byte, was[0]));
+    let out = wide(plus(byte, was[0]));
     let mut next = zeros();
     let mut j = 0;
     while j < 32 {
-        next[j] = plus(was[j + 1], table[32 * f + j]);
+        next[j] = plus(was[j + 1], table[32 * out + j]);
         j += 1;
     }
     next
@@ -138,7 +138,7 @@ fn put_row(table: &mut Remainders, at: usize, row: &[u8])
     }
 }
 
-// A byte leaves its multiple of the generator.
+// What byte b leaves: it goes into a register of zeros.
 fn first_row(powers: &[u8; 256], logs: &[u8; 256], generator: &[u8; 32], b: u8) -> [u8; 32]
     requires { ⌜ AreTables (now powers) (now logs) × (now generator ≡ divisor) ⌝ }
     ensures { λ r. ⌜ (length r ≡ 32) × Row (32 * b) r ⌝ }

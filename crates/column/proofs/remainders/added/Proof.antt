@@ -9,10 +9,10 @@ use Rattle.column.proofs.remainders.added.Statement.{statement}
 use Rattle.column.proofs.remainders.added.Tie as tie
 
 abbrev Inv-loop : tie.InvT-loop
-Inv-loop table j byte f v₀ k₀ v k = (k ≤ 8) × (v ≡ added f j byte k)
+Inv-loop table j byte eight v₀ k₀ v k = (k ≤ 8) × (v ≡ added eight j byte k)
 
 abbrev μ-loop : tie.MeasureT-loop
-μ-loop table j byte f v₀ k₀ v k = 8 - k
+μ-loop table j byte eight v₀ k₀ v k = 8 - k
 
 loop-holds : tie.Need-loop-holds Inv-loop μ-loop
 unfolding added

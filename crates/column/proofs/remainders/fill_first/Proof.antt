@@ -2,7 +2,7 @@
 use Prim.Native.Nat.{_*_, _-_, _≤_}
 use native.Mathlib.Omega.{arith}
 use Rattle.column.specs.Remainders.{Filled}
-use Rattle.column.proofs.Table.{filled-is, filled-none, row-is}
+use Rattle.column.proofs.Table.{filled-less, filled-none, row-is}
 use borrow.Author.Needs.{needs}
 use Rattle.column.proofs.remainders.fill_first.Statement.{statement}
 use Rattle.column.proofs.remainders.fill_first.Tie as tie
@@ -49,10 +49,10 @@ loop-less : tie.Need-loop-less Inv-loop μ-loop
 loop-less c = search needs
 
 loop-again : tie.Need-loop-again Inv-loop μ-loop
-loop-again c = (search needs, filled-is (omega arith) (c .put-row .ensures))
+loop-again c = (search needs, filled-less (omega arith) (c .put-row .ensures))
 
 returns : tie.Need-returns Inv-loop μ-loop
-returns c = filled-is (omega arith) (c .before .loop .inv .1)
+returns c = filled-less (omega arith) (c .before .loop .inv .1)
 
 pub fill-first-spec : {M : Type 1} → statement M
 fill-first-spec =

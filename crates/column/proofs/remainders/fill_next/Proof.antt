@@ -2,7 +2,7 @@
 use Prim.Native.Nat.{_+_, _*_, _-_, _≤_}
 use native.Mathlib.Omega.{arith}
 use Rattle.column.specs.Remainders.{Filled}
-use Rattle.column.proofs.Table.{filled-is}
+use Rattle.column.proofs.Table.{filled-less}
 use borrow.Author.Needs.{needs}
 use Rattle.column.proofs.remainders.fill_next.Statement.{statement}
 use Rattle.column.proofs.remainders.fill_next.Tie as tie
@@ -14,7 +14,7 @@ abbrev μ-loop : tie.MeasureT-loop
 μ-loop table₀ k b₀ table b = 256 - b
 
 loop-holds : tie.Need-loop-holds Inv-loop μ-loop
-loop-holds c = (search needs, filled-is (omega arith) (c .pre .0))
+loop-holds c = (search needs, filled-less (omega arith) (c .pre .0))
 
 next-row-requires : tie.Need-next-row-requires Inv-loop μ-loop
 next-row-requires c κs = search needs
@@ -44,10 +44,10 @@ loop-less : tie.Need-loop-less Inv-loop μ-loop
 loop-less c = search needs
 
 loop-again : tie.Need-loop-again Inv-loop μ-loop
-loop-again c = (search needs, filled-is (omega arith) (c .put-row .ensures))
+loop-again c = (search needs, filled-less (omega arith) (c .put-row .ensures))
 
 returns : tie.Need-returns Inv-loop μ-loop
-returns c = filled-is (omega arith) (c .before .loop .inv .1)
+returns c = filled-less (omega arith) (c .before .loop .inv .1)
 
 pub fill-next-spec : {M : Type 1} → statement M
 fill-next-spec =

@@ -2,7 +2,7 @@
 use Prim.Native.Nat.{_+_, _*_, _-_, _≤_}
 use native.Mathlib.Omega.{arith}
 use Rattle.column.specs.Remainders.{Filled}
-use Rattle.column.proofs.Table.{filled-is, filled-all}
+use Rattle.column.proofs.Table.{filled-less, filled-all}
 use borrow.Author.Needs.{needs}
 use Rattle.column.proofs.remainders.fill_remainders.Statement.{statement}
 use Rattle.column.proofs.remainders.fill_remainders.Tie as tie
@@ -17,7 +17,7 @@ fill-first-requires : tie.Need-fill-first-requires Inv-loop μ-loop
 fill-first-requires c κs = search needs
 
 loop-holds : tie.Need-loop-holds Inv-loop μ-loop
-loop-holds c = (search needs, filled-is (omega arith) (c .fill-first .ensures))
+loop-holds c = (search needs, filled-less (omega arith) (c .fill-first .ensures))
 
 fill-next-requires : tie.Need-fill-next-requires Inv-loop μ-loop
 fill-next-requires c κs = search needs
@@ -29,10 +29,10 @@ loop-less : tie.Need-loop-less Inv-loop μ-loop
 loop-less c = search needs
 
 loop-again : tie.Need-loop-again Inv-loop μ-loop
-loop-again c = (search needs, filled-is (omega arith) (c .fill-next .ensures))
+loop-again c = (search needs, filled-less (omega arith) (c .fill-next .ensures))
 
 returns : tie.Need-returns Inv-loop μ-loop
-returns c = filled-all (filled-is (omega arith) (c .before .loop .inv .1))
+returns c = filled-all (filled-less (omega arith) (c .before .loop .inv .1))
 
 pub fill-remainders-spec : {M : Type 1} → statement M
 fill-remainders-spec =

@@ -8,10 +8,10 @@ use Rattle.column.proofs.remainders.fronts.Statement.{statement}
 use Rattle.column.proofs.remainders.fronts.Tie as tie
 
 abbrev Inv-loop : tie.InvT-loop
-Inv-loop was message at f₀ k₀ f k = Fronts was message at k f
+Inv-loop was message at eight₀ k₀ eight k = Fronts was message at k eight
 
 abbrev μ-loop : tie.MeasureT-loop
-μ-loop was message at f₀ k₀ f k = 8 - k
+μ-loop was message at eight₀ k₀ eight k = 8 - k
 
 loop-holds : tie.Need-loop-holds Inv-loop μ-loop
 loop-holds c = fronts-none (search needs)
@@ -31,11 +31,11 @@ plus-requires c κs = search needs
 wide-requires : tie.Need-wide-requires Inv-loop μ-loop
 wide-requires c κs = search needs
 
-mul-f : tie.Need-mul-f Inv-loop μ-loop
-mul-f c = search needs
+mul-eight : tie.Need-mul-eight Inv-loop μ-loop
+mul-eight c = search needs
 
-array-write-f : tie.Need-array-write-f Inv-loop μ-loop
-array-write-f c = search needs
+array-write-eight : tie.Need-array-write-eight Inv-loop μ-loop
+array-write-eight c = search needs
 
 add-k : tie.Need-add-k Inv-loop μ-loop
 add-k c = search needs
@@ -63,8 +63,8 @@ fronts-spec =
     element-copy-out-plus
     plus-requires
     wide-requires
-    mul-f
-    array-write-f
+    mul-eight
+    array-write-eight
     add-k
     loop-less
     loop-again

@@ -11,10 +11,10 @@ use Rattle.column.proofs.remainders.pushed_byte.Statement.{statement}
 use Rattle.column.proofs.remainders.pushed_byte.Tie as tie
 
 abbrev Inv-loop : tie.InvT-loop
-Inv-loop table byte was f next₀ j₀ next j = Filling (λ k. sum (getD was (k + 1) 0) (getD (leaves 0 f) k 0)) j next
+Inv-loop table byte was out next₀ j₀ next j = Filling (λ k. sum (getD was (k + 1) 0) (getD (leaves 0 out) k 0)) j next
 
 abbrev μ-loop : tie.MeasureT-loop
-μ-loop table byte was f next₀ j₀ next j = 32 - j
+μ-loop table byte was out next₀ j₀ next j = 32 - j
 
 array-read-plus : tie.Need-array-read-plus Inv-loop μ-loop
 array-read-plus c = search needs

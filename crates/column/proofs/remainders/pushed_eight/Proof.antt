@@ -9,10 +9,10 @@ use Rattle.column.proofs.remainders.pushed_eight.Statement.{statement}
 use Rattle.column.proofs.remainders.pushed_eight.Tie as tie
 
 abbrev Inv-loop : tie.InvT-loop
-Inv-loop table message at was f next₀ j₀ next j = Filling (λ k. added f k (getD was (k + 8) 0) 8) j next
+Inv-loop table message at was eight next₀ j₀ next j = Filling (λ k. added eight k (getD was (k + 8) 0) 8) j next
 
 abbrev μ-loop : tie.MeasureT-loop
-μ-loop table message at was f next₀ j₀ next j = 32 - j
+μ-loop table message at was eight next₀ j₀ next j = 32 - j
 
 fronts-requires : tie.Need-fronts-requires Inv-loop μ-loop
 fronts-requires c κs = search needs

@@ -3,7 +3,7 @@ use mathlib.Core.Path.{refl}
 use Prim.Native.Nat.{_+_, _-_, _≤_}
 use native.Mathlib.Omega.{arith}
 use Rattle.column.specs.Remainders.{Filled}
-use Rattle.column.proofs.Table.{put-more, filled-is}
+use Rattle.column.proofs.Table.{put-more, filled-less}
 use borrow.Author.Needs.{needs}
 use Rattle.column.proofs.remainders.put_row.Statement.{statement}
 use Rattle.column.proofs.remainders.put_row.Tie as tie
@@ -15,7 +15,7 @@ abbrev μ-loop : tie.MeasureT-loop
 μ-loop table₀ at row j₀ table j = 32 - j
 
 loop-holds : tie.Need-loop-holds Inv-loop μ-loop
-loop-holds c = (search needs, filled-is (omega arith) (c .pre .0))
+loop-holds c = (search needs, filled-less (omega arith) (c .pre .0))
 
 shared-slice-read-table : tie.Need-shared-slice-read-table Inv-loop μ-loop
 shared-slice-read-table c = search needs
@@ -38,7 +38,7 @@ loop-again c =
     (search needs, put-more (search needs) (start .pre .1 .0) (start .pre .1 .1) refl (c .before .before .loop .inv .1))
 
 returns : tie.Need-returns Inv-loop μ-loop
-returns c = filled-is (omega arith) (c .before .loop .inv .1)
+returns c = filled-less (omega arith) (c .before .loop .inv .1)
 
 pub put-row-spec : {M : Type 1} → statement M
 put-row-spec =

@@ -1,6 +1,6 @@
 -- `row_at` meets its contract: the loop copies the row. Assumes nothing.
 use mathlib.Core.Path.{refl}
-use Prim.Native.Nat.{_+_, _-_, _≤_}
+use Prim.Native.Nat.{_+_, _-_}
 use lib.ListN.{getD}
 use native.Mathlib.Omega.{arith}
 use Rattle.column.proofs.Eight.{Filling, filling-none, padded-zeros, filling-more}

@@ -1,7 +1,6 @@
 -- `zeros` meets its contract: 40 zeros. Assumes nothing.
 use mathlib.Core.Path.{refl}
 use Rattle.laws.specs.Tabulate.{tabulate}
-use borrow.Author.Needs.{needs}
 use Rattle.column.proofs.remainders.zeros.Statement.{statement}
 use Rattle.column.proofs.remainders.zeros.Tie as tie
 
