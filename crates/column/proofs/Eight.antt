@@ -1,4 +1,4 @@
--- Eight bytes at once, and one by a row of the table: byte by byte of the register. Assumes nothing.
+-- The step: the register behind eight bytes, or behind one, holds the sum of what each of them leaves (Linear). Assumes nothing.
 use mathlib.Core.Path.{_≡_, refl, sym, ap, ap₂, _∙_, subst⁻¹}
 use mathlib.Core.List.{List, [], _∷_, _++_}
 use Prim.Native.Nat.{ℕ, zero, suc, _+_, _-_, _<_, _≤_}
@@ -8,7 +8,7 @@ use native.Mathlib.Numerals.{add-one}
 use native.Mathlib.Omega.{arith}
 use borrow.Author.Count.{below-more}
 use lib.ListN.{length, getD, set, take, drop, length-set, length-drop, List·getD-eq-default}
-use lib.Seq.{take-all, ext-getD, getD-take, getD-drop, length-take-le, getD-set-same, getD-set-other}
+use lib.Seq.{ext-getD, getD-take, getD-drop, length-take-le, getD-set-same, getD-set-other}
 use Rattle.laws.specs.Bytes.{Bytes}
 use Rattle.laws.specs.Tabulate.{tabulate}
 use Rattle.laws.proofs.Bytes.{bytes-tabulate}
@@ -20,7 +20,7 @@ use Rattle.column.specs.Remainders.{leaves, divisor, Padded, front, adde
 use Rattle.column.proofs.Sums.{length-snoc, snoc-at, sums-at}
 use Rattle.column.proofs.Generator.{coefficients-length}
 use Rattle.column.proofs.Division.{length-remainder}
-use Rattle.column.proofs.Register.{Divided, divided-parity}
+use Rattle.column.proofs.Register.{Divided, divided-all, divided-parity}
 use Rattle.column.proofs.Parity.{parity-length}
 use Rattle.column.proofs.Linear.{left, first-in}
 
@@ -57,14 +57,14 @@ gathers (c ∷ cs) (m ∷ ms) at e same j =
 -- ---- the register's 32 bytes: the eight zeros behind them say nothing
 
 module _ {was : List ℕ} (padded : Padded was) where
-  pub length-front : length (take 32 was) ≡ length divisor
-  length-front = length-take-le 32 was (omega (arith, padded .size)) ∙ sym length-divisor
+  pub register-length : length (take 32 was) ≡ length divisor
+  register-length = length-take-le 32 was (omega (arith, padded .size)) ∙ sym length-divisor
 
-  front-at : (k : ℕ) → getD (take 32 was) k 0 ≡ getD was k 0
-  front-at k =
+  register-at : (k : ℕ) → getD (take 32 was) k 0 ≡ getD was k 0
+  register-at k =
       elim (decLt k 32) [
         | yes h ↦ getD-take 32 was k 0 h
-        | no h ↦ List·getD-eq-default (take 32 was) 0 {n = k} (omega (arith, h, length-front, length-divisor)) ∙ sym (padded .zeros k (omega (arith, h)))
+        | no h ↦ List·getD-eq-default (take 32 was) 0 {n = k} (omega (arith, h, register-length, length-divisor)) ∙ sym (padded .zeros k (omega (arith, h)))
       ]
 
 pub padded-zeros : {l : List ℕ} → l ≡ tabulate 40 (λ _. 0) → Padded l
@@ -81,8 +81,8 @@ padded-zeros {l} e =
           | no q ↦ List·getD-eq-default (tabulate n (λ _. 0)) 0 {n = k} (omega (arith, q, length-tabulate {A = ℕ} n (λ _. 0)))
         ]
 
-pub front-bytes : {l out : List ℕ} → Padded l → out ≡ tabulate 32 (λ k. getD l k 0) → out ≡ take 32 l
-front-bytes {l} {out} padded e =
+pub register-bytes : {l out : List ℕ} → Padded l → out ≡ tabulate 32 (λ k. getD l k 0) → out ≡ take 32 l
+register-bytes {l} {out} padded e =
     e ∙ sym (is-tabulate 0 32 (λ k. getD l k 0) (take 32 l) (length-take-le 32 l (omega (arith, padded .size))) (λ k q. getD-take 32 l k 0 q))
 
 -- ---- a loop that fills the register
@@ -116,15 +116,15 @@ filling-all : {h : ℕ → ℕ} {j : ℕ} {was next : List ℕ} (ms : List ℕ) 
     → Filling h j next → take 32 next ≡ remainder divisor (take 32 was) ms
 filling-all {h} {j} {was} {next} ms large padded leave filling =
     ext-getD 0 (take 32 next) (remainder divisor (take 32 was) ms)
-    (length-front (filling .padded) ∙ sym (length-remainder divisor (take 32 was) ms (length-front padded)))
-    (λ k q. at k (omega (arith, q, length-front (filling .padded), length-divisor)))
+    (register-length (filling .padded) ∙ sym (length-remainder divisor (take 32 was) ms (register-length padded)))
+    (λ k q. at k (omega (arith, q, register-length (filling .padded), length-divisor)))
   where
     at : (k : ℕ) → k < 32 → getD (take 32 next) k 0 ≡ getD (remainder divisor (take 32 was) ms) k 0
     at k q =
         getD-take 32 next k 0 q
         ∙ filling .below k (omega arith)
         ∙ leave k
-        ∙ sym (gathers (take 32 was) ms (λ i. getD was i 0) (length-front padded) (front-at padded) k)
+        ∙ sym (gathers (take 32 was) ms (λ i. getD was i 0) (register-length padded) (register-at padded) k)
 
 -- ---- eight bytes that stand in a message
 
@@ -134,28 +134,28 @@ part n a l h =
     (λ k q. getD-take n (drop a l) k 0 q ∙ getD-drop a l k 0)
 
 -- the first k of the eight bytes in front are right
-pub record Fronts (was message : List ℕ) (at k : ℕ) (f : List ℕ) : Type 0 where
-  pub done : Upto 0 (front was message at) 8 k f
+pub record Fronts (was message : List ℕ) (at k : ℕ) (eight : List ℕ) : Type 0 where
+  pub done : Upto 0 (front was message at) 8 k eight
   pub small : (i : ℕ) → i < k → front was message at i < 256
 
-pub fronts-none : {was message f : List ℕ} {at : ℕ} → length f ≡ 8 → Fronts was message at 0 f
+pub fronts-none : {was message eight : List ℕ} {at : ℕ} → length eight ≡ 8 → Fronts was message at 0 eight
 fronts-none e = record { done = upto-none e; small = λ i h. absurd (not-suc-le-zero h) }
 
-pub fronts-more : {was message f : List ℕ} {at k v : ℕ} → k < 8 → v ≡ sum (getD message (at + k) 0) (getD was k 0) → v < 256 → Fronts was message at k f
-    → Fronts was message at (k + 1) (set f k v)
+pub fronts-more : {was message eight : List ℕ} {at k v : ℕ} → k < 8 → v ≡ sum (getD message (at + k) 0) (getD was k 0) → v < 256 → Fronts was message at k eight
+    → Fronts was message at (k + 1) (set eight k v)
 unfolding front
-fronts-more {was} {message} {f} {at} {k} h e small fronts =
+fronts-more {was} {message} {eight} {at} {k} h e small fronts =
     record { done = upto-more h e (fronts .done); small = below-more (λ i. front was message at i < 256) k (fronts .small) (rw e at small) }
 
-pub fronts-all : {was message f : List ℕ} {at k : ℕ} → 8 ≤ k → Fronts was message at k f → (f ≡ tabulate 8 (front was message at)) × Bytes f
-fronts-all {was} {message} {f} {at} h fronts =
-    let whole : f ≡ tabulate 8 (front was message at) = upto-all h (fronts .done) in
+pub fronts-all : {was message eight : List ℕ} {at k : ℕ} → 8 ≤ k → Fronts was message at k eight → (eight ≡ tabulate 8 (front was message at)) × Bytes eight
+fronts-all {was} {message} {eight} {at} h fronts =
+    let whole : eight ≡ tabulate 8 (front was message at) = upto-all h (fronts .done) in
     (whole, subst⁻¹ Bytes whole (bytes-tabulate 8 (front was message at) (λ i q. fronts .small i (omega arith))))
 
-pub added-more : (f : List ℕ) (j byte k : ℕ) {v u w : ℕ} → v ≡ added f j byte k → u ≡ getD (leaves k (getD f (7 - k) 0)) j 0 → w ≡ sum v u
-    → w ≡ added f j byte (k + 1)
+pub added-more : (eight : List ℕ) (j byte k : ℕ) {v u w : ℕ} → v ≡ added eight j byte k → u ≡ getD (leaves k (getD eight (7 - k) 0)) j 0 → w ≡ sum v u
+    → w ≡ added eight j byte (k + 1)
 unfolding added
-added-more f j byte k ev eu ew = ew ∙ ap₂ sum ev eu ∙ ap (added f j byte) (sym (add-one k))
+added-more eight j byte k ev eu ew = ew ∙ ap₂ sum ev eu ∙ ap (added eight j byte) (sym (add-one k))
 
 -- what the code adds up is what the eight leave
 eight-leave : (was message : List ℕ) (at j : ℕ)
@@ -167,19 +167,19 @@ eight-leave was message at j = ap (λ (i : ℕ). added (tabulate 8 (front was me
     up : j + 8 ≡ suc (suc (suc (suc (suc (suc (suc (suc j)))))))
     up = omega arith
 
-pub eight-in : {was f next : List ℕ} {j : ℕ} (message : List ℕ) (at : ℕ) → 32 ≤ j → Padded was → at + 8 ≤ length message → f ≡ tabulate 8 (front was message at)
-    → Filling (λ k. added f k (getD was (k + 8) 0) 8) j next → take 32 next ≡ remainder divisor (take 32 was) (take 8 (drop at message))
-eight-in {was} {f} {next} message at large padded h e filling =
+pub eight-in : {was eight next : List ℕ} {j : ℕ} (message : List ℕ) (at : ℕ) → 32 ≤ j → Padded was → at + 8 ≤ length message → eight ≡ tabulate 8 (front was message at)
+    → Filling (λ k. added eight k (getD was (k + 8) 0) 8) j next → take 32 next ≡ remainder divisor (take 32 was) (take 8 (drop at message))
+eight-in {was} {eight} {next} message at large padded h e filling =
     filling-all (tabulate 8 (λ k. getD message (at + k) 0)) large padded
     (λ k. ap (λ (l : List ℕ). added l k (getD was (k + 8) 0) 8) e ∙ eight-leave was message at k) filling
     ∙ ap (remainder divisor (take 32 was)) (sym (part 8 at message h))
 
 -- ---- one byte
 
-pub byte-in : {was next : List ℕ} {f j : ℕ} (byte : ℕ) → 32 ≤ j → Padded was → f ≡ sum byte (getD was 0 0)
-    → Filling (λ k. sum (getD was (k + 1) 0) (getD (leaves 0 f) k 0)) j next → take 32 next ≡ remainder divisor (take 32 was) (byte ∷ [])
+pub byte-in : {was next : List ℕ} {out j : ℕ} (byte : ℕ) → 32 ≤ j → Padded was → out ≡ sum byte (getD was 0 0)
+    → Filling (λ k. sum (getD was (k + 1) 0) (getD (leaves 0 out) k 0)) j next → take 32 next ≡ remainder divisor (take 32 was) (byte ∷ [])
 unfolding gathered
-byte-in {was} {next} {f} byte large padded e filling =
+byte-in {was} {next} {out} byte large padded e filling =
     filling-all (byte ∷ []) large padded
     (λ k. ap₂ sum (ap (λ (i : ℕ). getD was i 0) (add-one k)) (ap (λ (u : ℕ). getD (leaves 0 u) k 0) e)) filling
 
@@ -190,10 +190,10 @@ unfolding tabulate remainder
 divided-zeros message {l} e =
     record {
       within = omega arith;
-      size = length-front (padded-zeros e);
+      size = register-length (padded-zeros e);
       right = ap (take 32) e ∙ sym (ap (λ (n : ℕ). tabulate n (λ _. 0)) length-divisor);
     }
 
 pub divided-parity-32 : (message : List ℕ) {now : List ℕ} {i : ℕ} → length message ≤ i → Divided divisor message i now → now ≡ parity 32 message
-divided-parity-32 message {now} {i} h divided =
-    divided-parity message refl length-divisor (divided .right ∙ ap (remainder divisor (tabulate (length divisor) (λ _. 0))) (take-all i message h))
+divided-parity-32 message h divided =
+    divided-parity message refl length-divisor (divided-all message divisor refl h divided)

@@ -12,7 +12,7 @@ use Rattle.column.specs.Column.{pushed, remainder, parity}
 use Rattle.column.specs.Remainders.{leaves, divisor, AreRemainders, FirstTable, Padded, entryAt, Row, Filled}
 use Rattle.column.proofs.Register.{remainder-append}
 use Rattle.column.proofs.Linear.{zeros-snoc}
-use Rattle.column.proofs.Eight.{Filling, length-divisor, length-leaves, length-front}
+use Rattle.column.proofs.Eight.{Filling, length-divisor, length-leaves, register-length}
 
 -- byte j of what b leaves with k zeros behind it
 entry-at : (k b j : ℕ) → b < 256 → j < 32 → entryAt (8192 * k + 32 * b + j) ≡ getD (leaves k b) j 0
@@ -113,8 +113,8 @@ row-next {here} {next} k b hb padded row padded-next e =
   where
     whole : take 32 here ≡ leaves k b
     whole =
-        ext-getD 0 (take 32 here) (leaves k b) (length-front padded ∙ length-divisor ∙ sym (length-leaves k b))
-        (λ j q. at j (omega (arith, q, length-front padded, length-divisor)))
+        ext-getD 0 (take 32 here) (leaves k b) (register-length padded ∙ length-divisor ∙ sym (length-leaves k b))
+        (λ j q. at j (omega (arith, q, register-length padded, length-divisor)))
       where
         at : (j : ℕ) → j < 32 → getD (take 32 here) j 0 ≡ getD (leaves k b) j 0
         at j q = getD-take 32 here j 0 q ∙ row .byte j q ∙ entry-at k b j hb q

@@ -4,7 +4,7 @@ use Prim.Native.Nat.{_-_}
 use lib.ListN.{getD}
 use native.Mathlib.Omega.{arith}
 use Rattle.laws.proofs.Fill.{Upto, upto-none, upto-more, upto-all}
-use Rattle.column.proofs.Eight.{front-bytes}
+use Rattle.column.proofs.Eight.{register-bytes}
 use borrow.Author.Needs.{needs}
 use Rattle.column.proofs.parity_32_by.Statement.{statement}
 use Rattle.column.proofs.parity_32_by.Tie as tie
@@ -38,7 +38,7 @@ loop-again c = search (upto-more, arith)
 
 returns : tie.Need-returns Inv-loop μ-loop
 returns c = let divided = c .before .before .divided .ensures in
-    front-bytes (divided .0) (upto-all (omega arith) (c .before .loop .inv)) ∙ divided .1
+    register-bytes (divided .0) (upto-all (omega arith) (c .before .loop .inv)) ∙ divided .1
 
 pub parity-32-by-spec : {M : Type 1} → statement M
 parity-32-by-spec =

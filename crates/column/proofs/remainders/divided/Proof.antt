@@ -5,7 +5,7 @@ use native.Mathlib.Omega.{arith}
 use Rattle.column.specs.Column.{remainder}
 use Rattle.column.specs.Remainders.{divisor, Padded}
 use Rattle.column.proofs.Register.{Divided, divided-more, divided-next}
-use Rattle.column.proofs.Eight.{length-front, padded-zeros, divided-zeros, divided-parity-32}
+use Rattle.column.proofs.Eight.{register-length, padded-zeros, divided-zeros, divided-parity-32}
 use Rattle.column.proofs.Table.{all-first}
 use borrow.Author.Needs.{needs}
 use Rattle.column.proofs.remainders.divided.Statement.{statement}
@@ -44,7 +44,7 @@ loop-less c = search needs
 loop-again : tie.Need-loop-again Inv-loop μ-loop Inv-loop2 μ-loop2
 loop-again c =
     let padded = c .pushed-eight .ensures .0 in
-    (padded, divided-more 8 (omega arith) (length-front padded) (c .pushed-eight .ensures .1) (c .before .before .loop .inv .1))
+    (padded, divided-more 8 (omega arith) (register-length padded) (c .pushed-eight .ensures .1) (c .before .before .loop .inv .1))
 
 loop2-holds : tie.Need-loop2-holds Inv-loop μ-loop Inv-loop2 μ-loop2
 loop2-holds c = search needs
