@@ -2,7 +2,7 @@
 use address::Aun;
 use address::Judged;
 use address::Psn;
-use rows::Rows;
+use column::Remainders;
 ghost use mathlib.Core.Path.{_≡_};
 ghost use mathlib.Core.List.{_++_};
 ghost use Prim.Native.Nat.{_+_, _*_, _-_, _^_, _<_};
@@ -10,7 +10,7 @@ ghost use lib.ListN.{length, getD};
 ghost use Rattle.address.specs.declared.Judged.the-variants.{Accepted};
 ghost use Rattle.address.specs.Judged.{judged};
 ghost use Rattle.column.specs.Column.{hasRoots};
-ghost use Rattle.rows.specs.Rows.{AreRows};
+ghost use Rattle.column.specs.Remainders.{AreRemainders};
 ghost use Rattle.bis.specs.AddressField.{reordered, information, primaryField, partlyInverted, addressField, restored};
 ghost use Rattle.bis.specs.AccessBlock.{addressFields, accessByte};
 ghost use Rattle.bis.specs.BisBlock.{accessColumn, codeWord, bisBlock};
@@ -160,26 +160,26 @@ fn joined(information: [u8; 30], parity: [u8; 32]) -> [u8; 62]
 }
 
 // Code word c: information and parity.
-fn code_word(rows: &Rows, fields: &Fields, side: &[u8], c: usize) -> [u8; 62]
-    requires { ⌜ AreRows (now rows) × ((length (now side) ≡ 592) × (c < 24)) ⌝ }
+fn code_word(table: &Remainders, fields: &Fields, side: &[u8], c: usize) -> [u8; 62]
+    requires { ⌜ AreRemainders (now table) × ((length (now side) ≡ 592) × (c < 24)) ⌝ }
     ensures { λ r. ⌜ r ≡ codeWord (now (fields .entry)) (now (side .entry)) c ⌝ }
 {
     let information = access_column(fields, side, c);
     let mut parity = [0u8; 32];
-    rows::parity_32(rows, &information, &mut parity);
+    column::parity_32_by(table, &information, &mut parity);
     joined(information, parity)
 }
 
 // The BIS block of the cluster at an accepted PSN, with 592 bytes of side data. For the crates of this repository, which test both.
-pub fn block(rows: &Rows, psn: Psn, side: &[u8]) -> Block
-    requires { ⌜ AreRows (now rows) × ((length (now side) ≡ 592) × (judged (psn .0) ≡ Accepted)) ⌝ }
+pub fn block(table: &Remainders, psn: Psn, side: &[u8]) -> Block
+    requires { ⌜ AreRemainders (now table) × ((length (now side) ≡ 592) × (judged (psn .0) ≡ Accepted)) ⌝ }
     ensures { λ r. ⌜ r ≡ bisBlock (psn .0) (now (side .entry)) ⌝ }
 {
     let fields = address_fields(psn, side);
     let mut block = [[0u8; 62]; 24];
     let mut c: usize = 0;
     while c < 24 {
-        block[c] = code_word(rows, &fields, side, c);
+        block[c] = code_word(table, &fields, side, c);
         c += 1;
     }
     block
@@ -188,21 +188,21 @@ pub fn block(rows: &Rows, psn: Psn, side: &[u8]) -> Block
 // ---- the BIS block, read
 
 // Whether a BIS column has its 32 roots.
-fn is_code_word(rows: &Rows, column: &[u8; 62]) -> bool
-    requires { ⌜ AreRows (now rows) ⌝ }
+fn is_code_word(table: &Remainders, column: &[u8; 62]) -> bool
+    requires { ⌜ AreRemainders (now table) ⌝ }
     ensures { λ r. ⌜ r ≡ hasRoots 32 (now (column .entry)) ⌝ }
 {
-    rows::is_code_word(rows, column)
+    column::is_code_word(table, column)
 }
 
 // The lowest BIS column, 0 to 23, without its 32 roots, or 24. For the crates of this repository.
-pub fn first_wrong_column(rows: &Rows, block: Block) -> usize
-    requires { ⌜ AreRows (now rows) ⌝ }
+pub fn first_wrong_column(table: &Remainders, block: Block) -> usize
+    requires { ⌜ AreRemainders (now table) ⌝ }
     ensures { λ r. ⌜ r ≡ firstWrongColumn block ⌝ }
 {
     let mut column: usize = 0;
     while column < 24 {
-        if !is_code_word(rows, &block[column]) {
+        if !is_code_word(table, &block[column]) {
             return column;
         }
         column += 1;

@@ -106,8 +106,9 @@ fn cluster_hash(block: Block) -> u64 {
 }
 
 fn first_wrong_column(block: Block) -> usize {
-    let rows = rows::make();
-    bis::first_wrong_column(&rows, block)
+    let mut table = column::no_remainders();
+    column::fill_remainders(&mut table);
+    bis::first_wrong_column(&table, block)
 }
 
 fn print_reading(block: Block) {
@@ -133,9 +134,10 @@ fn print_reading(block: Block) {
 
 // The block of a cluster; zeros where the PSN is refused.
 fn block_of(psn: Psn, side: [u8; 592]) -> Block {
-    let rows = rows::make();
+    let mut table = column::no_remainders();
+    column::fill_remainders(&mut table);
     match psn.judge() {
-        Judged::Accepted => bis::block(&rows, psn, &side),
+        Judged::Accepted => bis::block(&table, psn, &side),
         Judged::NoMultiple => [[0u8; 62]; 24],
         Judged::NoZone => [[0u8; 62]; 24],
     }

@@ -2,14 +2,14 @@
 mod words;
 
 use address::Psn;
-use rows::Rows;
+use column::Remainders;
 ghost use mathlib.Core.Path.{_≡_};
 ghost use Prim.Native.Nat.{_*_, _/_, _%_, _<_};
 ghost use lib.ListN.{length, getD};
 ghost use Rattle.laws.specs.First.{first};
 ghost use Rattle.laws.specs.Tabulate.{tabulate};
 ghost use Rattle.sector.specs.Scrambling.{scrambled};
-ghost use Rattle.rows.specs.Rows.{AreRows};
+ghost use Rattle.column.specs.Remainders.{AreRemainders};
 ghost use Rattle.address.specs.declared.Judged.the-variants.{Accepted};
 ghost use Rattle.address.specs.Judged.{judged};
 ghost use Rattle.ldc.specs.Places.{frameIn};
@@ -63,8 +63,8 @@ fn put_frames(user: &[u8], stream: &[u8], e: usize, frames: &mut [u8])
 }
 
 // The LDC cluster: the data frames of one eighth after the other, completed to code words, to their places.
-fn put_ldc(rows: &Rows, user: &[u8], stream: &[u8], work: &mut [u8])
-    requires { ⌜ AreRows (now rows) × ((length (now user) ≡ 65536) × (length (now work) ≡ 76880)) ⌝ }
+fn put_ldc(table: &Remainders, user: &[u8], stream: &[u8], work: &mut [u8])
+    requires { ⌜ AreRemainders (now table) × ((length (now user) ≡ 65536) × (length (now work) ≡ 76880)) ⌝ }
     ensures { λ _. ⌜ LdcPut (scrambledFrames (now (stream .entry)) (now (user .entry))) 304 (now (work .entry)) (now (work .exit)) ⌝ }
 {
     let mut frames = words::no_frames();
@@ -72,7 +72,7 @@ fn put_ldc(rows: &Rows, user: &[u8], stream: &[u8], work: &mut [u8])
     let mut e = 0;
     while e < 8 {
         put_frames(user, stream, e, &mut frames);
-        words::complete_words(rows, &frames, &mut words);
+        words::complete_words(table, &frames, &mut words);
         words::put_words(&words, e, work);
         e += 1;
     }
@@ -83,10 +83,11 @@ pub fn encode(user: &[u8], psn: Psn, side: &[u8], work: &mut [u8])
     requires { ⌜ ((length (now user) ≡ 65536) × (length (now side) ≡ 592)) × ((length (now work) ≡ 76880) × (judged (psn .0) ≡ Accepted)) ⌝ }
     ensures { λ _. ⌜ now (work .exit) ≡ eccCluster (now (user .entry)) (psn .0) (now (side .entry)) ⌝ }
 {
-    let rows = rows::make();
+    let mut table = column::no_remainders();
+    column::fill_remainders(&mut table);
     let stream = sector::scrambling(psn);
-    put_ldc(&rows, user, &stream, work);
-    let block = bis::block(&rows, psn, side);
+    put_ldc(&table, user, &stream, work);
+    let block = bis::block(&table, psn, side);
     put_bis(work, &block);
 }
 
@@ -157,15 +158,15 @@ pub fn bis_block(work: &[u8]) -> bis::Block
 }
 
 // The lowest of 38 code words that has not its 32 roots, or 38.
-fn first_wrong_of(rows: &Rows, words: &[u8]) -> usize
-    requires { ⌜ AreRows (now rows) × (length (now words) ≡ 9424) ⌝ }
+fn first_wrong_of(table: &Remainders, words: &[u8]) -> usize
+    requires { ⌜ AreRemainders (now table) × (length (now words) ≡ 9424) ⌝ }
     ensures { λ r. ⌜ r ≡ first 38 (wrongOf (now (words .entry))) ⌝ }
 {
     let mut j = 0;
     while j < 38 {
         let from = 248 * j;
         let end = from + 248;
-        if rows::is_code_word(rows, &words[from..end]) {
+        if column::is_code_word(table, &words[from..end]) {
             j += 1;
         } else {
             return j;
@@ -175,15 +176,15 @@ fn first_wrong_of(rows: &Rows, words: &[u8]) -> usize
 }
 
 // The lowest LDC column whose parity is wrong, or 304. For the crates of this repository.
-pub fn first_wrong_word(rows: &Rows, work: &[u8]) -> usize
-    requires { ⌜ AreRows (now rows) × (length (now work) ≡ 76880) ⌝ }
+pub fn first_wrong_word(table: &Remainders, work: &[u8]) -> usize
+    requires { ⌜ AreRemainders (now table) × (length (now work) ≡ 76880) ⌝ }
     ensures { λ r. ⌜ r ≡ firstWrongWord (now (work .entry)) ⌝ }
 {
     let mut words = words::no_words();
     let mut e = 0;
     while e < 8 {
         words::take_words(work, e, 248, &mut words);
-        let j = first_wrong_of(rows, &words);
+        let j = first_wrong_of(table, &words);
         if j < 38 {
             return 38 * e + j;
         }

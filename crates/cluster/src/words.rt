@@ -1,10 +1,10 @@
 // An eighth of the LDC block: 38 code words, of which the information bytes are four data frames (13.5 to 13.8).
-use rows::Rows;
+use column::Remainders;
 ghost use mathlib.Core.Path.{_≡_};
 ghost use mathlib.Core.List.{_++_};
 ghost use Prim.Native.Nat.{ℕ, _+_, _*_, _<_, _≤_};
 ghost use lib.ListN.{length};
-ghost use Rattle.rows.specs.Rows.{AreRows};
+ghost use Rattle.column.specs.Remainders.{AreRemainders};
 ghost use Rattle.cluster.specs.Multiplex.{wordIndex};
 ghost use Rattle.cluster.specs.Eighth.{RunOf, BytesTaken, WordsTaken, BytesPut, WordsPut, informationOf, completed, completedWords};
 
@@ -153,18 +153,18 @@ fn join(information: &[u8], parity: &[u8; 32], word: &mut [u8])
 }
 
 // A code word of 216 information bytes.
-fn complete(rows: &Rows, information: &[u8], word: &mut [u8])
-    requires { ⌜ AreRows (now rows) × ((length (now information) ≡ 216) × (length (now word) ≡ 248)) ⌝ }
+fn complete(table: &Remainders, information: &[u8], word: &mut [u8])
+    requires { ⌜ AreRemainders (now table) × ((length (now information) ≡ 216) × (length (now word) ≡ 248)) ⌝ }
     ensures { λ _. ⌜ now (word .exit) ≡ completed (now (information .entry)) ⌝ }
 {
     let mut parity = no_parity();
-    rows::parity_32(rows, information, &mut parity);
+    column::parity_32_by(table, information, &mut parity);
     join(information, &parity, word);
 }
 
 // The code words of the information bytes of four data frames.
-pub fn complete_words(rows: &Rows, frames: &[u8], words: &mut [u8])
-    requires { ⌜ AreRows (now rows) × ((length (now frames) ≡ 8208) × (length (now words) ≡ 9424)) ⌝ }
+pub fn complete_words(table: &Remainders, frames: &[u8], words: &mut [u8])
+    requires { ⌜ AreRemainders (now table) × ((length (now frames) ≡ 8208) × (length (now words) ≡ 9424)) ⌝ }
     ensures { λ _. ⌜ now (words .exit) ≡ completedWords (now (frames .entry)) ⌝ }
 {
     let mut j = 0;
@@ -173,7 +173,7 @@ pub fn complete_words(rows: &Rows, frames: &[u8], words: &mut [u8])
         let end = from + 216;
         let to = 248 * j;
         let past = to + 248;
-        complete(rows, &frames[from..end], &mut words[to..past]);
+        complete(table, &frames[from..end], &mut words[to..past]);
         j += 1;
     }
 }

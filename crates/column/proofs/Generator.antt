@@ -85,10 +85,10 @@ coefficients32 =
 unfoldable pub coefficients4 : List ℕ
 coefficients4 = 15 ∷ 54 ∷ 120 ∷ 64 ∷ []
 
-pub generator-32 : generator 32 ≡ 1 ∷ coefficients32
+pub coefficients-32 : coefficients32 ≡ drop 1 (generator 32)
 unfolding generator coefficients32 timesRoot sums scaled power product times timesα sum
-generator-32 = refl
+coefficients-32 = refl
 
-pub generator-4 : generator 4 ≡ 1 ∷ coefficients4
+pub coefficients-4 : coefficients4 ≡ drop 1 (generator 4)
 unfolding generator coefficients4 timesRoot sums scaled power product times timesα sum
-generator-4 = refl
+coefficients-4 = refl

@@ -8,3 +8,6 @@ pub mod Powers
 pub mod Unique
 pub mod Roots
 pub mod Parity
+pub mod Linear
+pub mod Eight
+pub mod Table

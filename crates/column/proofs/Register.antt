@@ -5,7 +5,7 @@ use Prim.Native.Nat.{ℕ, _+_, _<_, _≤_}
 use native.Mathlib.Numerals.{add-one}
 use native.Mathlib.Omega.{arith}
 use lib.ListN.{length, getD, set, take, drop, List·getD-eq-default}
-use lib.Seq.{take-suc, take-all, getD-set-other}
+use lib.Seq.{take-add, take-all, drop-cons, getD-set-other}
 use Rattle.laws.specs.Tabulate.{tabulate}
 use Rattle.laws.proofs.Tabulate.{length-tabulate, is-tabulate}
 use Rattle.laws.proofs.Fill.{Upto, upto-none, upto-more, upto-all}
@@ -87,10 +87,10 @@ module _ {p l g was now : List ℕ} {byte f j m : ℕ} (times : m ≡ productBy 
 
 -- ---- the message goes in
 
-remainder-snoc : (g register ds : List ℕ) (d : ℕ) → remainder g register (ds ++ d ∷ []) ≡ pushed g (remainder g register ds) d
+pub remainder-append : (g register ds es : List ℕ) → remainder g register (ds ++ es) ≡ remainder g (remainder g register ds) es
 unfolding remainder
-remainder-snoc g register [] d = refl
-remainder-snoc g register (e ∷ ds) d = remainder-snoc g (pushed g register e) ds d
+remainder-append g register [] es = refl
+remainder-append g register (d ∷ ds) es = remainder-append g (pushed g register d) ds es
 
 -- the register holds the remainder of the first i bytes
 pub record Divided (g message : List ℕ) (i : ℕ) (now : List ℕ) : Type 0 where
@@ -113,23 +113,31 @@ module _ {g : List ℕ} (message entry : List ℕ) (same : length g ≡ length e
   divided-all {now} {i} h divided =
       divided .right ∙ ap₂ (λ (n : ℕ) (l : List ℕ). remainder g (tabulate n (λ _. 0)) l) same (take-all i message h)
 
-pub divided-next : {g message now next : List ℕ} {i : ℕ} → i < length message → next ≡ pushed g now (getD message i 0)
-    → Divided g message i now → Divided g message (i + 1) next
-divided-next {g} {message} {now} {next} {i} h e divided =
+-- n bytes more
+pub divided-more : {g message now next : List ℕ} {i : ℕ} (n : ℕ) → i + n ≤ length message → length next ≡ length g
+    → next ≡ remainder g now (take n (drop i message)) → Divided g message i now → Divided g message (i + n) next
+divided-more {g} {message} {now} {next} {i} n h size e divided =
     record {
-      within = omega arith;
-      size = ap length e ∙ length-pushed g now (getD message i 0) (divided .size);
+      within = h;
+      size = size;
       right =
           e
-          ∙ ap (λ (l : List ℕ). pushed g l (getD message i 0)) (divided .right)
-          ∙ sym (remainder-snoc g (tabulate (length g) (λ _. 0)) (take i message) (getD message i 0))
-          ∙ ap (remainder g (tabulate (length g) (λ _. 0))) (sym (ap (λ (k : ℕ). take k message) (add-one i) ∙ take-suc message i 0 h));
+          ∙ ap (λ (l : List ℕ). remainder g l (take n (drop i message))) (divided .right)
+          ∙ sym (remainder-append g (tabulate (length g) (λ _. 0)) (take i message) (take n (drop i message)))
+          ∙ ap (remainder g (tabulate (length g) (λ _. 0))) (sym (take-add i n message));
     }
 
--- ---- the parity, by a table that is the generator without its first coefficient
+pub divided-next : {g message now next : List ℕ} {i : ℕ} → i < length message → next ≡ pushed g now (getD message i 0)
+    → Divided g message i now → Divided g message (i + 1) next
+unfolding remainder
+divided-next {g} {message} {now} {next} {i} h e divided =
+    divided-more 1 (omega arith) (ap length e ∙ length-pushed g now (getD message i 0) (divided .size))
+    (e ∙ ap (remainder g now) (sym (ap (take 1) (drop-cons message i 0 h)))) divided
 
-pub divided-parity : {r n : ℕ} {g out : List ℕ} (message : List ℕ) → generator r ≡ 1 ∷ g → n ≡ r → out ≡ remainder g (tabulate n (λ _. 0)) message
+-- ---- the parity
+
+pub divided-parity : {r n : ℕ} {g out : List ℕ} (message : List ℕ) → g ≡ drop 1 (generator r) → n ≡ r → out ≡ remainder g (tabulate n (λ _. 0)) message
     → out ≡ parity r message
 unfolding parity
 divided-parity {r} {n} {g} {out} message e size right =
-    right ∙ ap₂ (λ (k : ℕ) (l : List ℕ). remainder (drop 1 l) (tabulate k (λ _. 0)) message) size (sym e)
+    right ∙ ap₂ (λ (k : ℕ) (l : List ℕ). remainder l (tabulate k (λ _. 0)) message) size e

@@ -1,2 +1,3 @@
--- Columns of the Reed-Solomon codes.
+-- Columns of the Reed-Solomon codes, and the table that divides eight bytes at once.
 pub mod Column
+pub mod Remainders

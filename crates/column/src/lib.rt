@@ -1,50 +1,20 @@
-// 13.7, 13.12, 13.9.2.2: columns of the Reed-Solomon codes.
+// 13.7, 13.12, 13.9.2.2: columns of the Reed-Solomon codes. Functions with a `requires` are for the crates of this repository.
+mod generators;
+mod remainders;
+
 use field::Gf;
+pub use remainders::Remainders;
+pub use remainders::fill_remainders;
+pub use remainders::no_remainders;
 ghost use mathlib.Core.Path.{_≡_};
-ghost use Prim.Native.Nat.{_+_, _<_};
+ghost use Prim.Native.Nat.{_+_, _<_, _≤_};
 ghost use lib.ListN.{length};
 ghost use Rattle.laws.specs.Tabulate.{tabulate};
 ghost use Rattle.field.specs.Tables.{AreTables};
 ghost use Rattle.column.specs.Column.{value, hasRoots, EndsIn, pushed, remainder, parity};
+ghost use Rattle.column.specs.Remainders.{AreRemainders};
 
-// The generator with 32 roots (formulas 30, 37), without its first coefficient, which is 1.
-const GENERATOR_32: [u8; 32] = [
-    116,
-    64,
-    52,
-    174,
-    54,
-    126,
-    16,
-    194,
-    162,
-    33,
-    33,
-    157,
-    176,
-    197,
-    225,
-    12,
-    59,
-    55,
-    253,
-    228,
-    148,
-    47,
-    179,
-    185,
-    24,
-    138,
-    253,
-    20,
-    142,
-    55,
-    172,
-    88,
-];
-
-// The generator with 4 roots (formula 33), likewise.
-const GENERATOR_4: [u8; 4] = [15, 54, 120, 64];
+// ---- the parity, byte by byte
 
 // One byte into the register.
 fn push(powers: &[u8; 256], logs: &[u8; 256], generator: &[u8], register: &mut [u8], byte: u8)
@@ -83,15 +53,19 @@ fn divide(generator: &[u8], message: &[u8], register: &mut [u8])
 pub fn parity_32(message: &[u8], out: &mut [u8; 32])
     ensures { λ r. ⌜ now (out .exit) ≡ parity 32 (now (message .entry)) ⌝ }
 {
-    divide(&GENERATOR_32, message, out);
+    let generator = generators::generator_32();
+    divide(&generator, message, out);
 }
 
 // The parity of a primary address field.
 pub fn parity_4(message: &[u8], out: &mut [u8; 4])
     ensures { λ r. ⌜ now (out .exit) ≡ parity 4 (now (message .entry)) ⌝ }
 {
-    divide(&GENERATOR_4, message, out);
+    let generator = generators::generator_4();
+    divide(&generator, message, out);
 }
+
+// ---- the roots, one by one
 
 // The value of the column at x.
 fn value_at(powers: &[u8; 256], logs: &[u8; 256], column: &[u8], x: Gf) -> Gf
@@ -107,8 +81,8 @@ fn value_at(powers: &[u8; 256], logs: &[u8; 256], column: &[u8], x: Gf) -> Gf
     v
 }
 
-// Whether the column has the roots α^0 to α^(count - 1), tried one by one.
-fn has_each_root(column: &[u8], count: u8) -> bool
+// Whether the column has the roots α^0 to α^(count - 1).
+pub fn has_roots(column: &[u8], count: u8) -> bool
     ensures { λ r. ⌜ r ≡ hasRoots count (now (column .entry)) ⌝ }
 {
     let powers = field::powers();
@@ -124,14 +98,29 @@ fn has_each_root(column: &[u8], count: u8) -> bool
     true
 }
 
+// ---- parity and roots, eight bytes at once
+
+// The parity of an LDC or a BIS column's message.
+pub fn parity_32_by(table: &Remainders, message: &[u8], out: &mut [u8; 32])
+    requires { ⌜ AreRemainders (now table) × (length (now out) ≡ 32) ⌝ }
+    ensures { λ _. ⌜ now (out .exit) ≡ parity 32 (now (message .entry)) ⌝ }
+{
+    let register = remainders::divided(table, message);
+    let mut j = 0;
+    while j < 32 {
+        out[j] = register[j];
+        j += 1;
+    }
+}
+
 fn no_parity() -> [u8; 32]
-    ensures { λ r. ⌜ length r ≡ 32 ⌝ }
+    ensures { λ r. ⌜ (length r ≡ 32) × (r ≡ tabulate 32 (λ _. 0)) ⌝ }
 {
     [0u8; 32]
 }
 
-// Whether the bytes behind the first n are the ones given. For the crates of this repository.
-pub fn ends_in(column: &[u8], n: usize, parity: &[u8; 32]) -> bool
+// Whether the bytes behind the first n are the ones given.
+fn ends_in(column: &[u8], n: usize, parity: &[u8; 32]) -> bool
     requires { ⌜ (length (now parity) ≡ 32) × (length (now column) ≡ n + 32) ⌝ }
     ensures { λ r. ⌜ EndsIn (now (column .entry)) n (now (parity .entry)) r ⌝ }
 {
@@ -145,24 +134,13 @@ pub fn ends_in(column: &[u8], n: usize, parity: &[u8; 32]) -> bool
     true
 }
 
-// Whether a column of n bytes and 32 more has its 32 roots: whether these are the parity of those.
-fn ends_in_parity(column: &[u8], n: usize) -> bool
-    requires { ⌜ length (now column) ≡ n + 32 ⌝ }
+// Whether an LDC or a BIS column has its 32 roots: whether its last 32 bytes are the parity of those before.
+pub fn is_code_word(table: &Remainders, column: &[u8]) -> bool
+    requires { ⌜ AreRemainders (now table) × (32 ≤ length (now column)) ⌝ }
     ensures { λ r. ⌜ r ≡ hasRoots 32 (now (column .entry)) ⌝ }
 {
+    let n = column.len() - 32;
     let mut parity = no_parity();
-    parity_32(&column[..n], &mut parity);
+    parity_32_by(table, &column[..n], &mut parity);
     ends_in(column, n, &parity)
-}
-
-// Whether the column has the roots α^0 to α^(count - 1).
-pub fn has_roots(column: &[u8], count: u8) -> bool
-    ensures { λ r. ⌜ r ≡ hasRoots count (now (column .entry)) ⌝ }
-{
-    if count == 32 {
-        if 32 <= column.len() {
-            return ends_in_parity(column, column.len() - 32);
-        }
-    }
-    has_each_root(column, count)
 }

@@ -2,17 +2,17 @@
 use address::Psn;
 use answer::Answer;
 use bis::PsnFound;
+use column::Remainders;
 use demodulator::Found;
 use demodulator::Table;
 use frame::FrameRead;
-use rows::Rows;
 ghost use mathlib.Core.Path.{_≡_};
 ghost use Prim.Native.Nat.{_+_, _<_, _≤_};
 ghost use lib.ListN.{length};
 ghost use Rattle.bits.specs.Bits.{bitsOf};
 ghost use Rattle.demodulator.specs.Table.{table};
 ghost use Rattle.demodulator.specs.Words.{Words};
-ghost use Rattle.rows.specs.Rows.{AreRows};
+ghost use Rattle.column.specs.Remainders.{AreRemainders};
 ghost use Rattle.sector.specs.Scrambling.{scramblingOf};
 ghost use Rattle.cluster.specs.Multiplex.{bisIn};
 ghost use Rattle.reader.specs.Reading.{lastZero, firstWrongSync};
@@ -156,11 +156,11 @@ fn judge_frames(image: &[u8], dc: &mut [u32], work: &mut [u8]) -> Answer
 }
 
 // Tests 12 to 14: the columns, the address fields and the PSN of a BIS block.
-fn judge_block(rows: &Rows, block: bis::Block) -> Read
-    requires { ⌜ AreRows (now rows) ⌝ }
+fn judge_block(table: &Remainders, block: bis::Block) -> Read
+    requires { ⌜ AreRemainders (now table) ⌝ }
     ensures { λ r. ⌜ BlockJudged block (r .answer) (r .psn .0) ⌝ }
 {
-    let column = bis::first_wrong_column(rows, block);
+    let column = bis::first_wrong_column(table, block);
     if column < 24 {
         return refused(Answer::BisColumn(column));
     }
@@ -179,11 +179,11 @@ fn judge_block(rows: &Rows, block: bis::Block) -> Read
 }
 
 // Tests 15 and 16: the LDC columns and the sectors of a cluster, scrambled with this stream.
-fn judge_data(rows: &Rows, work: &[u8], stream: &[u8]) -> Answer
-    requires { ⌜ AreRows (now rows) × (length (now work) ≡ 76880) ⌝ }
+fn judge_data(table: &Remainders, work: &[u8], stream: &[u8]) -> Answer
+    requires { ⌜ AreRemainders (now table) × (length (now work) ≡ 76880) ⌝ }
     ensures { λ r. ⌜ r ≡ dataAnswer (now (stream .entry)) (now (work .entry)) ⌝ }
 {
-    let word = cluster::first_wrong_word(rows, work);
+    let word = cluster::first_wrong_word(table, work);
     if word < 304 {
         return Answer::LdcColumn(word);
     }
@@ -214,7 +214,7 @@ fn give(
 
 // Tests 15 and 16 of a cluster with this PSN and this BIS block; where they are passed, what it was made of.
 fn read_data(
-    rows: &Rows,
+    table: &Remainders,
     work: &[u8],
     psn: Psn,
     block: bis::Block,
@@ -223,11 +223,11 @@ fn read_data(
     side: &mut [u8],
     dc: &mut [u32],
 ) -> Read
-    requires { ⌜ AreRows (now rows) × (((length (now work) ≡ 76880) × (length (now user) ≡ 65536)) × ((length (now side) ≡ 592) × ((length (now words) ≡ 496) × (length (now dc) ≡ 496)))) ⌝ }
+    requires { ⌜ AreRemainders (now table) × (((length (now work) ≡ 76880) × (length (now user) ≡ 65536)) × ((length (now side) ≡ 592) × ((length (now words) ≡ 496) × (length (now dc) ≡ 496)))) ⌝ }
     ensures { λ r. ⌜ DataRead (dataAnswer (scramblingOf (psn .0)) (now (work .entry))) (psn .0) block (now (work .entry)) (now (words .entry)) (now (user .entry)) (now (side .entry)) (now (dc .entry)) (r .answer) (r .psn .0) (now (user .exit)) (now (side .exit)) (now (dc .exit)) ⌝ }
 {
     let stream = sector::scrambling(psn);
-    let judged = judge_data(rows, work, &stream);
+    let judged = judge_data(table, work, &stream);
     if judged.is_done() {
         give(work, &stream, block, words, user, side, dc);
         return Read {
@@ -250,12 +250,13 @@ fn read_cluster(
     ensures { λ r. ⌜ DataRead (clusterAnswer (now (work .entry))) (psnOf (now (work .entry))) (bisIn (now (work .entry))) (now (work .entry)) (now (words .entry)) (now (user .entry)) (now (side .entry)) (now (dc .entry)) (r .answer) (r .psn .0) (now (user .exit)) (now (side .exit)) (now (dc .exit)) ⌝ }
 {
     let block = cluster::bis_block(work);
-    let rows = rows::make();
-    let found = judge_block(&rows, block);
+    let mut table = column::no_remainders();
+    column::fill_remainders(&mut table);
+    let found = judge_block(&table, block);
     let judged = found.answer;
     let psn = found.psn;
     if judged.is_done() {
-        return read_data(&rows, work, psn, block, words, user, side, dc);
+        return read_data(&table, work, psn, block, words, user, side, dc);
     }
     refused(judged)
 }

@@ -11,10 +11,10 @@ use Rattle.bis.proofs.block.Statement.{statement}
 use Rattle.bis.proofs.block.Tie as tie
 
 abbrev Inv-loop : tie.InvT-loop
-Inv-loop rows side fields block₀ c₀ block c = Upto [] (codeWord fields side) 24 c block
+Inv-loop table side fields block₀ c₀ block c = Upto [] (codeWord fields side) 24 c block
 
 abbrev μ-loop : tie.MeasureT-loop
-μ-loop rows side fields block₀ c₀ block c = 24 - c
+μ-loop table side fields block₀ c₀ block c = 24 - c
 
 address-fields-requires : tie.Need-address-fields-requires Inv-loop μ-loop
 address-fields-requires c κs = search needs

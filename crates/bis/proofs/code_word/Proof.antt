@@ -7,11 +7,11 @@ use Rattle.bis.proofs.code_word.Tie as tie
 access-column-requires : tie.Need-access-column-requires
 access-column-requires c κs = search needs
 
-slice-aggregate-parity-32 : tie.Need-slice-aggregate-parity-32
-slice-aggregate-parity-32 c = search needs
+slice-aggregate-parity-32-by : tie.Need-slice-aggregate-parity-32-by
+slice-aggregate-parity-32-by c = search needs
 
-parity-32-requires : tie.Need-parity-32-requires
-parity-32-requires c κs = search needs
+parity-32-by-requires : tie.Need-parity-32-by-requires
+parity-32-by-requires c κs = search needs
 
 joined-requires : tie.Need-joined-requires
 joined-requires c κs = search needs
@@ -25,7 +25,7 @@ code-word-spec =
     tie.close
     (tie.spec
     access-column-requires
-    slice-aggregate-parity-32
-    parity-32-requires
+    slice-aggregate-parity-32-by
+    parity-32-by-requires
     joined-requires
     returns)

@@ -8,10 +8,10 @@ use Rattle.bis.proofs.first_wrong_column.Statement.{statement}
 use Rattle.bis.proofs.first_wrong_column.Tie as tie
 
 abbrev Inv-loop : tie.InvT-loop
-Inv-loop rows block column₀ column = Passed (wrongColumn block) column
+Inv-loop table block column₀ column = Passed (wrongColumn block) column
 
 abbrev μ-loop : tie.MeasureT-loop
-μ-loop rows block column₀ column = 24 - column
+μ-loop table block column₀ column = 24 - column
 
 loop-holds : tie.Need-loop-holds Inv-loop μ-loop
 loop-holds c = passed-none

@@ -1,10 +1,13 @@
--- `block_of` meets what `bis::block` asks: the PSN was judged, and an array of 592 has that length.
+-- `block_of` meets what `bis::block` asks: the table was filled, the PSN judged, and an array of 592 has that length.
 use borrow.Author.Needs.{needs}
 use Rattle.bis_test.proofs.block_of.Statement.{statement}
 use Rattle.bis_test.proofs.block_of.Tie as tie
 
-make-requires : tie.Need-make-requires
-make-requires c κs = search needs
+no-remainders-requires : tie.Need-no-remainders-requires
+no-remainders-requires c κs = search needs
+
+fill-remainders-requires : tie.Need-fill-remainders-requires
+fill-remainders-requires c κs = search needs
 
 judge-requires : tie.Need-judge-requires
 judge-requires c κs = search needs
@@ -37,7 +40,8 @@ pub block-of-spec : {M : Type 1} → statement M
 block-of-spec =
     tie.close
     (tie.spec
-    make-requires
+    no-remainders-requires
+    fill-remainders-requires
     judge-requires
     enum-told
     slice-aggregate-block

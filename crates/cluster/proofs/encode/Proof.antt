@@ -4,8 +4,11 @@ use Rattle.cluster.proofs.Encoding.{encoded}
 use Rattle.cluster.proofs.encode.Statement.{statement}
 use Rattle.cluster.proofs.encode.Tie as tie
 
-make-requires : tie.Need-make-requires
-make-requires c κs = search needs
+no-remainders-requires : tie.Need-no-remainders-requires
+no-remainders-requires c κs = search needs
+
+fill-remainders-requires : tie.Need-fill-remainders-requires
+fill-remainders-requires c κs = search needs
 
 scrambling-requires : tie.Need-scrambling-requires
 scrambling-requires c κs = search needs
@@ -32,7 +35,8 @@ pub encode-spec : {M : Type 1} → statement M
 encode-spec =
     tie.close
     (tie.spec
-    make-requires
+    no-remainders-requires
+    fill-remainders-requires
     scrambling-requires
     slice-aggregate-put-ldc
     put-ldc-requires

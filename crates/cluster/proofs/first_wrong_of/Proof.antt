@@ -11,10 +11,10 @@ use Rattle.cluster.proofs.first_wrong_of.Statement.{statement}
 use Rattle.cluster.proofs.first_wrong_of.Tie as tie
 
 abbrev Inv-loop : tie.InvT-loop
-Inv-loop rows words j₀ j = (j ≤ 38) × Passed (wrongOf words) j
+Inv-loop table words j₀ j = (j ≤ 38) × Passed (wrongOf words) j
 
 abbrev μ-loop : tie.MeasureT-loop
-μ-loop rows words j₀ j = 38 - j
+μ-loop table words j₀ j = 38 - j
 
 loop-holds : tie.Need-loop-holds Inv-loop μ-loop
 loop-holds c = (omega arith, passed-none)

@@ -11,10 +11,10 @@ use Rattle.cluster.proofs.first_wrong_word.Statement.{statement}
 use Rattle.cluster.proofs.first_wrong_word.Tie as tie
 
 abbrev Inv-loop : tie.InvT-loop
-Inv-loop rows work words₀ e₀ words e = (length words ≡ 9424) × ((e ≤ 8) × Passed (wrongWord work) (38 * e))
+Inv-loop table work words₀ e₀ words e = (length words ≡ 9424) × ((e ≤ 8) × Passed (wrongWord work) (38 * e))
 
 abbrev μ-loop : tie.MeasureT-loop
-μ-loop rows work words₀ e₀ words e = 8 - e
+μ-loop table work words₀ e₀ words e = 8 - e
 
 no-words-requires : tie.Need-no-words-requires Inv-loop μ-loop
 no-words-requires c κs = search needs

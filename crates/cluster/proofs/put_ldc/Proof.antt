@@ -11,10 +11,10 @@ use Rattle.cluster.proofs.put_ldc.Statement.{statement}
 use Rattle.cluster.proofs.put_ldc.Tie as tie
 
 abbrev Inv-loop : tie.InvT-loop
-Inv-loop rows user stream work₀ frames₀ words₀ e₀ work frames words e = ((length frames ≡ 8208) × (length words ≡ 9424)) × ((e ≤ 8) × LdcPut (scrambledFrames stream user) (38 * e) work₀ work)
+Inv-loop table user stream work₀ frames₀ words₀ e₀ work frames words e = ((length frames ≡ 8208) × (length words ≡ 9424)) × ((e ≤ 8) × LdcPut (scrambledFrames stream user) (38 * e) work₀ work)
 
 abbrev μ-loop : tie.MeasureT-loop
-μ-loop rows user stream work₀ frames₀ words₀ e₀ work frames words e = 8 - e
+μ-loop table user stream work₀ frames₀ words₀ e₀ work frames words e = 8 - e
 
 no-frames-requires : tie.Need-no-frames-requires Inv-loop μ-loop
 no-frames-requires c κs = search needs

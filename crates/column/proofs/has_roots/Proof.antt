@@ -1,30 +1,69 @@
--- `has_roots` meets its contract, by either of two ways. Assumes nothing.
-use mathlib.Core.Path.{sym, ap, _∙_}
-use Prim.Native.Nat.{ℕ}
+-- `has_roots` meets its contract: the loop passes the roots that are there, and stops at one that is missing. Assumes nothing.
+use Prim.Native.Nat.{_-_}
+use Rattle.column.proofs.Roots.{Rooted, rooted-none, rooted-more, rooted-fails, rooted-all}
 use borrow.Author.Needs.{needs}
-use Rattle.column.specs.Column.{hasRoots}
 use Rattle.column.proofs.has_roots.Statement.{statement}
 use Rattle.column.proofs.has_roots.Tie as tie
 
-sub-ends-in-parity : tie.Need-sub-ends-in-parity
-sub-ends-in-parity c = search needs
+abbrev Inv-loop : tie.InvT-loop
+Inv-loop column count powers logs i₀ i = Rooted column count i
 
-ends-in-parity-requires : tie.Need-ends-in-parity-requires
-ends-in-parity-requires c κs = search needs
+abbrev μ-loop : tie.MeasureT-loop
+μ-loop column count powers logs i₀ i = count - i
 
-returns : tie.Need-returns
+powers-requires : tie.Need-powers-requires Inv-loop μ-loop
+powers-requires c κs = search needs
+
+logs-requires : tie.Need-logs-requires Inv-loop μ-loop
+logs-requires c κs = search needs
+
+loop-holds : tie.Need-loop-holds Inv-loop μ-loop
+loop-holds c = rooted-none _ _
+
+cast-power : tie.Need-cast-power Inv-loop μ-loop
+cast-power c = search needs
+
+power-requires : tie.Need-power-requires Inv-loop μ-loop
+power-requires c κs = search needs
+
+value-at-requires : tie.Need-value-at-requires Inv-loop μ-loop
+value-at-requires c κs = search needs
+
+returns : tie.Need-returns Inv-loop μ-loop
 returns c =
-    let tests = c .before .before in
-    let args = tests .before .before .args in
-    c .ends-in-parity .ensures ∙ ap (λ (n : ℕ). hasRoots n (args .column .now)) (sym (tests .if1 .taken))
+    let called = c .before .before in
+    let root = called .before in
+    rooted-fails (search needs) (root .power .ensures) (called .value-at .ensures) (root .before .before .before .before .loop .inv) (c .if1 .taken)
 
-has-each-root-requires : tie.Need-has-each-root-requires
-has-each-root-requires c κs = search needs
+add-i : tie.Need-add-i Inv-loop μ-loop
+add-i c = search needs
 
-returns-2 : tie.Need-returns-2
-returns-2 c = search needs
+loop-less : tie.Need-loop-less Inv-loop μ-loop
+loop-less c = search needs
+
+loop-again : tie.Need-loop-again Inv-loop μ-loop
+loop-again c =
+    let called = c .before .before in
+    let root = called .before in
+    rooted-more (search needs) (root .power .ensures) (called .value-at .ensures) (root .before .before .before .before .loop .inv) (c .if1 .left)
+
+returns-2 : tie.Need-returns-2 Inv-loop μ-loop
+returns-2 c = rooted-all (search needs) (c .before .loop .inv)
 
 pub has-roots-spec : {M : Type 1} → statement M
 has-roots-spec =
     tie.close
-    (tie.spec sub-ends-in-parity ends-in-parity-requires returns has-each-root-requires returns-2)
+    (tie.spec
+    Inv-loop
+    μ-loop
+    powers-requires
+    logs-requires
+    loop-holds
+    cast-power
+    power-requires
+    value-at-requires
+    returns
+    add-i
+    loop-less
+    loop-again
+    returns-2)

@@ -1,9 +1,11 @@
--- `parity_32` meets its contract: the code's table is the generator with 32 roots, without its first coefficient. Assumes nothing.
+-- `parity_32` meets its contract: the remainder by the generator with 32 roots. Assumes nothing.
 use borrow.Author.Needs.{needs}
-use Rattle.column.proofs.Generator.{coefficients32, generator-32}
 use Rattle.column.proofs.Register.{divided-parity}
 use Rattle.column.proofs.parity_32.Statement.{statement}
 use Rattle.column.proofs.parity_32.Tie as tie
+
+generator-32-requires : tie.Need-generator-32-requires
+generator-32-requires c κs = search needs
 
 slice-aggregate-divide : tie.Need-slice-aggregate-divide
 slice-aggregate-divide c = search needs
@@ -12,8 +14,7 @@ divide-requires : tie.Need-divide-requires
 divide-requires c κs = search needs
 
 returns : tie.Need-returns
-unfolding coefficients32
-returns c = divided-parity _ generator-32 (search needs) (c .divide .ensures)
+returns c = divided-parity _ (c .before .before .before .generator-32 .ensures .1) (search needs) (c .divide .ensures)
 
 pub parity-32-spec : {M : Type 1} → statement M
-parity-32-spec = tie.close (tie.spec slice-aggregate-divide divide-requires returns)
+parity-32-spec = tie.close (tie.spec generator-32-requires slice-aggregate-divide divide-requires returns)

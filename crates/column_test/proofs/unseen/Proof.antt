@@ -9,10 +9,10 @@ use Rattle.column_test.proofs.unseen.Statement.{statement}
 use Rattle.column_test.proofs.unseen.Tie as tie
 
 abbrev Inv-loop : tie.InvT-loop
-Inv-loop column₀ roots count₀ i₀ column count i = (i ≤ length column₀) × (count ≤ i) × (length column ≡ length column₀)
+Inv-loop table column₀ roots looked count₀ i₀ column count i = (i ≤ length column₀) × (count ≤ i) × (length column ≡ length column₀)
 
 abbrev μ-loop : tie.MeasureT-loop
-μ-loop column₀ roots count₀ i₀ column count i = length column₀ - i
+μ-loop table column₀ roots looked count₀ i₀ column count i = length column₀ - i
 
 loop-holds : tie.Need-loop-holds Inv-loop μ-loop
 loop-holds c = search needs

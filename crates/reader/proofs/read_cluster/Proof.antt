@@ -7,8 +7,11 @@ use Rattle.reader.proofs.read_cluster.Tie as tie
 bis-block-requires : tie.Need-bis-block-requires
 bis-block-requires c κs = search needs
 
-make-requires : tie.Need-make-requires
-make-requires c κs = search needs
+no-remainders-requires : tie.Need-no-remainders-requires
+no-remainders-requires c κs = search needs
+
+fill-remainders-requires : tie.Need-fill-remainders-requires
+fill-remainders-requires c κs = search needs
 
 judge-block-requires : tie.Need-judge-block-requires
 judge-block-requires c κs = search needs
@@ -42,7 +45,8 @@ read-cluster-spec =
     tie.close
     (tie.spec
     bis-block-requires
-    make-requires
+    no-remainders-requires
+    fill-remainders-requires
     judge-block-requires
     is-done-requires
     read-data-requires

@@ -11,10 +11,10 @@ use Rattle.cluster.proofs.words.complete_words.Statement.{statement}
 use Rattle.cluster.proofs.words.complete_words.Tie as tie
 
 abbrev Inv-loop : tie.InvT-loop
-Inv-loop rows frames words₀ j₀ words j = (j ≤ 38) × Upto 0 (λ k. getD (completed (take 216 (drop (216 * (k / 248)) frames))) (k % 248) 0) 9424 (248 * j) words
+Inv-loop table frames words₀ j₀ words j = (j ≤ 38) × Upto 0 (λ k. getD (completed (take 216 (drop (216 * (k / 248)) frames))) (k % 248) 0) 9424 (248 * j) words
 
 abbrev μ-loop : tie.MeasureT-loop
-μ-loop rows frames words₀ j₀ words j = 38 - j
+μ-loop table frames words₀ j₀ words j = 38 - j
 
 loop-holds : tie.Need-loop-holds Inv-loop μ-loop
 loop-holds c = (omega arith, upto-none (omega arith))

@@ -1,0 +1,83 @@
+-- The division is linear in the register and the message. Assumes nothing.
+use mathlib.Core.Path.{_≡_, refl, sym, ap, ap₂, _∙_}
+use mathlib.Core.List.{List, [], _∷_, _++_}
+use Prim.Native.Nat.{ℕ, zero, suc}
+use native.Mathlib.Nat.{suc-inj}
+use native.Mathlib.Omega.{arith}
+use lib.ListN.{length}
+use Rattle.laws.specs.Tabulate.{tabulate}
+use Rattle.field.specs.Field.{sum}
+use Rattle.field.proofs.Sum.{sum-zero, zero-sum, sum-self, sum-swap}
+use Rattle.field.proofs.Product.{sum-product}
+use Rattle.column.specs.Column.{sums, scaled, pushed, remainder}
+use Rattle.column.proofs.Sums.{length-snoc, length-scaled}
+use Rattle.column.proofs.Division.{length-pushed}
+
+sums-swap : (a b c d : List ℕ) → sums (sums a b) (sums c d) ≡ sums (sums a c) (sums b d)
+unfolding sums
+sums-swap [] b c d = refl
+sums-swap (x ∷ a) [] [] d = refl
+sums-swap (x ∷ a) [] (z ∷ c) d = refl
+sums-swap (x ∷ a) (y ∷ b) [] d = refl
+sums-swap (x ∷ a) (y ∷ b) (z ∷ c) [] = refl
+sums-swap (x ∷ a) (y ∷ b) (z ∷ c) (w ∷ d) = ap₂ _∷_ (sum-swap x y z w) (sums-swap a b c d)
+
+sums-snoc : (a b : List ℕ) → length a ≡ length b → sums (a ++ 0 ∷ []) (b ++ 0 ∷ []) ≡ sums a b ++ 0 ∷ []
+unfolding sums
+sums-snoc [] [] e = ap (λ (u : ℕ). u ∷ []) (sum-self 0)
+sums-snoc [] (y ∷ b) e = absurd (omega arith)
+sums-snoc (x ∷ a) [] e = absurd (omega arith)
+sums-snoc (x ∷ a) (y ∷ b) e = ap (λ (l : List ℕ). sum x y ∷ l) (sums-snoc a b (suc-inj e))
+
+scaled-sum : (a b : ℕ) (g : List ℕ) → scaled (sum a b) g ≡ sums (scaled a g) (scaled b g)
+unfolding sums scaled
+scaled-sum a b [] = refl
+scaled-sum a b (c ∷ g) = ap₂ _∷_ (sum-product c a b) (scaled-sum a b g)
+
+pushed-sums : (g r s : List ℕ) (d e : ℕ) → length r ≡ length s → pushed g (sums r s) (sum d e) ≡ sums (pushed g r d) (pushed g s e)
+unfolding pushed sums
+pushed-sums g [] [] d e h = refl
+pushed-sums g [] (y ∷ s) d e h = absurd (omega arith)
+pushed-sums g (x ∷ r) [] d e h = absurd (omega arith)
+pushed-sums g (x ∷ r) (y ∷ s) d e h =
+    ap₂ sums (sym (sums-snoc r s (suc-inj h))) (ap (λ (u : ℕ). scaled u g) (sum-swap d e x y) ∙ scaled-sum (sum d x) (sum e y) g)
+    ∙ sums-swap (r ++ 0 ∷ []) (s ++ 0 ∷ []) (scaled (sum d x) g) (scaled (sum e y) g)
+
+remainder-sums : (g r s ms : List ℕ) → length r ≡ length g → length s ≡ length g
+    → remainder g (sums r s) ms ≡ sums (remainder g r ms) (remainder g s (tabulate (length ms) (λ _. 0)))
+unfolding remainder tabulate
+remainder-sums g r s [] hr hs = refl
+remainder-sums g r s (m ∷ ms) hr hs =
+    ap (λ (l : List ℕ). remainder g l ms) (ap (pushed g (sums r s)) (sym (sum-zero m)) ∙ pushed-sums g r s m 0 (hr ∙ sym hs))
+    ∙ remainder-sums g (pushed g r m) (pushed g s 0) ms (length-pushed g r m hr) (length-pushed g s 0 hs)
+
+pub zeros-snoc : (n : ℕ) → _++_ {A = ℕ} (tabulate n (λ _. 0)) (0 ∷ []) ≡ tabulate (suc n) (λ _. 0)
+unfolding tabulate
+zeros-snoc zero = refl
+zeros-snoc (suc n) = ap (λ (l : List ℕ). 0 ∷ l) (zeros-snoc n)
+
+zeros-sums : (n : ℕ) (l : List ℕ) → length l ≡ n → sums (tabulate n (λ _. 0)) l ≡ l
+unfolding tabulate sums
+zeros-sums zero [] e = refl
+zeros-sums zero (x ∷ l) e = absurd (omega arith)
+zeros-sums (suc n) [] e = absurd (omega arith)
+zeros-sums (suc n) (x ∷ l) e = ap₂ _∷_ (zero-sum x) (zeros-sums n l (suc-inj e))
+
+pushed-zeros : (g : List ℕ) (f : ℕ) → pushed g (tabulate (length g) (λ _. 0)) f ≡ scaled f g
+unfolding pushed tabulate scaled
+pushed-zeros [] f = refl
+pushed-zeros (c ∷ g) f =
+    ap₂ sums (zeros-snoc (length g)) (ap (λ (u : ℕ). scaled u (c ∷ g)) (sum-zero f))
+    ∙ zeros-sums (suc (length g)) (scaled f (c ∷ g)) (length-scaled f (c ∷ g))
+
+-- what byte b leaves in the register when k zeros follow it
+unfoldable pub left : List ℕ → ℕ → ℕ → List ℕ
+left g k b = remainder g (tabulate (length g) (λ _. 0)) (b ∷ tabulate k (λ _. 0))
+
+-- the first byte of the message: what it leaves, with the first of the register, is added to what the others leave
+pub first-in : (g cs ms : List ℕ) (c m : ℕ) → length (c ∷ cs) ≡ length g
+    → remainder g (c ∷ cs) (m ∷ ms) ≡ sums (remainder g (cs ++ 0 ∷ []) ms) (left g (length ms) (sum m c))
+unfolding remainder pushed left
+first-in g cs ms c m e =
+    remainder-sums g (cs ++ 0 ∷ []) (scaled (sum m c) g) ms (length-snoc cs ∙ e) (length-scaled (sum m c) g)
+    ∙ ap (λ (l : List ℕ). sums (remainder g (cs ++ 0 ∷ []) ms) (remainder g l (tabulate (length ms) (λ _. 0)))) (sym (pushed-zeros g (sum m c)))
