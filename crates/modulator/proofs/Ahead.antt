@@ -14,10 +14,10 @@ use Rattle.modulation.specs.Bits.{dataBits}
 use Rattle.modulation.specs.Pairs.{Pairs, twos}
 use Rattle.modulation.proofs.Pairs.{pair-at}
 use Rattle.modulation.proofs.Fronts.{pairs-start, pair-more}
-use Rattle.modulator.specs.declared.Row.{Row as CodeRow}
+use Rattle.modulator.specs.declared.rows.Row.{Row as CodeRow}
 use Rattle.modulator.specs.Rows.{coded}
 use Rattle.modulator.specs.Ahead.{Fronts, PairsAhead}
-use Rattle.modulator.proofs.Rows.{code-sized}
+use Rattle.modulator.proofs.CodedRows.{code-sized}
 
 -- ---- the numbers of the first elements, each from the one before
 

@@ -15,10 +15,10 @@ use Rattle.modulation.proofs.Tests.{and-left}
 use Rattle.modulation.proofs.Fronts.{pairs-start}
 use Rattle.modulation.proofs.Words.{drop-behind, skip, nextBit}
 use Rattle.modulation.proofs.Pairs.{pairs-left}
-use Rattle.modulator.specs.declared.Row.{Row as CodeRow}
-use Rattle.modulator.specs.declared.When.{When as CodeWhen}
+use Rattle.modulator.specs.declared.rows.Row.{Row as CodeRow}
+use Rattle.modulator.specs.declared.rows.When.{When as CodeWhen}
 use Rattle.modulator.specs.Rows.{coded}
-use Rattle.modulator.proofs.Rows.{code-sized, whenOf, code-when}
+use Rattle.modulator.proofs.CodedRows.{code-sized, whenOf, code-when}
 use Rattle.modulator.proofs.Next.{next-010}
 
 -- behind a word of n pairs at place i
