@@ -1,21 +1,21 @@
 -- The rows as the code's table has them, by tests over the sixteen. Assumes nothing.
-use mathlib.Core.Bool.{Bool, false, Bool·beq}
-use mathlib.Core.List.{List, [], _∷_}
-use mathlib.Core.Path.{_≡_, refl, sym, ap, subst, _∙_}
+use mathlib.Core.Bool.{false, Bool·beq}
+use mathlib.Core.Path.{_≡_, refl, sym, ap, ap₂, subst, _∙_}
 use Prim.Native.Nat.{ℕ, zero, suc, _+_, _*_, _-_, _/_, _%_, _^_, _<_}
-use native.Mathlib.Nat.{not-suc-le-zero}
+use native.Mathlib.Nat.{lt-of-lt-of-le}
 use native.Mathlib.Omega.{arith}
-use borrow.Author.Tests.{lt-ltb}
-use lib.Dec.{T, eqb, eqb→eq, leb, leb→le, ltb}
-use lib.ListN.{length, getD}
-use Rattle.laws.proofs.Finite.{all, all-at, all₂, all₂-at, equal-below, bounded-below}
+use lib.Dec.{eqb, leb, leb→le}
+use lib.ListN.{length}
+use lib.Pow.{shl-lt, shl-exact, pow-mono}
+use Rattle.laws.proofs.Finite.{all, all-at, equal-below, bounded-below}
 use Rattle.bits.specs.Bits.{number}
-use Rattle.modulation.specs.Modulation.{When, always, after-one, after-zero, before-010, at-end, d00, twoNumber, Three, m000, threeNumber, rowAt, startsWith010, lastBit, terminates}
+use Rattle.modulation.specs.Modulation.{When, always, after-one, after-zero, before-010, at-end, rowAt, startsWith010, lastBit, terminates}
 use Rattle.modulation.specs.Bits.{dataBits, bits}
-use Rattle.modulation.proofs.Tests.{implies, given, beq-same}
-use Rattle.modulator.specs.declared.rows.Row.{Row as CodeRow}
-use Rattle.modulator.specs.declared.rows.When.{When as CodeWhen}
-use Rattle.modulator.specs.declared.rows.When.the-variants.{Always, AfterOne, AfterZero, Before010, AtEnd}
+use Rattle.modulation.proofs.Bits.{length-bits}
+use Rattle.modulation.proofs.Tests.{beq-same}
+use Rattle.modulator.specs.declared.conversion.Row.{Row as CodeRow}
+use Rattle.modulator.specs.declared.conversion.When.{When as CodeWhen}
+use Rattle.modulator.specs.declared.conversion.When.the-variants.{Always, AfterOne, AfterZero, Before010, AtEnd}
 use Rattle.modulator.specs.Rows.{Sized, codedWhen, coded, whenNumber, whenAt, packed}
 
 pub row-sized : (k : ℕ) → k < 16 → Sized k (length (rowAt k .pairs))
@@ -27,22 +27,6 @@ row-sized k h =
       some = leb→le 1 (length (rowAt k .pairs)) (all-at 16 (λ k. leb 1 (length (rowAt k .pairs))) tt k h);
       most = bounded-below 16 5 (λ k. length (rowAt k .pairs)) tt k h;
     }
-
-pub first-010 : (ms : List Three) (x : ℕ) → 0 < length ms → x ≡ threeNumber (getD ms 0 m000) → eqb x 0b010 ≡ startsWith010 ms
-first-010 [] x h e = absurd (not-suc-le-zero h)
-first-010 (m ∷ ms) x h e = ap (λ (y : ℕ). eqb y 0b010) e
-
--- digit j of the number of a row's bits, each digit of so many bits
-module _ (width : ℕ) (bits-of : ℕ → ℕ) (digit-of : ℕ → ℕ → ℕ) where
-  abbrev digit : ℕ → ℕ → Bool
-  digit k j =
-      implies (ltb j (length (rowAt k .pairs))) (eqb (bits-of k / 2 ^ (width * (length (rowAt k .pairs) - 1 - j)) % 2 ^ width) (digit-of k j))
-
-  row-digit : T (all₂ 16 4 digit) → (k j : ℕ) → k < 16 → j < length (rowAt k .pairs)
-      → bits-of k / 2 ^ (width * (length (rowAt k .pairs) - 1 - j)) % 2 ^ width ≡ digit-of k j
-  row-digit t k j h l =
-      eqb→eq _ (digit-of k j)
-      (given (ltb j (length (rowAt k .pairs))) _ (all₂-at 16 4 digit t k j h (omega (arith, row-sized k h))) (lt-ltb j (length (rowAt k .pairs)) l))
 
 abbrev pub whenOf : CodeWhen → When
 whenOf Always = always
@@ -58,22 +42,37 @@ when-back after-zero = refl
 when-back before-010 = refl
 when-back at-end = refl
 
+groups-lt : (k : ℕ) → k < 16 → number (bits (rowAt k .groups)) < 4096
+unfolding all number
+groups-lt k h = bounded-below 16 4096 (λ k. number (bits (rowAt k .groups))) tt k h
+
 -- row k of the code's table
 module _ (k : ℕ) (r : CodeRow) (h : k < 16) (e : r ≡ coded (rowAt k)) where
   pub code-sized : Sized k (r .0)
   code-sized = subst (Sized k) (sym (ap (λ (s : CodeRow). s .0) e)) (row-sized k h)
 
-  pub code-pair : (j : ℕ) → j < length (rowAt k .pairs) → r .1 / 2 ^ (2 * (r .0 - 1 - j)) % 4 ≡ twoNumber (getD (rowAt k .pairs) j d00)
-  unfolding all all₂ number
-  code-pair j l =
-      ap (λ (s : CodeRow). s .1 / 2 ^ (2 * (s .0 - 1 - j)) % 4) e
-      ∙ row-digit 2 (λ k. number (dataBits (rowAt k .pairs))) (λ k j. twoNumber (getD (rowAt k .pairs) j d00)) tt k j h l
+  pub code-leads : eqb (r .2 / 2 ^ (3 * (r .0 - 1))) 0b010 ≡ startsWith010 (rowAt k .groups)
+  unfolding all number
+  code-leads =
+      ap (λ (s : CodeRow). eqb (s .2 / 2 ^ (3 * (s .0 - 1))) 0b010) e
+      ∙ beq-same (eqb (number (bits (rowAt k .groups)) / 2 ^ (3 * (length (rowAt k .pairs) - 1))) 0b010) (startsWith010 (rowAt k .groups))
+      (all-at 16 (λ k. Bool·beq (eqb (number (bits (rowAt k .groups)) / 2 ^ (3 * (length (rowAt k .pairs) - 1))) 0b010) (startsWith010 (rowAt k .groups))) tt k h)
 
-  pub code-group : (j : ℕ) → j < length (rowAt k .groups) → r .2 / 2 ^ (3 * (r .0 - 1 - j)) % 8 ≡ threeNumber (getD (rowAt k .groups) j m000)
-  unfolding all all₂ number
-  code-group j l =
-      ap (λ (s : CodeRow). s .2 / 2 ^ (3 * (s .0 - 1 - j)) % 8) e
-      ∙ row-digit 3 (λ k. number (bits (rowAt k .groups))) (λ k j. threeNumber (getD (rowAt k .groups) j m000)) tt k j h (omega (arith, row-sized k h))
+  -- its modulation bits behind those of v
+  module _ (v : ℕ) (small : v < 262144) where
+    shifted : v * 2 ^ (3 * r .0) % 2 ^ 32 ≡ v * 2 ^ (3 * r .0)
+    shifted = shl-exact {a = v} 18 (3 * r .0) 32 small (omega (arith, code-sized .most))
+
+    pub code-bits : v * 2 ^ (3 * r .0) % 2 ^ 32 + r .2 ≡ v * 2 ^ length (bits (rowAt k .groups)) + number (bits (rowAt k .groups))
+    code-bits =
+        let place : 3 * r .0 ≡ length (bits (rowAt k .groups)) = omega (arith, code-sized .groups-are, length-bits (rowAt k .groups)) in
+        ap₂ _+_ (shifted ∙ ap (λ (n : ℕ). v * 2 ^ n) place) (ap (λ (s : CodeRow). s .2) e)
+
+    pub code-fits : v * 2 ^ (3 * r .0) % 2 ^ 32 + r .2 < 2 ^ 32
+    code-fits =
+        let below : v * 2 ^ (3 * r .0) < 2 ^ 30 = lt-of-lt-of-le (shl-lt {a = v} 18 (3 * r .0) small) (pow-mono {i = 18 + 3 * r .0} {j = 30} (omega (arith, code-sized .most))) in
+        let few : r .2 < 4096 = rw (ap (λ (s : CodeRow). s .2) e) (groups-lt k h) in
+        omega (arith, shifted)
 
   pub code-last : eqb (r .2 % 2) 1 ≡ lastBit false (rowAt k .groups)
   unfolding all number
@@ -138,18 +137,14 @@ module _ (k v : ℕ) (h : k < 16) (e : v ≡ packed (coded (rowAt k))) where
   unfolding all number
   below-256 = bounded-below 16 256 (λ k. number (dataBits (rowAt k .pairs))) tt k h
 
-  below-4096 : number (bits (rowAt k .groups)) < 4096
-  unfolding all number
-  below-4096 = bounded-below 16 4096 (λ k. number (bits (rowAt k .groups))) tt k h
-
   pub unpacked-size : v / 0x800000 ≡ length (rowAt k .pairs)
-  unpacked-size = part-size _ _ _ _ v e (when-below (codedWhen (rowAt k .when))) below-256 below-4096
+  unpacked-size = part-size _ _ _ _ v e (when-below (codedWhen (rowAt k .when))) below-256 (groups-lt k h)
 
   pub unpacked : {w : CodeWhen} → w ≡ whenAt (v / 0x100000 % 8) → _≡_ {A = CodeRow} (v / 0x800000, v / 0x1000 % 256, v % 0x1000, w) (coded (rowAt k))
   unpacked {w} q =
       let when = codedWhen (rowAt k .when) in
-      let told = part-when _ _ _ _ v e (when-below when) below-256 below-4096 in
-      let pairs = part-pairs _ _ _ _ v e (when-below when) below-256 below-4096 in
-      let groups = part-groups _ _ _ _ v e (when-below when) below-256 below-4096 in
+      let told = part-when _ _ _ _ v e (when-below when) below-256 (groups-lt k h) in
+      let pairs = part-pairs _ _ _ _ v e (when-below when) below-256 (groups-lt k h) in
+      let groups = part-groups _ _ _ _ v e (when-below when) below-256 (groups-lt k h) in
       let condition : w ≡ when = q ∙ ap whenAt told ∙ when-told when in
       λ j. (unpacked-size j, pairs j, groups j, condition j)

@@ -7,9 +7,9 @@ use Rattle.laws.specs.Tabulate.{tabulate}
 use Rattle.bits.specs.Bits.{number}
 use Rattle.modulation.specs.Modulation.{Row, When, always, after-one, after-zero, before-010, at-end, rowAt}
 use Rattle.modulation.specs.Bits.{dataBits, bits}
-use Rattle.modulator.specs.declared.rows.Row.{Row as CodeRow}
-use Rattle.modulator.specs.declared.rows.When.{When as CodeWhen}
-use Rattle.modulator.specs.declared.rows.When.the-variants.{Always, AfterOne, AfterZero, Before010, AtEnd}
+use Rattle.modulator.specs.declared.conversion.Row.{Row as CodeRow}
+use Rattle.modulator.specs.declared.conversion.When.{When as CodeWhen}
+use Rattle.modulator.specs.declared.conversion.When.the-variants.{Always, AfterOne, AfterZero, Before010, AtEnd}
 
 abbrev pub codedWhen : When → CodeWhen
 codedWhen always = Always

@@ -1,6 +1,6 @@
 // The 17PP modulator (13.17.2): the rows of Figure 38, a table made of them, and its steps, a byte of data bits each.
 // Functions with a `requires` are called by the crates of this repository only.
-mod rows;
+mod conversion;
 mod table;
 
 ghost use mathlib.Core.Path.{_≡_};

@@ -2,121 +2,53 @@
 ghost use mathlib.Core.Path.{_≡_};
 ghost use Prim.Native.Nat.{_+_, _*_, _-_, _/_, _%_, _^_, _<_, _≤_};
 ghost use lib.ListN.{length};
-ghost use Rattle.bits.specs.Bits.{number};
-ghost use Rattle.modulation.specs.Modulation.{modulate};
-ghost use Rattle.modulation.specs.Bits.{bits};
-ghost use Rattle.modulation.specs.Pairs.{Pairs, twos};
-ghost use Rattle.modulator.specs.Table.{waits, Waiting, stepTable, stopTable, nibbleTable, lentTable, joined, stepEntry, stopEntry, nibbleEntry, byteEntry, lastEntry, entryAt};
-use crate::rows;
+ghost use Rattle.modulator.specs.Rows.{packedRows};
+ghost use Rattle.modulator.specs.Table.{waits, WaitingNumber, stepTable, stopTable, nibbleTable, lentTable, joined, stepEntry, stopEntry, nibbleEntry, byteEntry, lastEntry, entryAt};
+use crate::conversion;
+use crate::conversion::PackedRows;
 
 // Entry 20 x + s: byte x of data bits in state s; from x = 256 on the last four bits of a frame. It is filled once and lent.
 pub type Table = [u32; 5440];
 
-// The pairs that wait in states 2 w and 2 w + 1, the odd one after a ONE: how many, and which, with zeros behind them.
+// The pairs that wait in states 2 w and 2 w + 1, the odd one after a ONE: how many, and the number of their bits.
 const WAITS: [usize; 10] = [0, 1, 2, 3, 3, 1, 2, 3, 4, 5];
 
-const WAITING: [[u8; 6]; 10] = [
-    [0, 0, 0, 0, 0, 0],
-    [0, 0, 0, 0, 0, 0],
-    [0, 0, 0, 0, 0, 0],
-    [0, 0, 0, 0, 0, 0],
-    [0, 0, 2, 0, 0, 0],
-    [3, 0, 0, 0, 0, 0],
-    [3, 1, 0, 0, 0, 0],
-    [3, 1, 3, 0, 0, 0],
-    [3, 1, 3, 0, 0, 0],
-    [3, 1, 3, 0, 0, 0],
+const WAITING: [u32; 10] = [
+    0,
+    0b00,
+    0b00_00,
+    0b00_00_00,
+    0b00_00_10,
+    0b11,
+    0b11_01,
+    0b11_01_11,
+    0b11_01_11_00,
+    0b11_01_11_00_00,
 ];
 
-// The state behind pair d in state s: entry 4 s + d.
-const NEXT: [u32; 80] = [
-    2,
-    0,
-    1,
-    10,
-    3,
-    0,
-    1,
-    11,
-    4,
-    0,
-    0,
-    0,
-    5,
-    0,
-    0,
-    0,
-    6,
-    0,
-    8,
-    0,
-    7,
-    0,
-    9,
-    0,
-    0,
-    0,
-    1,
-    10,
-    0,
-    0,
-    1,
-    10,
-    0,
-    0,
-    1,
-    10,
-    0,
-    0,
-    1,
-    10,
-    3,
-    12,
-    1,
-    11,
-    2,
-    13,
-    1,
-    10,
-    2,
-    0,
-    1,
-    14,
-    2,
-    0,
-    1,
-    15,
-    16,
-    0,
-    1,
-    11,
-    17,
-    0,
-    1,
-    11,
-    18,
-    0,
-    0,
-    0,
-    19,
-    0,
-    0,
-    0,
-    6,
-    0,
-    9,
-    0,
-    6,
-    0,
-    9,
-    0,
+// The state behind each pair in each state.
+const NEXT: [[u32; 4]; 20] = [
+    [2, 0, 1, 10],
+    [3, 0, 1, 11],
+    [4, 0, 0, 0],
+    [5, 0, 0, 0],
+    [6, 0, 8, 0],
+    [7, 0, 9, 0],
+    [0, 0, 1, 10],
+    [0, 0, 1, 10],
+    [0, 0, 1, 10],
+    [0, 0, 1, 10],
+    [3, 12, 1, 11],
+    [2, 13, 1, 10],
+    [2, 0, 1, 14],
+    [2, 0, 1, 15],
+    [16, 0, 1, 11],
+    [17, 0, 1, 11],
+    [18, 0, 0, 0],
+    [19, 0, 0, 0],
+    [6, 0, 9, 0],
+    [6, 0, 9, 0],
 ];
-
-// What a few pairs give: their modulation bits as a number, and whether a terminating row ended them.
-pub struct Few {
-    pub value: u32,
-    pub terminated: bool,
-}
 
 // How many pairs wait in state s.
 fn waits(s: usize) -> usize
@@ -126,42 +58,12 @@ fn waits(s: usize) -> usize
     WAITS[s / 2]
 }
 
-// The pairs that wait in state s, then pair d.
-fn pairs_at(s: usize, d: u8) -> [u8; 6]
-    requires { ⌜ (s < 20) × (d < 4) ⌝ }
-    ensures { λ r. ⌜ Waiting s d r ⌝ }
+// The pairs that wait in state s.
+fn waiting(s: usize) -> u32
+    requires { ⌜ s < 20 ⌝ }
+    ensures { λ r. ⌜ WaitingNumber s r ⌝ }
 {
-    let n = waits(s);
-    let mut pairs = WAITING[s / 2];
-    pairs[n] = d;
-    pairs
-}
-
-fn wide(byte: u8) -> u32
-    ensures { λ r. ⌜ (r ≡ byte) × (r < 256) ⌝ }
-{
-    byte as u32
-}
-
-// Room for six groups.
-fn no_bytes() -> [u8; 3]
-    ensures { λ r. ⌜ length r ≡ 3 ⌝ }
-{
-    [0u8; 3]
-}
-
-// What a few pairs give, by the rows (modulator).
-fn by_rows(pairs: &[u8], before: bool) -> Few
-    requires { ⌜ Pairs (now pairs) × (length (now pairs) ≤ 6) ⌝ }
-    ensures { λ r. ⌜ ((r .value ≡ number (bits (modulate before (twos (now (pairs .entry))) .groups))) × (r .value < 262144)) × (r .terminated ≡ modulate before (twos (now (pairs .entry))) .terminated) ⌝ }
-{
-    let mut out = no_bytes();
-    let terminated = rows::modulate(pairs, before, &mut out, 0);
-    let all = wide(out[0]) * 65536 + wide(out[1]) * 256 + wide(out[2]);
-    Few {
-        value: all >> (24 - 3 * pairs.len()),
-        terminated,
-    }
+    WAITING[s / 2]
 }
 
 // The state behind pair d in state s.
@@ -169,7 +71,8 @@ fn next_state(s: usize, d: usize) -> u32
     requires { ⌜ (s < 20) × (d < 4) ⌝ }
     ensures { λ r. ⌜ (r ≡ stepEntry s d % 32) × (r < 20) ⌝ }
 {
-    NEXT[4 * s + d]
+    let states = NEXT[s];
+    states[d]
 }
 
 // The k low bits of v cleared.
@@ -180,34 +83,24 @@ fn cleared(v: u32, k: usize) -> u32
     v >> k << k
 }
 
-fn narrow(d: usize) -> u8
-    requires { ⌜ d < 4 ⌝ }
-    ensures { λ r. ⌜ r ≡ d ⌝ }
-{
-    d as u8
-}
-
 // One pair more: the groups that the rows give for all, but for those of the pairs that wait then.
-fn step_entry(s: usize, d: usize) -> u32
-    requires { ⌜ (s < 20) × (d < 4) ⌝ }
+fn step_entry(rows: &PackedRows, s: usize, d: usize) -> u32
+    requires { ⌜ (now rows ≡ packedRows) × ((s < 20) × (d < 4)) ⌝ }
     ensures { λ r. ⌜ r ≡ stepEntry s d ⌝ }
 {
-    let pairs = pairs_at(s, narrow(d));
-    let n = waits(s) + 1;
-    let all = by_rows(&pairs[0..n], s % 2 == 1);
+    let pairs = 4 * waiting(s) + d as u32;
+    let all = conversion::modulate(rows, waits(s) + 1, pairs, s % 2 == 1);
     let next = next_state(s, d);
     let k = 3 * waits(next as usize);
     cleared(all.value, k) * 32 + next
 }
 
 // The end of a frame in state s.
-fn stop_entry(s: usize) -> u32
-    requires { ⌜ s < 20 ⌝ }
+fn stop_entry(rows: &PackedRows, s: usize) -> u32
+    requires { ⌜ (now rows ≡ packedRows) × (s < 20) ⌝ }
     ensures { λ r. ⌜ r ≡ stopEntry s ⌝ }
 {
-    let pairs = pairs_at(s, 0);
-    let n = waits(s);
-    let all = by_rows(&pairs[0..n], s % 2 == 1);
+    let all = conversion::modulate(rows, waits(s), waiting(s), s % 2 == 1);
     if all.terminated {
         return 2 * all.value + 1;
     }
@@ -221,13 +114,14 @@ fn no_steps() -> [u32; 80]
 }
 
 // Entry 4 s + d.
-fn make_steps() -> [u32; 80]
+fn make_steps(rows: &PackedRows) -> [u32; 80]
+    requires { ⌜ now rows ≡ packedRows ⌝ }
     ensures { λ r. ⌜ r ≡ stepTable ⌝ }
 {
     let mut steps = no_steps();
     let mut k = 0;
     while k < 80 {
-        steps[k] = step_entry(k / 4, k % 4);
+        steps[k] = step_entry(rows, k / 4, k % 4);
         k += 1;
     }
     steps
@@ -240,13 +134,14 @@ fn no_stops() -> [u32; 20]
 }
 
 // Entry s.
-fn make_stops() -> [u32; 20]
+fn make_stops(rows: &PackedRows) -> [u32; 20]
+    requires { ⌜ now rows ≡ packedRows ⌝ }
     ensures { λ r. ⌜ r ≡ stopTable ⌝ }
 {
     let mut stops = no_stops();
     let mut k = 0;
     while k < 20 {
-        stops[k] = stop_entry(k);
+        stops[k] = stop_entry(rows, k);
         k += 1;
     }
     stops
@@ -290,10 +185,11 @@ fn no_nibbles() -> [u32; 320]
 }
 
 // Two pairs more: entry 20 x + s.
-fn make_nibbles() -> [u32; 320]
+fn make_nibbles(rows: &PackedRows) -> [u32; 320]
+    requires { ⌜ now rows ≡ packedRows ⌝ }
     ensures { λ r. ⌜ r ≡ nibbleTable ⌝ }
 {
-    let steps = make_steps();
+    let steps = make_steps(rows);
     let mut nibbles = no_nibbles();
     let mut k = 0;
     while k < 320 {
@@ -356,8 +252,9 @@ pub fn fill_table(table: &mut Table)
     requires { ⌜ length (now table) ≡ 5440 ⌝ }
     ensures { λ _. ⌜ now (table .exit) ≡ lentTable ⌝ }
 {
-    let nibbles = make_nibbles();
-    let stops = make_stops();
+    let rows = conversion::packed_rows();
+    let nibbles = make_nibbles(&rows);
+    let stops = make_stops(&rows);
     let mut k = 0;
     while k < 5440 {
         table[k] = entry(&nibbles, &stops, k % 20, k / 20);

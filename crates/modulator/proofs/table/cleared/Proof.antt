@@ -1,6 +1,6 @@
--- `cleared` meets its contract (ByRows). Assumes nothing.
+-- `cleared` meets its contract (Entries). Assumes nothing.
 use borrow.Author.Needs.{needs}
-use Rattle.modulator.proofs.ByRows.{cleared-is}
+use Rattle.modulator.proofs.Entries.{cleared-is}
 use Rattle.modulator.proofs.table.cleared.Statement.{statement}
 use Rattle.modulator.proofs.table.cleared.Tie as tie
 

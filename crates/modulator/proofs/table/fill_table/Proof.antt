@@ -13,6 +13,9 @@ Inv-loop table₀ nibbles stops k₀ table k = ((nibbles ≡ nibbleTable) × (st
 abbrev μ-loop : tie.MeasureT-loop
 μ-loop table₀ nibbles stops k₀ table k = 5440 - k
 
+packed-rows-requires : tie.Need-packed-rows-requires Inv-loop μ-loop
+packed-rows-requires c κs = search needs
+
 make-nibbles-requires : tie.Need-make-nibbles-requires Inv-loop μ-loop
 make-nibbles-requires c κs = search needs
 
@@ -20,7 +23,9 @@ make-stops-requires : tie.Need-make-stops-requires Inv-loop μ-loop
 make-stops-requires c κs = search needs
 
 loop-holds : tie.Need-loop-holds Inv-loop μ-loop
-loop-holds c = ((c .before .make-nibbles .ensures, c .make-stops .ensures), upto-none (c .before .before .pre))
+loop-holds c =
+    let nibbles = c .before .before in
+    ((nibbles .make-nibbles .ensures, c .make-stops .ensures), upto-none (nibbles .before .before .before .pre))
 
 entry-requires : tie.Need-entry-requires Inv-loop μ-loop
 entry-requires c κs = search needs
@@ -50,6 +55,7 @@ fill-table-spec =
     (tie.spec
     Inv-loop
     μ-loop
+    packed-rows-requires
     make-nibbles-requires
     make-stops-requires
     loop-holds

@@ -8,10 +8,10 @@ use Rattle.modulator.proofs.table.make_nibbles.Statement.{statement}
 use Rattle.modulator.proofs.table.make_nibbles.Tie as tie
 
 abbrev Inv-loop : tie.InvT-loop
-Inv-loop steps nibbles₀ k₀ nibbles k = (steps ≡ stepTable) × Upto 0 (λ k. nibbleEntry (k % 20) (k / 20)) 320 k nibbles
+Inv-loop rows steps nibbles₀ k₀ nibbles k = (steps ≡ stepTable) × Upto 0 (λ k. nibbleEntry (k % 20) (k / 20)) 320 k nibbles
 
 abbrev μ-loop : tie.MeasureT-loop
-μ-loop steps nibbles₀ k₀ nibbles k = 320 - k
+μ-loop rows steps nibbles₀ k₀ nibbles k = 320 - k
 
 make-steps-requires : tie.Need-make-steps-requires Inv-loop μ-loop
 make-steps-requires c κs = search needs

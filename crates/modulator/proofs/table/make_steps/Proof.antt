@@ -7,10 +7,10 @@ use Rattle.modulator.proofs.table.make_steps.Statement.{statement}
 use Rattle.modulator.proofs.table.make_steps.Tie as tie
 
 abbrev Inv-loop : tie.InvT-loop
-Inv-loop steps₀ k₀ steps k = Upto 0 (λ k. stepEntry (k / 4) (k % 4)) 80 k steps
+Inv-loop rows steps₀ k₀ steps k = Upto 0 (λ k. stepEntry (k / 4) (k % 4)) 80 k steps
 
 abbrev μ-loop : tie.MeasureT-loop
-μ-loop steps₀ k₀ steps k = 80 - k
+μ-loop rows steps₀ k₀ steps k = 80 - k
 
 no-steps-requires : tie.Need-no-steps-requires Inv-loop μ-loop
 no-steps-requires c κs = search needs

@@ -7,10 +7,10 @@ use Rattle.modulator.proofs.table.make_stops.Statement.{statement}
 use Rattle.modulator.proofs.table.make_stops.Tie as tie
 
 abbrev Inv-loop : tie.InvT-loop
-Inv-loop stops₀ k₀ stops k = Upto 0 stopEntry 20 k stops
+Inv-loop rows stops₀ k₀ stops k = Upto 0 stopEntry 20 k stops
 
 abbrev μ-loop : tie.MeasureT-loop
-μ-loop stops₀ k₀ stops k = 20 - k
+μ-loop rows stops₀ k₀ stops k = 20 - k
 
 no-stops-requires : tie.Need-no-stops-requires Inv-loop μ-loop
 no-stops-requires c κs = search needs

@@ -1,35 +1,32 @@
--- `step_entry` meets its contract (ByRows). Assumes nothing.
-use Prim.Native.Nat.{_+_, _-_}
+-- `step_entry` meets its contract (Entries). Assumes nothing.
+use native.Mathlib.Omega.{arith}
+use Rattle.modulator.proofs.Entries.{more-small, step-coded}
 use borrow.Author.Needs.{needs}
-use Rattle.modulator.proofs.ByRows.{pairs-part, step-coded}
 use Rattle.modulator.proofs.table.step_entry.Statement.{statement}
 use Rattle.modulator.proofs.table.step_entry.Tie as tie
 
-narrow-requires : tie.Need-narrow-requires
-narrow-requires c κs = search needs
+waiting-requires : tie.Need-waiting-requires
+waiting-requires c κs = search needs
 
-pairs-at-requires : tie.Need-pairs-at-requires
-pairs-at-requires c κs = search needs
+mul-pairs : tie.Need-mul-pairs
+mul-pairs c = omega (arith, c .waiting .ensures .fits)
+
+cast-pairs : tie.Need-cast-pairs
+cast-pairs c = search needs
+
+add-pairs : tie.Need-add-pairs
+add-pairs c = omega (arith, c .waiting .ensures .fits)
 
 waits-requires : tie.Need-waits-requires
 waits-requires c κs = search needs
 
-add-n : tie.Need-add-n
-add-n c = search needs
+add-modulate : tie.Need-add-modulate
+add-modulate c = search needs
 
-sub-by-rows : tie.Need-sub-by-rows
-sub-by-rows c = search needs
-
-part-by-rows-start : tie.Need-part-by-rows-start
-part-by-rows-start c = search needs
-
-part-by-rows-end : tie.Need-part-by-rows-end
-part-by-rows-end c = search needs
-
-by-rows-requires : tie.Need-by-rows-requires
-by-rows-requires c κs =
-    let made = c .before .before .before in
-    pairs-part (made .pairs-at .result) (c .before .before .waits .result + 1 - 0) (made .pairs-at .ensures .are-pairs) (made .pairs-at .ensures .size)
+modulate-requires : tie.Need-modulate-requires
+modulate-requires c κs = let read = c .before in
+    let start = read .before in
+    (start .pre .0, (omega (arith, c .waits .ensures .1), more-small (start .args .s) (c .waits .result) (read .waiting .result) (c .waits .ensures .0) (read .waiting .ensures) (start .args .d) (start .pre .1 .0) (start .pre .1 .1)))
 
 next-state-requires : tie.Need-next-state-requires
 next-state-requires c κs = search needs
@@ -53,27 +50,26 @@ add-result : tie.Need-add-result
 add-result c = search needs
 
 returns : tie.Need-returns
-returns c =
-    let counted = c .before in
-    let next = counted .before in
+returns c = let count = c .before in
+    let next = count .before in
     let ran = next .before in
-    let count = ran .before .before .before in
-    let made = count .before in
-    let start = made .before .before in
-    step-coded (start .args .s) (made .before .narrow .result) (count .waits .result) (made .pairs-at .ensures) (count .waits .ensures .0) (start .pre .0) (start .pre .1) (made .before .narrow .ensures) (ran .by-rows .ensures .0 .0) (next .next-state .ensures .0) (counted .waits2 .ensures .0) (c .cleared .ensures .0)
+    let waits = ran .before in
+    let read = waits .before in
+    let start = read .before in
+    step-coded (start .args .s) (waits .waits .result) (read .waiting .result) (waits .waits .ensures .0) (read .waiting .ensures) (start .args .d) (start .pre .1 .0) (start .pre .1 .1)
+    (ran .modulate .ensures) (next .next-state .ensures .0) (count .waits2 .ensures .0) (c .cleared .ensures .0)
 
 pub step-entry-spec : {M : Type 1} → statement M
 step-entry-spec =
     tie.close
     (tie.spec
-    narrow-requires
-    pairs-at-requires
+    waiting-requires
+    mul-pairs
+    cast-pairs
+    add-pairs
     waits-requires
-    add-n
-    sub-by-rows
-    part-by-rows-start
-    part-by-rows-end
-    by-rows-requires
+    add-modulate
+    modulate-requires
     next-state-requires
     cast-waits
     waits-requires-2

@@ -1,6 +1,6 @@
--- `waits` meets its contract (ByRows). Assumes nothing.
+-- `waits` meets its contract (Entries). Assumes nothing.
 use borrow.Author.Needs.{needs}
-use Rattle.modulator.proofs.ByRows.{count-is}
+use Rattle.modulator.proofs.Entries.{count-is}
 use Rattle.modulator.proofs.table.waits.Statement.{statement}
 use Rattle.modulator.proofs.table.waits.Tie as tie
 
