@@ -60,7 +60,7 @@ module _ (w i d : ℕ) (hw : w < 65536) (hi : i < 16) (hd : d < 2) where
 
   -- as the code has it
   pub inserted-is : top * 2 ^ i % 2 ^ 64 + w % (1 * 2 ^ (i + 1) % 2 ^ 64) / 2 ≡ top * 2 ^ i + rest
-  inserted-is = ap₂ (λ (a b : ℕ). a + w % b / 2) top-shifted (weight (i + 1) (omega arith))
+  inserted-is = ap₂ (λ (a b : ℕ). a + w % b / 2) top-shifted (weight 64 (i + 1) (omega arith))
 
   pub inserted-fits : top * 2 ^ i % 2 ^ 64 + w % (1 * 2 ^ (i + 1) % 2 ^ 64) / 2 < 2 ^ 64
   inserted-fits = rw inserted-is (omega (arith, inserted-lt))

@@ -82,7 +82,7 @@ first-waits zero h = refl
 first-waits (suc zero) h = refl
 first-waits (suc (suc s)) h = absurd (omega arith)
 
-few-wait : (s : ℕ) → s < 20 → waits s < 6
+pub few-wait : (s : ℕ) → s < 20 → waits s < 6
 unfolding all waits
 few-wait s h = bounded-below 20 6 waits tt s h
 

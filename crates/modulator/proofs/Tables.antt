@@ -1,17 +1,24 @@
 -- The tables: what stands where, and how large. Assumes nothing.
-use mathlib.Core.Path.{_≡_, sym, ap, ap₂, subst, _∙_}
+use mathlib.Core.Path.{_≡_, sym, ap, ap₂, subst, subst₂, _∙_}
 use mathlib.Core.List.{List}
 use Prim.Native.Nat.{ℕ, _+_, _*_, _-_, _/_, _%_, _^_, _<_, _≤_}
+use native.Mathlib.Nat.{lt-of-lt-of-le}
 use native.Mathlib.Omega.{arith}
 use borrow.Author.Tests.{lt-ltb, le-ltb}
-use lib.ListN.{getD}
-use lib.Pow.{shl-exact, shl-lt, pow-pos}
+use lib.ListN.{length, getD}
+use lib.Pow.{shl-exact, shl-lt, pow-pos, pow-mono}
 use Rattle.laws.specs.Tabulate.{tabulate}
 use Rattle.laws.proofs.Tabulate.{getD-tabulate}
-use Rattle.laws.proofs.Finite.{all, all₂, bounded-below, bounded-below₂}
+use Rattle.laws.proofs.Finite.{all, bounded-below}
 use Rattle.bits.specs.Bits.{number}
-use Rattle.modulator.specs.Table.{stepEntry, stopEntry, joined, nibbleEntry, byteEntry, lastEntry, entryAt, stepTable, stopTable, nibbleTable, lentTable}
-use Rattle.modulator.proofs.Runs.{step-moves, nibble-moves}
+use Rattle.bits.proofs.Number.{number-lt}
+use Rattle.modulation.specs.Modulation.{Two}
+use Rattle.modulation.specs.Bits.{bits}
+use Rattle.modulation.proofs.Bits.{length-bits}
+use Rattle.modulation.proofs.Fronts.{bits-groups}
+use Rattle.modulator.specs.Table.{waits, stepEntry, stopEntry, joined, nibbleEntry, byteEntry, lastEntry, entryAt, stepTable, stopTable, nibbleTable, lentTable}
+use Rattle.modulator.proofs.Runs.{Moves, moves-on, step-moves, nibble-moves}
+use Rattle.modulator.proofs.Holding.{few-wait}
 
 -- ---- bounds
 
@@ -21,23 +28,33 @@ step-state s d hs hd = step-moves s d hs hd .below
 pub nibble-state : (s x : ℕ) → s < 20 → x < 16 → nibbleEntry s x % 32 < 20
 nibble-state s x hs hx = nibble-moves s x hs hx .below
 
+-- a group for each pair taken and for each of at most five that waited
+moves-lt : {s v t : ℕ} {ds : List Two} → s < 20 → Moves s ds v t → v < 2 ^ (3 * (5 + length ds))
+moves-lt {s} {v} {t} {ds} hs m =
+    let size : length (bits (m .out)) + 3 * waits t ≡ 3 * (waits s + length ds) = omega (arith, length-bits (m .out), m .sized) in
+    let below : v < 2 ^ (3 * (waits s + length ds)) =
+    subst₂ (λ (x k : ℕ). x < 2 ^ k) (sym (m .valued)) size (shl-lt (length (bits (m .out))) (3 * waits t) (number-lt (bits (m .out)) (bits-groups (m .out)))) in
+    lt-of-lt-of-le below (pow-mono {i = 3 * (waits s + length ds)} {j = 3 * (5 + length ds)} (omega (arith, few-wait s hs)))
+
 pub step-small : (s d : ℕ) → s < 20 → d < 4 → stepEntry s d < 8388608
-unfolding all all₂ stepEntry number
-step-small s d hs hd = bounded-below₂ 20 4 8388608 (λ s d. stepEntry s d) tt s d hs hd
+step-small s d hs hd =
+    let below : stepEntry s d / 32 < 262144 = moves-lt hs (step-moves s d hs hd) in
+    omega arith
 
 pub nibble-small : (s x : ℕ) → s < 20 → x < 16 → nibbleEntry s x < 67108864
-unfolding all all₂ stepEntry joined nibbleEntry number
-nibble-small s x hs hx = bounded-below₂ 20 16 67108864 (λ s x. nibbleEntry s x) tt s x hs hx
+nibble-small s x hs hx =
+    let below : nibbleEntry s x / 32 < 2097152 = moves-lt hs (nibble-moves s x hs hx) in
+    omega arith
+
+-- both nibbles of a byte
+pub byte-fits : (s x : ℕ) → s < 20 → x < 256 → nibbleEntry s (x / 16) / 32 * 64 + nibbleEntry (nibbleEntry s (x / 16) % 32) (x % 16) / 32 < 134217728
+byte-fits s x hs hx =
+    let first = nibble-moves s (x / 16) hs (omega arith) in
+    moves-lt hs (moves-on first (nibble-moves (nibbleEntry s (x / 16) % 32) (x % 16) (first .below) (omega arith)))
 
 pub stop-small : (s : ℕ) → s < 20 → stopEntry s < 16384
 unfolding all stopEntry number
 stop-small s hs = bounded-below 20 16384 (λ s. stopEntry s) tt s hs
-
--- both nibbles of a byte
-pub byte-fits : (s x : ℕ) → s < 20 → x < 256 → nibbleEntry s (x / 16) / 32 * 64 + nibbleEntry (nibbleEntry s (x / 16) % 32) (x % 16) / 32 < 134217728
-unfolding all all₂ stepEntry joined nibbleEntry number
-byte-fits s x hs hx =
-    bounded-below₂ 20 256 134217728 (λ s x. nibbleEntry s (x / 16) / 32 * 64 + nibbleEntry (nibbleEntry s (x / 16) % 32) (x % 16) / 32) tt s x hs hx
 
 -- ---- places
 
@@ -109,11 +126,11 @@ module _ (s x : ℕ) {a b t : ℕ} where
 
 -- ---- a shifted 1
 
-pub weight : (lag : ℕ) → lag < 64 → 1 * 2 ^ lag % 2 ^ 64 ≡ 2 ^ lag
-weight lag h = shl-exact {a = 1} 1 lag 64 (omega arith) (omega arith) ∙ omega arith
+pub weight : (width k : ℕ) → k < width → 1 * 2 ^ k % 2 ^ width ≡ 2 ^ k
+weight width k h = shl-exact {a = 1} 1 k width (omega arith) (omega arith) ∙ omega arith
 
-pub weight-some : (lag : ℕ) → lag < 64 → 0 < 1 * 2 ^ lag % 2 ^ 64
-weight-some lag h = rw (weight lag h) (pow-pos lag)
+pub weight-some : (width k : ℕ) → k < width → 0 < 1 * 2 ^ k % 2 ^ width
+weight-some width k h = rw (weight width k h) (pow-pos k)
 
 -- bits put k places higher, where there is room
 module _ (v lag last : ℕ) (h : v < 2 ^ (lag + 6)) (few : lag ≤ 34) where

@@ -10,10 +10,10 @@ shl-result : tie.Need-shl-result
 shl-result c = search needs
 
 rem-result : tie.Need-rem-result
-rem-result c = weight-some (c .args .lag) (c .pre)
+rem-result c = weight-some 64 (c .args .lag) (c .pre)
 
 returns : tie.Need-returns
-returns c = ap (λ (w : ℕ). c .args .v % w) (weight (c .args .lag) (c .pre))
+returns c = ap (λ (w : ℕ). c .args .v % w) (weight 64 (c .args .lag) (c .pre))
 
 pub low-spec : {M : Type 1} → statement M
 low-spec = tie.close (tie.spec shl-result rem-result returns)

@@ -27,7 +27,7 @@ shl-result-2 : tie.Need-shl-result-2
 shl-result-2 c = search needs
 
 rem-result : tie.Need-rem-result
-rem-result c = weight-some (c .args .i + 1) (omega arith)
+rem-result c = weight-some 64 (c .args .i + 1) (omega arith)
 
 add-result-3 : tie.Need-add-result-3
 add-result-3 c = record { fits = inserted-fits (c .args .w) (c .args .i) (c .args .d) (c .pre .0) (c .pre .1 .0) (c .pre .1 .1) }
