@@ -16,7 +16,7 @@ use Rattle.modulation.proofs.Tests.{beq-same}
 use Rattle.modulator.specs.declared.conversion.Row.{Row as CodeRow}
 use Rattle.modulator.specs.declared.conversion.When.{When as CodeWhen}
 use Rattle.modulator.specs.declared.conversion.When.the-variants.{Always, AfterOne, AfterZero, Before010, AtEnd}
-use Rattle.modulator.specs.Rows.{Sized, codedWhen, coded, whenNumber, whenAt, packed}
+use Rattle.modulator.specs.Rows.{IsRow, Sized, codedWhen, coded, whenNumber, whenAt, packed}
 
 pub row-sized : (k : ℕ) → k < 16 → Sized k (length (rowAt k .pairs))
 unfolding all
@@ -47,16 +47,16 @@ unfolding all number
 groups-lt k h = bounded-below 16 4096 (λ k. number (bits (rowAt k .groups))) tt k h
 
 -- row k of the code's table
-module _ (k : ℕ) (r : CodeRow) (h : k < 16) (e : r ≡ coded (rowAt k)) where
+module _ {k : ℕ} {r : CodeRow} (row : IsRow k r) where
   pub code-sized : Sized k (r .0)
-  code-sized = subst (Sized k) (sym (ap (λ (s : CodeRow). s .0) e)) (row-sized k h)
+  code-sized = subst (Sized k) (sym (ap (λ (s : CodeRow). s .0) (row .is))) (row-sized k (row .below))
 
   pub code-leads : eqb (r .2 / 2 ^ (3 * (r .0 - 1))) 0b010 ≡ startsWith010 (rowAt k .groups)
   unfolding all number
   code-leads =
-      ap (λ (s : CodeRow). eqb (s .2 / 2 ^ (3 * (s .0 - 1))) 0b010) e
+      ap (λ (s : CodeRow). eqb (s .2 / 2 ^ (3 * (s .0 - 1))) 0b010) (row .is)
       ∙ beq-same (eqb (number (bits (rowAt k .groups)) / 2 ^ (3 * (length (rowAt k .pairs) - 1))) 0b010) (startsWith010 (rowAt k .groups))
-      (all-at 16 (λ k. Bool·beq (eqb (number (bits (rowAt k .groups)) / 2 ^ (3 * (length (rowAt k .pairs) - 1))) 0b010) (startsWith010 (rowAt k .groups))) tt k h)
+      (all-at 16 (λ k. Bool·beq (eqb (number (bits (rowAt k .groups)) / 2 ^ (3 * (length (rowAt k .pairs) - 1))) 0b010) (startsWith010 (rowAt k .groups))) tt k (row .below))
 
   -- its modulation bits behind those of v
   module _ (v : ℕ) (small : v < 262144) where
@@ -66,24 +66,24 @@ module _ (k : ℕ) (r : CodeRow) (h : k < 16) (e : r ≡ coded (rowAt k)) where
     pub code-bits : v * 2 ^ (3 * r .0) % 2 ^ 32 + r .2 ≡ v * 2 ^ length (bits (rowAt k .groups)) + number (bits (rowAt k .groups))
     code-bits =
         let place : 3 * r .0 ≡ length (bits (rowAt k .groups)) = omega (arith, code-sized .groups-are, length-bits (rowAt k .groups)) in
-        ap₂ _+_ (shifted ∙ ap (λ (n : ℕ). v * 2 ^ n) place) (ap (λ (s : CodeRow). s .2) e)
+        ap₂ _+_ (shifted ∙ ap (λ (n : ℕ). v * 2 ^ n) place) (ap (λ (s : CodeRow). s .2) (row .is))
 
     pub code-fits : v * 2 ^ (3 * r .0) % 2 ^ 32 + r .2 < 2 ^ 32
     code-fits =
         let below : v * 2 ^ (3 * r .0) < 2 ^ 30 = lt-of-lt-of-le (shl-lt {a = v} 18 (3 * r .0) small) (pow-mono {i = 18 + 3 * r .0} {j = 30} (omega (arith, code-sized .most))) in
-        let few : r .2 < 4096 = rw (ap (λ (s : CodeRow). s .2) e) (groups-lt k h) in
+        let few : r .2 < 4096 = rw (ap (λ (s : CodeRow). s .2) (row .is)) (groups-lt k (row .below)) in
         omega (arith, shifted)
 
   pub code-last : eqb (r .2 % 2) 1 ≡ lastBit false (rowAt k .groups)
   unfolding all number
   code-last =
-      ap (λ (s : CodeRow). eqb (s .2 % 2) 1) e
+      ap (λ (s : CodeRow). eqb (s .2 % 2) 1) (row .is)
       ∙ beq-same (eqb (number (bits (rowAt k .groups)) % 2) 1) (lastBit false (rowAt k .groups))
-      (all-at 16 (λ k. Bool·beq (eqb (number (bits (rowAt k .groups)) % 2) 1) (lastBit false (rowAt k .groups))) tt k h)
+      (all-at 16 (λ k. Bool·beq (eqb (number (bits (rowAt k .groups)) % 2) 1) (lastBit false (rowAt k .groups))) tt k (row .below))
 
   -- when it may be taken
   pub code-when : rowAt k .when ≡ whenOf (r .3)
-  code-when = sym (when-back (rowAt k .when)) ∙ ap (λ (s : CodeRow). whenOf (s .3)) (sym e)
+  code-when = sym (when-back (rowAt k .when)) ∙ ap (λ (s : CodeRow). whenOf (s .3)) (sym (row .is))
 
   pub code-terminates : {w : CodeWhen} → r .3 ≡ w → terminates (whenOf w) ≡ terminates (rowAt k .when)
   code-terminates q = ap (λ (w : CodeWhen). terminates (whenOf w)) (sym q) ∙ ap terminates (sym code-when)

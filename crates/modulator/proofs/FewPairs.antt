@@ -17,7 +17,7 @@ use Rattle.modulation.specs.Bits.{pairs, dataBits}
 use Rattle.modulation.proofs.Bits.{length-pairs, length-dataBits, pairs-dataBits, dataBits-pairs, dataBits-append}
 use Rattle.modulation.proofs.Fronts.{bits-dataBits, pairs-start}
 use Rattle.modulator.specs.declared.conversion.Row.{Row as CodeRow}
-use Rattle.modulator.specs.Rows.{coded}
+use Rattle.modulator.specs.Rows.{IsRow}
 use Rattle.modulator.specs.Few.{fewPairs}
 use Rattle.modulator.proofs.CodedRows.{code-sized}
 use Rattle.modulator.proofs.Put.{number-bits}
@@ -88,17 +88,17 @@ test-not len left x y e l = sym (e ∙ ap (λ (b : Bool). b && eqb x y) (lt-leb 
 test-if : {s : Bool} (len left x y : ℕ) → s ≡ (leb len left && eqb x y) → len ≤ left → eqb x y ≡ s
 test-if len left x y e l = sym (e ∙ ap (λ (b : Bool). b && eqb x y) (le-leb len left l))
 
-module _ (k : ℕ) (r : CodeRow) (h : k < 16) (e : r ≡ coded (rowAt k)) (n p : ℕ) where
+module _ {k : ℕ} {r : CodeRow} (row : IsRow k r) (n p : ℕ) where
   pub stands-not : n < r .0 → false ≡ starts twoNumber (rowAt k .pairs) (fewPairs n p)
   stands-not l =
       let len = length (rowAt k .pairs) in
       test-not len (length (fewPairs n p)) (number (dataBits (take len (fewPairs n p)))) (number (dataBits (rowAt k .pairs)))
-      (pairs-start (rowAt k .pairs) (fewPairs n p)) (omega (arith, code-sized k r h e .pairs-are, few-size n p))
+      (pairs-start (rowAt k .pairs) (fewPairs n p)) (omega (arith, code-sized row .pairs-are, few-size n p))
 
   pub stands-if : p < 2 ^ (2 * n) → r .0 ≤ n → eqb (p / 2 ^ (2 * (n - r .0))) (r .1) ≡ starts twoNumber (rowAt k .pairs) (fewPairs n p)
   stands-if small l =
       let len = length (rowAt k .pairs) in
-      ap (λ (s : CodeRow). eqb (p / 2 ^ (2 * (n - s .0))) (s .1)) e
+      ap (λ (s : CodeRow). eqb (p / 2 ^ (2 * (n - s .0))) (s .1)) (row .is)
       ∙ ap (λ (x : ℕ). eqb x (number (dataBits (rowAt k .pairs)))) (few-front n p small len)
       ∙ test-if len (length (fewPairs n p)) (number (dataBits (take len (fewPairs n p)))) (number (dataBits (rowAt k .pairs)))
-      (pairs-start (rowAt k .pairs) (fewPairs n p)) (omega (arith, code-sized k r h e .pairs-are, few-size n p))
+      (pairs-start (rowAt k .pairs) (fewPairs n p)) (omega (arith, code-sized row .pairs-are, few-size n p))

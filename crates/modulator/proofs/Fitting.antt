@@ -15,7 +15,7 @@ use Rattle.modulation.proofs.Fronts.{pairs-start}
 use Rattle.modulation.proofs.Words.{drop-behind, skip, nextBit}
 use Rattle.modulator.specs.declared.conversion.Row.{Row as CodeRow}
 use Rattle.modulator.specs.declared.conversion.When.{When as CodeWhen}
-use Rattle.modulator.specs.Rows.{coded}
+use Rattle.modulator.specs.Rows.{IsRow}
 use Rattle.modulator.specs.Few.{fewPairs}
 use Rattle.modulator.proofs.CodedRows.{code-sized, whenOf, code-when}
 use Rattle.modulator.proofs.FewPairs.{few-size, few-rest}
@@ -33,26 +33,27 @@ module _ (n p : ℕ) (before : Bool) where
 
   -- ---- the condition
 
-  module _ (k : ℕ) (r : CodeRow) (h : k < 16) (e : r ≡ coded (rowAt k)) where
+  module _ {k : ℕ} {r : CodeRow} (row : IsRow k r) where
     abbrev allowedFor : When → Bool
     allowedFor w = allowed (rowAt k) w before ds (modulateFrom (tail ds))
 
     pub allowed-if : {w : CodeWhen} {y : Bool} → r .3 ≡ w → y ≡ allowedFor (whenOf w) → y ≡ allowedFor (rowAt k .when)
-    allowed-if q a = a ∙ ap allowedFor (ap whenOf (sym q) ∙ sym (code-when k r h e))
+    allowed-if q a = a ∙ ap allowedFor (ap whenOf (sym q) ∙ sym (code-when row))
 
-    pub allowed-before-010 : {rest : ℕ} {y : Bool} → p < 2 ^ (2 * n) → rest ≡ p % 2 ^ (2 * (n - r .0)) → y ≡ startsWith010 (modulate false (fewPairs (n - r .0) rest) .groups) → y ≡ allowedFor before-010
+    pub allowed-before-010 : {rest : ℕ} {y : Bool} → p < 2 ^ (2 * n) → rest ≡ p % 2 ^ (2 * (n - r .0))
+        → y ≡ startsWith010 (modulate false (fewPairs (n - r .0) rest) .groups) → y ≡ allowedFor before-010
     allowed-before-010 {rest} small er q =
         let len = length (rowAt k .pairs) in
         q
         ∙ ap (λ (l : List Two). startsWith010 (modulate false l .groups)) (ap (fewPairs (n - r .0)) er ∙ few-rest n p small (r .0))
-        ∙ ap (λ (m : ℕ). startsWith010 (modulate false (drop m ds) .groups)) (code-sized k r h e .pairs-are)
+        ∙ ap (λ (m : ℕ). startsWith010 (modulate false (drop m ds) .groups)) (code-sized row .pairs-are)
         ∙ next-010 false (drop len ds)
         ∙ sym (next-010 (nextBit (rowAt k)) (drop len ds))
         ∙ ap (λ (f : Modulated). startsWith010 (f .groups))
-        (sym (skip (tail ds) (len - 1) (nextBit (rowAt k)) ∙ ap (modulate (nextBit (rowAt k))) (behind-word ds len (omega (arith, code-sized k r h e)))))
+        (sym (skip (tail ds) (len - 1) (nextBit (rowAt k)) ∙ ap (modulate (nextBit (rowAt k))) (behind-word ds len (omega (arith, code-sized row)))))
 
     pub allowed-at-end : eqb (r .0) n ≡ allowedFor at-end
-    allowed-at-end = ap (λ (m : ℕ). eqb m n) (code-sized k r h e .pairs-are) ∙ ap (eqb (length (rowAt k .pairs))) (sym (few-size n p))
+    allowed-at-end = ap (λ (m : ℕ). eqb m n) (code-sized row .pairs-are) ∙ ap (eqb (length (rowAt k .pairs))) (sym (few-size n p))
 
   -- ---- the row
 

@@ -44,6 +44,11 @@ packed r = 0x800000 * r .0 + 0x100000 * whenNumber (r .3) + 0x1000 * r .1 + r .2
 unfoldable pub packedRows : List ℕ
 packedRows = tabulate 16 (λ k. packed (coded (rowAt k)))
 
+-- r is row k
+pub record IsRow (k : ℕ) (r : CodeRow) : Type 0 where
+  pub below : k < 16
+  pub is : r ≡ coded (rowAt k)
+
 -- row k has n pairs and as many groups, 1 to 4
 pub record Sized (k n : ℕ) : Type 0 where
   pub pairs-are : n ≡ length (rowAt k .pairs)

@@ -7,7 +7,7 @@ ghost use lib.ListN.{length};
 ghost use Rattle.bits.specs.Bits.{number};
 ghost use Rattle.modulation.specs.Modulation.{twoNumber, rowAt, starts, startsWith010, lastBit, allowed, fits, terminates, modulateFrom, modulate};
 ghost use Rattle.modulation.specs.Bits.{bits};
-ghost use Rattle.modulator.specs.Rows.{coded, whenNumber, whenAt, packed, packedRows, Sized};
+ghost use Rattle.modulator.specs.Rows.{coded, whenNumber, whenAt, packed, packedRows, IsRow, Sized};
 ghost use Rattle.modulator.specs.Few.{fewPairs, standingRow, Fitting, Given};
 
 // When a row may be taken.
@@ -54,7 +54,7 @@ pub struct Few {
 // Row k of the table.
 fn table_row(k: usize) -> Row
     requires { ⌜ k < 16 ⌝ }
-    ensures { λ r. ⌜ r ≡ coded (rowAt k) ⌝ }
+    ensures { λ r. ⌜ IsRow k r ⌝ }
 {
     ROWS[k]
 }
@@ -110,7 +110,7 @@ pub fn packed_rows() -> PackedRows
 // Row k.
 fn row_at(rows: &PackedRows, k: usize) -> Row
     requires { ⌜ (now rows ≡ packedRows) × (k < 16) ⌝ }
-    ensures { λ r. ⌜ r ≡ coded (rowAt k) ⌝ }
+    ensures { λ r. ⌜ IsRow k r ⌝ }
 {
     let row = rows[k];
     let when = when_at((row >> 20) % 8);

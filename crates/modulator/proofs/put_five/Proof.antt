@@ -53,8 +53,13 @@ same-length c = search needs
 
 returns : tie.Need-returns
 returns c =
-    let start = c .before .before .before .before .before .before in
-    put-five (start .args .out .now) (start .args .at) (start .args .v) (c .before .before .before .before .byte .result) (c .before .before .before .byte2 .result) (c .before .before .byte3 .result) (c .before .byte4 .result) (c .byte5 .result) (start .pre) (c .before .before .before .before .byte .ensures) (c .before .before .before .byte2 .ensures) (c .before .before .byte3 .ensures) (c .before .byte4 .ensures) (c .byte5 .ensures)
+    let four = c .before in
+    let three = four .before in
+    let two = three .before in
+    let one = two .before in
+    let start = one .before .before in
+    put-five (start .args .out .now) (start .args .at) (start .args .v) (one .byte .result) (two .byte2 .result) (three .byte3 .result) (four .byte4 .result) (c .byte5 .result)
+    (start .pre) (one .byte .ensures) (two .byte2 .ensures) (three .byte3 .ensures) (four .byte4 .ensures) (c .byte5 .ensures)
 
 pub put-five-spec : {M : Type 1} → statement M
 put-five-spec =

@@ -35,8 +35,11 @@ same-length c = search needs
 
 returns : tie.Need-returns
 returns c =
-    let start = c .before .before .before .before in
-    put-three (start .args .out .now) (start .args .at) (start .args .v) (c .before .before .byte .result) (c .before .byte2 .result) (c .byte3 .result) (start .pre) (c .before .before .byte .ensures) (c .before .byte2 .ensures) (c .byte3 .ensures)
+    let two = c .before in
+    let one = two .before in
+    let start = one .before .before in
+    put-three (start .args .out .now) (start .args .at) (start .args .v) (one .byte .result) (two .byte2 .result) (c .byte3 .result)
+    (start .pre) (one .byte .ensures) (two .byte2 .ensures) (c .byte3 .ensures)
 
 pub put-three-spec : {M : Type 1} → statement M
 put-three-spec =

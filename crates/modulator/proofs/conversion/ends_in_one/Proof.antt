@@ -1,4 +1,4 @@
--- `ends_in_one` meets its contract (Rows). Assumes nothing.
+-- `ends_in_one` meets its contract (CodedRows). Assumes nothing.
 use borrow.Author.Needs.{needs}
 use Rattle.modulator.proofs.CodedRows.{code-last}
 use Rattle.modulator.proofs.conversion.ends_in_one.Statement.{statement}
@@ -8,7 +8,7 @@ row-at-requires : tie.Need-row-at-requires
 row-at-requires c κs = search needs
 
 returns : tie.Need-returns
-returns c = code-last (c .before .before .args .k) _ (search needs) (c .before .row-at .ensures)
+returns c = code-last (c .before .row-at .ensures)
 
 pub ends-in-one-spec : {M : Type 1} → statement M
 ends-in-one-spec = tie.close (tie.spec row-at-requires returns)

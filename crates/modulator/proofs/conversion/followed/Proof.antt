@@ -9,22 +9,22 @@ row-at-requires : tie.Need-row-at-requires
 row-at-requires c κs = search needs
 
 mul-result : tie.Need-mul-result
-mul-result c = let row = c .before in omega (arith, code-sized (row .before .args .k) (row .row-at .result) (row .before .pre .1 .0) (row .row-at .ensures))
+mul-result c = omega (arith, code-sized (c .before .row-at .ensures))
 
 cast-result : tie.Need-cast-result
-cast-result c = let row = c .before in omega (arith, code-sized (row .before .args .k) (row .row-at .result) (row .before .pre .1 .0) (row .row-at .ensures))
+cast-result c = omega (arith, code-sized (c .before .row-at .ensures))
 
 shl-result : tie.Need-shl-result
-shl-result c = let row = c .before in omega (arith, code-sized (row .before .args .k) (row .row-at .result) (row .before .pre .1 .0) (row .row-at .ensures))
+shl-result c = omega (arith, code-sized (c .before .row-at .ensures))
 
 cast-result-2 : tie.Need-cast-result-2
 cast-result-2 c = search needs
 
 add-result : tie.Need-add-result
-add-result c = let row = c .before .before in record { fits = code-fits (row .before .args .k) (row .row-at .result) (row .before .pre .1 .0) (row .row-at .ensures) (row .before .args .value) (row .before .pre .1 .1) }
+add-result c = let row = c .before .before in record { fits = code-fits (row .row-at .ensures) (row .before .args .value) (row .before .pre .1 .1) }
 
 returns : tie.Need-returns
-returns c = let row = c .before .before in code-bits (row .before .args .k) (row .row-at .result) (row .before .pre .1 .0) (row .row-at .ensures) (row .before .args .value) (row .before .pre .1 .1)
+returns c = let row = c .before .before in code-bits (row .row-at .ensures) (row .before .args .value) (row .before .pre .1 .1)
 
 pub followed-spec : {M : Type 1} → statement M
 followed-spec =

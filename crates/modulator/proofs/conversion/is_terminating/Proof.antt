@@ -1,4 +1,4 @@
--- `is_terminating` meets its contract, by the row's condition (Rows). Assumes nothing.
+-- `is_terminating` meets its contract, by the row's condition (CodedRows). Assumes nothing.
 use borrow.Author.Needs.{needs}
 use Rattle.modulator.proofs.CodedRows.{code-terminates}
 use Rattle.modulator.proofs.conversion.is_terminating.Statement.{statement}
@@ -23,19 +23,19 @@ enum-told-5 : tie.Need-enum-told-5
 enum-told-5 c = search needs
 
 returns : tie.Need-returns
-returns c = code-terminates (c .before .before .before .args .k) _ (search needs) (c .before .before .row-at .ensures) (c .enum-told .given .1)
+returns c = code-terminates (c .before .before .row-at .ensures) (c .enum-told .given .1)
 
 returns-2 : tie.Need-returns-2
-returns-2 c = code-terminates (c .before .before .before .args .k) _ (search needs) (c .before .before .row-at .ensures) (c .enum-told2 .given .1)
+returns-2 c = code-terminates (c .before .before .row-at .ensures) (c .enum-told2 .given .1)
 
 returns-3 : tie.Need-returns-3
-returns-3 c = code-terminates (c .before .before .before .args .k) _ (search needs) (c .before .before .row-at .ensures) (c .enum-told3 .given .1)
+returns-3 c = code-terminates (c .before .before .row-at .ensures) (c .enum-told3 .given .1)
 
 returns-4 : tie.Need-returns-4
-returns-4 c = code-terminates (c .before .before .before .args .k) _ (search needs) (c .before .before .row-at .ensures) (c .enum-told4 .given .1)
+returns-4 c = code-terminates (c .before .before .row-at .ensures) (c .enum-told4 .given .1)
 
 returns-5 : tie.Need-returns-5
-returns-5 c = code-terminates (c .before .before .before .args .k) _ (search needs) (c .before .before .row-at .ensures) (c .enum-told5 .given .1)
+returns-5 c = code-terminates (c .before .before .row-at .ensures) (c .enum-told5 .given .1)
 
 pub is-terminating-spec : {M : Type 1} → statement M
 is-terminating-spec =

@@ -9,19 +9,19 @@ row-at-requires : tie.Need-row-at-requires
 row-at-requires c κs = search needs
 
 sub-result : tie.Need-sub-result
-sub-result c = let row = c .before in omega (arith, code-sized (row .before .args .k) (row .row-at .result) (row .before .pre .1) (row .row-at .ensures))
+sub-result c = omega (arith, code-sized (c .before .row-at .ensures))
 
 mul-result : tie.Need-mul-result
-mul-result c = let row = c .before in omega (arith, code-sized (row .before .args .k) (row .row-at .result) (row .before .pre .1) (row .row-at .ensures))
+mul-result c = omega (arith, code-sized (c .before .row-at .ensures))
 
 cast-result : tie.Need-cast-result
-cast-result c = let row = c .before in omega (arith, code-sized (row .before .args .k) (row .row-at .result) (row .before .pre .1) (row .row-at .ensures))
+cast-result c = omega (arith, code-sized (c .before .row-at .ensures))
 
 shr-result : tie.Need-shr-result
-shr-result c = let row = c .before .before in omega (arith, code-sized (row .before .args .k) (row .row-at .result) (row .before .pre .1) (row .row-at .ensures))
+shr-result c = omega (arith, code-sized (c .before .before .row-at .ensures))
 
 returns : tie.Need-returns
-returns c = let row = c .before .before in code-leads (row .before .args .k) (row .row-at .result) (row .before .pre .1) (row .row-at .ensures)
+returns c = code-leads (c .before .before .row-at .ensures)
 
 pub leads-010-spec : {M : Type 1} → statement M
 leads-010-spec =

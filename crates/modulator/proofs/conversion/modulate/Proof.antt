@@ -17,11 +17,13 @@ loop-holds : tie.Need-loop-holds Inv-loop μ-loop
 loop-holds c = modulating-none (c .pre .1 .1)
 
 fitting-row-requires : tie.Need-fitting-row-requires Inv-loop μ-loop
-fitting-row-requires c κs = let turn = c .before in
+fitting-row-requires c κs =
+    let turn = c .before in
     (turn .before .pre .0, ((c .loop-test .taken, omega (arith, turn .loop .inv .within, turn .before .pre .1 .0)), turn .loop .inv .small))
 
 followed-requires : tie.Need-followed-requires Inv-loop μ-loop
-followed-requires c κs = let turn = c .before .before in
+followed-requires c κs =
+    let turn = c .before .before in
     (turn .before .pre .0, (c .fitting-row .ensures .below, modulating-small (turn .loop .inv) (turn .before .pre .1 .0)))
 
 is-terminating-requires : tie.Need-is-terminating-requires Inv-loop μ-loop
@@ -34,20 +36,24 @@ row-len-requires : tie.Need-row-len-requires Inv-loop μ-loop
 row-len-requires c κs = search needs
 
 sub-left : tie.Need-sub-left Inv-loop μ-loop
-sub-left c = let found = c .before .before .before .before in
+sub-left c =
+    let found = c .before .before .before .before in
     omega (arith, c .row-len .ensures .pairs-are, found .fitting-row .ensures .within)
 
 last-pairs-requires : tie.Need-last-pairs-requires Inv-loop μ-loop
-last-pairs-requires c κs = let turn = c .before .before .before .before .before .before in
+last-pairs-requires c κs =
+    let turn = c .before .before .before .before .before .before in
     omega (arith, turn .loop .inv .within, turn .before .pre .1 .0)
 
 loop-less : tie.Need-loop-less Inv-loop μ-loop
-loop-less c = let counted = c .before in
+loop-less c =
+    let counted = c .before in
     let turn = counted .before .before .before .before .before .before in
     omega (arith, counted .row-len .ensures .some, counted .before .before .before .before .before .loop-test .taken)
 
 loop-again : tie.Need-loop-again Inv-loop μ-loop
-loop-again c = let counted = c .before in
+loop-again c =
+    let counted = c .before in
     let last = counted .before in
     let ended = last .before in
     let longer = ended .before in

@@ -8,7 +8,7 @@ row-at-requires : tie.Need-row-at-requires
 row-at-requires c κs = search needs
 
 returns : tie.Need-returns
-returns c = let row = c .before .before in stands-not (row .before .args .k) (row .row-at .result) (row .before .pre .0 .1) (row .row-at .ensures) (row .before .args .count) (row .before .args .pairs) (c .if1 .taken)
+returns c = let row = c .before .before in stands-not (row .row-at .ensures) (row .before .args .count) (row .before .args .pairs) (c .if1 .taken)
 
 mul-result : tie.Need-mul-result
 mul-result c = search needs
@@ -23,7 +23,10 @@ cast-result-2 : tie.Need-cast-result-2
 cast-result-2 c = search needs
 
 returns-2 : tie.Need-returns-2
-returns-2 c = let branch = c .before .before in let row = branch .before .before in stands-if (row .before .args .k) (row .row-at .result) (row .before .pre .0 .1) (row .row-at .ensures) (row .before .args .count) (row .before .args .pairs) (row .before .pre .1 .1) (branch .if1 .left)
+returns-2 c =
+    let branch = c .before .before in
+    let row = branch .before .before in
+    stands-if (row .row-at .ensures) (row .before .args .count) (row .before .args .pairs) (row .before .pre .1 .1) (branch .if1 .left)
 
 pub pairs-stand-spec : {M : Type 1} → statement M
 pairs-stand-spec =

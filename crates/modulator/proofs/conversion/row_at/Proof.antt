@@ -1,4 +1,4 @@
--- `row_at` meets its contract: a packed row's parts are the row (Rows). Assumes nothing.
+-- `row_at` meets its contract: a packed row's parts are the row (CodedRows). Assumes nothing.
 use mathlib.Core.List.{List}
 use mathlib.Core.Path.{_≡_, ap, _∙_}
 use Prim.Native.Nat.{ℕ, _<_}
@@ -40,7 +40,12 @@ cast-t13 c = search needs
 returns : tie.Need-returns
 returns c =
     let start = c .before .before in
-    unpacked (start .args .k) _ (start .pre .1) (packed-at (start .args .rows .now) (start .args .k) (start .pre .0) (start .pre .1)) (c .when-at .ensures)
+    record {
+      below = start .pre .1;
+      is =
+          unpacked (start .args .k) _ (start .pre .1) (packed-at (start .args .rows .now) (start .args .k) (start .pre .0) (start .pre .1))
+          (c .when-at .ensures);
+    }
 
 pub row-at-spec : {M : Type 1} → statement M
 row-at-spec =

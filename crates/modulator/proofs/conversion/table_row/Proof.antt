@@ -15,7 +15,7 @@ array-copy-out-result c = search needs
 
 returns : tie.Need-returns
 unfolding number
-returns c = List·getD-map coded rows (c .before .args .k) noRow
+returns c = record { below = c .before .pre; is = List·getD-map coded rows (c .before .args .k) noRow }
 
 pub table-row-spec : {M : Type 1} → statement M
 table-row-spec = tie.close (tie.spec mul-result array-copy-out-result returns)

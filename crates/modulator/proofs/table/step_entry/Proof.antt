@@ -24,9 +24,12 @@ add-modulate : tie.Need-add-modulate
 add-modulate c = search needs
 
 modulate-requires : tie.Need-modulate-requires
-modulate-requires c κs = let read = c .before in
+modulate-requires c κs =
+    let read = c .before in
     let start = read .before in
-    (start .pre .0, (omega (arith, c .waits .ensures .1), more-small (start .args .s) (c .waits .result) (read .waiting .result) (c .waits .ensures .0) (read .waiting .ensures) (start .args .d) (start .pre .1 .0) (start .pre .1 .1)))
+    let small =
+    more-small (start .args .s) (c .waits .result) (read .waiting .result) (c .waits .ensures .0) (read .waiting .ensures) (start .args .d) (start .pre .1 .0) (start .pre .1 .1) in
+    (start .pre .0, (omega (arith, c .waits .ensures .1), small))
 
 next-state-requires : tie.Need-next-state-requires
 next-state-requires c κs = search needs
@@ -50,7 +53,8 @@ add-result : tie.Need-add-result
 add-result c = search needs
 
 returns : tie.Need-returns
-returns c = let count = c .before in
+returns c =
+    let count = c .before in
     let next = count .before in
     let ran = next .before in
     let waits = ran .before in

@@ -12,7 +12,8 @@ waiting-requires : tie.Need-waiting-requires
 waiting-requires c κs = search needs
 
 modulate-requires : tie.Need-modulate-requires
-modulate-requires c κs = let waits = c .before in
+modulate-requires c κs =
+    let waits = c .before in
     let start = waits .before in
     (start .pre .0, (omega (arith, waits .waits .ensures .1), wait-small (start .args .s) (waits .waits .result) (c .waiting .result) (waits .waits .ensures .0) (c .waiting .ensures)))
 
@@ -23,7 +24,8 @@ add-result : tie.Need-add-result
 add-result c = search needs
 
 returns : tie.Need-returns
-returns c = let branch = c .before in
+returns c =
+    let branch = c .before in
     let ran = branch .before in
     let read = ran .before in
     let waits = read .before in
@@ -33,7 +35,8 @@ mul-result-2 : tie.Need-mul-result-2
 mul-result-2 c = search needs
 
 returns-2 : tie.Need-returns-2
-returns-2 c = let branch = c .before in
+returns-2 c =
+    let branch = c .before in
     let ran = branch .before in
     let read = ran .before in
     let waits = read .before in

@@ -11,7 +11,10 @@ element-copy-out-result : tie.Need-element-copy-out-result
 element-copy-out-result c = search needs
 
 returns : tie.Need-returns
-returns c = (stop-read (c .before .args .stops .now) (c .before .args .s) (c .before .pre .0) (c .before .pre .1), rw (stop-read (c .before .args .stops .now) (c .before .args .s) (c .before .pre .0) (c .before .pre .1)) (stop-small (c .before .args .s) (c .before .pre .1)))
+returns c =
+    let start = c .before in
+    let is = stop-read (start .args .stops .now) (start .args .s) (start .pre .0) (start .pre .1) in
+    (is, rw is (stop-small (start .args .s) (start .pre .1)))
 
 pub stop-in-spec : {M : Type 1} → statement M
 stop-in-spec = tie.close (tie.spec mul-result element-copy-out-result returns)
