@@ -164,6 +164,7 @@ module _ (row : List ℕ) (dc : ℕ) where
                         ∙ ap (λ (n : ℕ). w / 2 ^ n % 2) weight
                         ∙ d .bit (j - 1) (far .1 .1 .1)
                         ∙ ap (λ (n : ℕ). getD (bitsOf row) n 0) place
-                        ∙ sym (data-in (16 * k + j) ((16 * k + 20) / 46 + 1) (ap (λ (n : ℕ). n / 46) (turned k j) ∙ there .0) (rw (turned k j, there .1) (late ((16 * k + 20) % 46) j hj (mod-lt (16 * k + 20) (zero-lt-suc 45)))))
+                        ∙ sym (data-in (16 * k + j) ((16 * k + 20) / 46 + 1) (ap (λ (n : ℕ). n / 46) (turned k j) ∙ there .0)
+                        (rw (turned k j, there .1) (late ((16 * k + 20) % 46) j hj (mod-lt (16 * k + 20) (zero-lt-suc 45)))))
                   ]
             ]

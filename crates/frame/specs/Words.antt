@@ -1,7 +1,7 @@
--- The bits of a recording frame (13.15), sixteen by sixteen.
+-- The bits of a recording frame (13.15), sixteen by sixteen, and those around it in the bytes that it shares.
 use mathlib.Core.List.{List, _++_}
 use mathlib.Core.Path.{_≡_}
-use Prim.Native.Nat.{ℕ, _*_, _-_, _/_, _%_, _^_, _<_}
+use Prim.Native.Nat.{ℕ, _*_, _-_, _/_, _%_, _^_, _<_, _≤_}
 use lib.ListN.{take, drop}
 use Rattle.modulation.specs.Modulation.{Two}
 use Rattle.modulator.specs.Table.{nibblePairs, bytePairs}
@@ -20,3 +20,10 @@ pub record Eight (ds : List Two) (k w : ℕ) : Type 0 where
 pub record LastTwo (ds : List Two) (x : ℕ) : Type 0 where
   pub small : x < 16
   pub pairs-are : drop 632 ds ≡ nibblePairs x
+
+-- in 242 bytes `lag` bits of `first` stand before the modulation bits of a frame, and 34 - lag bits of `last` behind them
+pub record Around (first lag last : ℕ) : Type 0 where
+  pub some : 15 ≤ lag
+  pub most : lag ≤ 34
+  pub front : first < 2 ^ lag
+  pub back : last < 2 ^ (34 - lag)

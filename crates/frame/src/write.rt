@@ -10,7 +10,7 @@ ghost use Rattle.frame.specs.Sync.{fs};
 ghost use Rattle.frame.specs.Written.{FrameWritten};
 ghost use Rattle.modulator.specs.Table.{lentTable};
 ghost use Rattle.modulator.specs.Put.{FramePut};
-ghost use Rattle.frame.specs.Words.{Word, Eight, LastTwo};
+ghost use Rattle.frame.specs.Words.{Word, Eight, LastTwo, Around};
 use crate::sync;
 use modulator::Table;
 
@@ -93,7 +93,7 @@ fn modulate(
     last: u8,
     out: &mut [u8],
 ) -> bool
-    requires { ⌜ ((now table ≡ lentTable) × ((length (now row) ≡ 155) × (length (now out) ≡ 242))) × (((15 ≤ lag) × (lag ≤ 34)) × ((first < 2 ^ lag) × (last < 2 ^ (34 - lag)))) ⌝ }
+    requires { ⌜ ((now table ≡ lentTable) × ((length (now row) ≡ 155) × (length (now out) ≡ 242))) × Around first lag last ⌝ }
     ensures { λ r. ⌜ FramePut first lag last (framePairs (now (row .entry)) dc) (now (out .exit)) r ⌝ }
 {
     let mut s = modulator::odd(first);

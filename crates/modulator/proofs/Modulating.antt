@@ -116,8 +116,9 @@ module _ {before : Bool} {n p : ℕ} where
     pub modulating-small : n ≤ 6 → value < 262144
     modulating-small h = omega (arith, behind-le value (bits (modulate b (fewPairs left rest) .groups)), m .value-is, whole-lt before n p h)
 
-    pub modulating-more : {k len value′ rest′ : ℕ} {t′ b′ : Bool} → 0 < left → Fitting b left rest k → value′ ≡ value * 2 ^ length (bits (rowAt k .groups)) + number (bits (rowAt k .groups))
-        → t′ ≡ (t || terminates (rowAt k .when)) → b′ ≡ nextBit (rowAt k) → Sized k len → rest′ ≡ rest % 2 ^ (2 * (left - len)) → Modulating before n p value′ t′ b′ (left - len) rest′
+    pub modulating-more : {k len value′ rest′ : ℕ} {t′ b′ : Bool} → 0 < left → Fitting b left rest k
+        → value′ ≡ value * 2 ^ length (bits (rowAt k .groups)) + number (bits (rowAt k .groups)) → t′ ≡ (t || terminates (rowAt k .when)) → b′ ≡ nextBit (rowAt k)
+        → Sized k len → rest′ ≡ rest % 2 ^ (2 * (left - len)) → Modulating before n p value′ t′ b′ (left - len) rest′
     modulating-more {k} {len} {value′} {rest′} {t′} {b′} h fit ev et eb sized er =
         let f = modulate b′ (fewPairs (left - len) rest′) in
         let step : modulate b (fewPairs left rest) ≡ inFront (rowAt k) f =

@@ -24,13 +24,19 @@ add-result-2 : tie.Need-add-result-2
 add-result-2 c = record { fits = omega (arith, id-small (c .before .args .number) (c .before .pre)) }
 
 returns : tie.Need-returns
-returns c = (sync-one (c .before .args .number) (c .before .pre) ∙ ap (λ (b : Bool). number (bits (sync b (fs (c .before .args .number))))) (sym (c .if1 .taken)), omega (arith, id-small (c .before .args .number) (c .before .pre)))
+returns c =
+    let start = c .before in
+    let n = start .args .number in
+    (sync-one n (start .pre) ∙ ap (λ (b : Bool). number (bits (sync b (fs n)))) (sym (c .if1 .taken)), omega (arith, id-small n (start .pre)))
 
 add-result-3 : tie.Need-add-result-3
 add-result-3 c = record { fits = omega (arith, id-small (c .before .args .number) (c .before .pre)) }
 
 returns-2 : tie.Need-returns-2
-returns-2 c = (sync-zero (c .before .args .number) (c .before .pre) ∙ ap (λ (b : Bool). number (bits (sync b (fs (c .before .args .number))))) (sym (c .if1 .left)), omega (arith, id-small (c .before .args .number) (c .before .pre)))
+returns-2 c =
+    let start = c .before in
+    let n = start .args .number in
+    (sync-zero n (start .pre) ∙ ap (λ (b : Bool). number (bits (sync b (fs n)))) (sym (c .if1 .left)), omega (arith, id-small n (start .pre)))
 
 pub sync-word-spec : {M : Type 1} → statement M
 sync-word-spec =

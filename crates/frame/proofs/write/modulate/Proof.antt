@@ -18,7 +18,7 @@ odd-requires : tie.Need-odd-requires Inv-loop μ-loop
 odd-requires c κs = search needs
 
 loop-holds : tie.Need-loop-holds Inv-loop μ-loop
-loop-holds c = let start = c .before .before .before in turning-none (start .pre .0 .1 .1) (start .pre .1 .1 .0) (c .odd .ensures)
+loop-holds c = let start = c .before .before .before in turning-none (start .pre .0 .1 .1) (start .pre .1 .front) (c .odd .ensures)
 
 eight-pairs-requires : tie.Need-eight-pairs-requires Inv-loop μ-loop
 eight-pairs-requires c κs = search needs
@@ -34,17 +34,25 @@ byte-at-requires-2 c κs =
     let first = c .before in
     let read = first .before in
     let turn = read .before .before in
-    (search needs, (turning-next (turn .loop .inv) (read .eight-pairs .result / 256) (first .byte-at .result) (omega (arith, read .eight-pairs .ensures .small)) (first .byte-at .ensures) (c .state .ensures), search needs))
+    let next =
+    turning-next (turn .loop .inv) (read .eight-pairs .result / 256) (first .byte-at .result) (omega (arith, read .eight-pairs .ensures .small))
+    (first .byte-at .ensures) (c .state .ensures) in
+    (search needs, (next, search needs))
 
 more-requires : tie.Need-more-requires Inv-loop μ-loop
-more-requires c κs = let turn = c .before .before .before .before .before in turning-small (turn .loop .inv) (turn .before .before .before .before .pre .1 .0 .1)
+more-requires c κs =
+    let turn = c .before .before .before .before .before in
+    let start = turn .before .before .before .before in
+    turning-small (turn .loop .inv) (start .pre .1 .most)
 
 more-requires-2 : tie.Need-more-requires-2 Inv-loop μ-loop
 more-requires-2 c κs =
     let first = c .before .before .before in
     let read = first .before in
     let turn = read .before .before in
-    turning-second (turn .loop .inv) (read .eight-pairs .result / 256) (first .byte-at .result) (omega (arith, read .eight-pairs .ensures .small)) (first .byte-at .ensures) (turn .before .before .before .before .pre .1 .0 .1) (c .more .ensures)
+    let start = turn .before .before .before .before in
+    turning-second (turn .loop .inv) (read .eight-pairs .result / 256) (first .byte-at .result) (omega (arith, read .eight-pairs .ensures .small))
+    (first .byte-at .ensures) (start .pre .1 .most) (c .more .ensures)
 
 mul-put-three : tie.Need-mul-put-three Inv-loop μ-loop
 mul-put-three c = search needs
@@ -80,9 +88,11 @@ loop-again c =
     let read = first .before in
     let turn = read .before .before in
     let start = turn .before .before .before .before in
-    turning-more (turn .loop .inv) (read .eight-pairs .result / 256) (read .eight-pairs .result % 256) (first .byte-at .result) (second .byte-at2 .result) (read .before .loop-test .taken) (start .pre .1 .0 .0)
-    (read .eight-pairs .ensures .pairs-are) (omega (arith, read .eight-pairs .ensures .small)) (mod-lt (read .eight-pairs .result) (zero-lt-suc 255)) (first .byte-at .ensures) (middle .state .ensures)
-    (second .byte-at2 .ensures) (part .more .ensures) (sum .more2 .ensures) (top .high .ensures) (wrote .put-three .ensures) (lowest .low .ensures) (c .state2 .ensures)
+    let pairs = read .eight-pairs in
+    turning-more (turn .loop .inv) (pairs .result / 256) (pairs .result % 256) (first .byte-at .result) (second .byte-at2 .result) (read .before .loop-test .taken)
+    (start .pre .1 .some) (pairs .ensures .pairs-are) (omega (arith, pairs .ensures .small)) (mod-lt (pairs .result) (zero-lt-suc 255)) (first .byte-at .ensures)
+    (middle .state .ensures) (second .byte-at2 .ensures) (part .more .ensures) (sum .more2 .ensures) (top .high .ensures) (wrote .put-three .ensures)
+    (lowest .low .ensures) (c .state2 .ensures)
 
 last-two-requires : tie.Need-last-two-requires Inv-loop μ-loop
 last-two-requires c κs = search needs
@@ -91,7 +101,10 @@ last-at-requires : tie.Need-last-at-requires Inv-loop μ-loop
 last-at-requires c κs = search needs
 
 ended-requires : tie.Need-ended-requires Inv-loop μ-loop
-ended-requires c κs = let turn = c .before .before .before in turning-small (turn .loop .inv) (turn .before .before .before .before .pre .1 .0 .1)
+ended-requires c κs =
+    let turn = c .before .before .before in
+    let start = turn .before .before .before .before in
+    turning-small (turn .loop .inv) (start .pre .1 .most)
 
 closed-requires : tie.Need-closed-requires Inv-loop μ-loop
 closed-requires c κs =
@@ -99,7 +112,9 @@ closed-requires c κs =
     let end = ended .before in
     let two = end .before in
     let turn = two .before .before in
-    (turning-last (turn .loop .inv) (two .last-two .result) (two .last-two .ensures .small) (end .last-at .ensures) (ended .ended .ensures), turn .before .before .before .before .pre .1 .0 .1)
+    let start = turn .before .before .before .before in
+    let small = turning-last (turn .loop .inv) (two .last-two .result) (two .last-two .ensures .small) (end .last-at .ensures) (ended .ended .ensures) in
+    (small, start .pre .1 .most)
 
 put-five-requires : tie.Need-put-five-requires Inv-loop μ-loop
 put-five-requires c κs = search needs
@@ -119,7 +134,9 @@ returns c =
     let two = end .before in
     let turn = two .before .before in
     let start = turn .before .before .before .before in
-    turning-all (turn .loop .inv) (two .last-two .result) (two .last-two .ensures .small) (two .before .loop-test .left) (start .pre .1 .0 .1) (start .pre .1 .1 .1) (two .last-two .ensures .pairs-are) (end .last-at .ensures) (ended .ended .ensures) (close .closed .ensures) (put .put-five .ensures)
+    let last = two .last-two in
+    turning-all (turn .loop .inv) (last .result) (last .ensures .small) (two .before .loop-test .left) (start .pre .1 .most) (start .pre .1 .back)
+    (last .ensures .pairs-are) (end .last-at .ensures) (ended .ended .ensures) (close .closed .ensures) (put .put-five .ensures)
 
 pub modulate-spec : {M : Type 1} → statement M
 modulate-spec =

@@ -29,8 +29,10 @@ part-modulate-end c = search needs
 
 modulate-requires : tie.Need-modulate-requires
 modulate-requires c κs =
-    let start = c .before .before .before .before .before .before in
-    ((start .pre .0 .0, (start .pre .0 .1, part-size (start .args .image .now) (start .args .at) (start .pre .1 .1 .1) (start .pre .1 .1 .0))), ((omega arith, omega arith), (c .before .before .before .sync-word .ensures .1, omega arith)))
+    let word = c .before .before .before in
+    let start = word .before .before .before in
+    let size = part-size (start .args .image .now) (start .args .at) (start .pre .1 .1 .1) (start .pre .1 .1 .0) in
+    ((start .pre .0 .0, (start .pre .0 .1, size)), record { some = omega arith; most = omega arith; front = word .sync-word .ensures .1; back = omega arith })
 
 same-length : tie.Need-same-length
 same-length c = search needs
@@ -40,8 +42,10 @@ returns c =
     let made = c .before .before in
     let branch = made .before .before .before in
     let start = branch .before .before .before .before in
-    written-even (start .args .number) (start .pre .1 .0) (start .args .hash) (start .args .row .now) (start .args .dc) (start .args .image .now) _ (start .args .at) (branch .before .sync-word .result) (made .modulate .result)
-    (branch .before .sync-word .ensures .0) (start .pre .1 .1 .1) (branch .if1 .taken) (made .modulate .ensures)
+    let args = start .args in
+    let word = branch .before .sync-word in
+    written-even (args .number) (start .pre .1 .0) (args .hash) (args .row .now) (args .dc) (args .image .now) _ (args .at) (word .result) (made .modulate .result)
+    (word .ensures .0) (start .pre .1 .1 .1) (branch .if1 .taken) (made .modulate .ensures)
 
 slice-read-wider : tie.Need-slice-read-wider
 slice-read-wider c = search needs
@@ -66,8 +70,17 @@ part-modulate-end-2 c = search needs
 
 modulate-requires-2 : tie.Need-modulate-requires-2
 modulate-requires-2 c κs =
-    let start = c .before .before .before .before .before .before .before in
-    ((start .pre .0 .0, (start .pre .0 .1, part-size (start .args .image .now) (start .args .at) (start .pre .1 .1 .1) (start .pre .1 .1 .0))), ((omega arith, omega arith), (omega (arith, c .before .wider .ensures .1, c .before .before .before .before .sync-word .ensures .1), omega arith)))
+    let word = c .before .before .before .before in
+    let start = word .before .before .before in
+    let size = part-size (start .args .image .now) (start .args .at) (start .pre .1 .1 .1) (start .pre .1 .1 .0) in (
+      (start .pre .0 .0, (start .pre .0 .1, size)),
+      record {
+        some = omega arith;
+        most = omega arith;
+        front = omega (arith, c .before .wider .ensures .1, word .sync-word .ensures .1);
+        back = omega arith;
+      },
+    )
 
 same-length-2 : tie.Need-same-length-2
 same-length-2 c = search needs
@@ -78,8 +91,10 @@ returns-2 c =
     let read = made .before .before in
     let branch = read .before .before in
     let start = branch .before .before .before .before in
-    written-odd (start .args .number) (start .pre .1 .0) (start .args .hash) (start .args .row .now) (start .args .dc) (start .args .image .now) _ (start .args .at) (branch .before .sync-word .result) (made .modulate2 .result)
-    (branch .before .sync-word .ensures .0) (start .pre .1 .1 .1) (omega arith) (read .wider .ensures .0) (read .wider .ensures .1) refl (made .modulate2 .ensures)
+    let args = start .args in
+    let word = branch .before .sync-word in
+    written-odd (args .number) (start .pre .1 .0) (args .hash) (args .row .now) (args .dc) (args .image .now) _ (args .at) (word .result) (made .modulate2 .result)
+    (word .ensures .0) (start .pre .1 .1 .1) (omega arith) (read .wider .ensures .0) (read .wider .ensures .1) refl (made .modulate2 .ensures)
 
 pub write-whole-spec : {M : Type 1} → statement M
 write-whole-spec =

@@ -13,10 +13,16 @@ leads-010-requires : tie.Need-leads-010-requires
 leads-010-requires c κs = search needs
 
 returns : tie.Need-returns
-returns c = let found = c .before .before in let args = found .before .args in by-row false (fewPairs (args .count) (args .pairs)) (found .standing-row .result) (found .standing-row .ensures) (c .leads-010 .ensures)
+returns c =
+    let found = c .before .before in
+    let args = found .before .args in
+    by-row false (fewPairs (args .count) (args .pairs)) (found .standing-row .result) (found .standing-row .ensures) (c .leads-010 .ensures)
 
 returns-2 : tie.Need-returns-2
-returns-2 c = let found = c .before in let args = found .before .args in by-none false (fewPairs (args .count) (args .pairs)) (found .standing-row .result) (found .standing-row .ensures) (c .if1 .left)
+returns-2 c =
+    let found = c .before in
+    let args = found .before .args in
+    by-none false (fewPairs (args .count) (args .pairs)) (found .standing-row .result) (found .standing-row .ensures) (c .if1 .left)
 
 pub starts-with-010-spec : {M : Type 1} → statement M
 starts-with-010-spec =
