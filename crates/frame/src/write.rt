@@ -96,22 +96,22 @@ fn modulate(
     requires { ⌜ ((now table ≡ lentTable) × ((length (now row) ≡ 155) × (length (now out) ≡ 242))) × Around first lag last ⌝ }
     ensures { λ r. ⌜ FramePut first lag last (framePairs (now (row .entry)) dc) (now (out .exit)) r ⌝ }
 {
-    let mut s = modulator::odd(first);
-    let mut acc = first;
+    let mut state = modulator::odd(first);
+    let mut held = first;
     let mut k = 0;
     while k < 79 {
-        let w = eight_pairs(row, dc, k);
-        let e = modulator::byte_at(table, s, w / 256);
-        let f = modulator::byte_at(table, modulator::state(e), w % 256);
-        let v = modulator::more(modulator::more(acc, e), f);
-        modulator::put_three(out, 3 * k, modulator::high(v, lag));
-        acc = modulator::low(v, lag);
-        s = modulator::state(f);
+        let pairs = eight_pairs(row, dc, k);
+        let one = modulator::byte_at(table, state, pairs / 256);
+        let two = modulator::byte_at(table, modulator::state(one), pairs % 256);
+        let all = modulator::more(modulator::more(held, one), two);
+        modulator::put_three(out, 3 * k, modulator::high(all, lag));
+        held = modulator::low(all, lag);
+        state = modulator::state(two);
         k += 1;
     }
-    let end = modulator::last_at(table, s, last_two(row, dc));
-    let v = modulator::ended(acc, end);
-    modulator::put_five(out, 237, modulator::closed(v, lag, last));
+    let end = modulator::last_at(table, state, last_two(row, dc));
+    let all = modulator::ended(held, end);
+    modulator::put_five(out, 237, modulator::closed(all, lag, last));
     end % 2 == 1
 }
 

@@ -29,15 +29,15 @@ pub fn last_at(table: &Table, s: usize, nibble: usize) -> u32
     table[20 * (nibble + 256) + s]
 }
 
-// Twelve bits more.
-pub fn more(acc: u64, e: u32) -> u64
-    requires { ⌜ acc < 70368744177664 ⌝ }
-    ensures { λ r. ⌜ r ≡ acc * 4096 + e / 32 ⌝ }
+// The bits of a frame that are not put yet are held as a number, with zeros for the pairs that wait. With a byte's entry it has twelve more.
+pub fn more(held: u64, entry: u32) -> u64
+    requires { ⌜ held < 70368744177664 ⌝ }
+    ensures { λ r. ⌜ r ≡ held * 4096 + entry / 32 ⌝ }
 {
-    acc * 4096 + (e / 32) as u64
+    held * 4096 + (entry / 32) as u64
 }
 
-// All but the `lag` low bits, and these.
+// All but the `lag` low bits of v, and these.
 pub fn high(v: u64, lag: usize) -> u64
     requires { ⌜ lag < 64 ⌝ }
     ensures { λ r. ⌜ r ≡ v / 2 ^ lag ⌝ }
@@ -88,11 +88,11 @@ pub fn odd(first: u64) -> usize
 }
 
 // Six bits more, the last of the frame.
-pub fn ended(acc: u64, e: u32) -> u64
-    requires { ⌜ acc < 70368744177664 ⌝ }
-    ensures { λ r. ⌜ r ≡ acc * 64 + e / 2 ⌝ }
+pub fn ended(held: u64, entry: u32) -> u64
+    requires { ⌜ held < 70368744177664 ⌝ }
+    ensures { λ r. ⌜ r ≡ held * 64 + entry / 2 ⌝ }
 {
-    acc * 64 + (e / 2) as u64
+    held * 64 + (entry / 2) as u64
 }
 
 // The bits of `last` behind those that end the frame.

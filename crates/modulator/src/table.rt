@@ -148,10 +148,10 @@ fn make_stops(rows: &PackedRows) -> [u32; 20]
 }
 
 // The state that an entry leads to.
-pub fn state(e: u32) -> usize
-    ensures { λ r. ⌜ r ≡ e % 32 ⌝ }
+pub fn state(entry: u32) -> usize
+    ensures { λ r. ⌜ r ≡ entry % 32 ⌝ }
 {
-    (e % 32) as usize
+    (entry % 32) as usize
 }
 
 // One entry after another.

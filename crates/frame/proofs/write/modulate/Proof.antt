@@ -9,10 +9,10 @@ use Rattle.frame.proofs.write.modulate.Statement.{statement}
 use Rattle.frame.proofs.write.modulate.Tie as tie
 
 abbrev Inv-loop : tie.InvT-loop
-Inv-loop table row dc first lag last out₀ s₀ acc₀ k₀ out s acc k = Turning first lag (framePairs row dc) out k acc s
+Inv-loop table row dc first lag last out₀ state₀ held₀ k₀ out state held k = Turning first lag (framePairs row dc) out k held state
 
 abbrev μ-loop : tie.MeasureT-loop
-μ-loop table row dc first lag last out₀ s₀ acc₀ k₀ out s acc k = 79 - k
+μ-loop table row dc first lag last out₀ state₀ held₀ k₀ out state held k = 79 - k
 
 odd-requires : tie.Need-odd-requires Inv-loop μ-loop
 odd-requires c κs = search needs
