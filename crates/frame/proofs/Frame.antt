@@ -12,15 +12,15 @@ use Rattle.modulation.specs.Modulation.{lastBit}
 use Rattle.modulation.specs.Bits.{bits}
 use Rattle.modulation.specs.Sync.{FS, sync, syncId}
 use Rattle.modulation.specs.Stream.{modulated}
-use Rattle.modulation.proofs.Bits.{bits-append, length-bits as length-groups}
+use Rattle.modulation.proofs.Bits.{bits-append}
 use Rattle.modulation.proofs.Fronts.{bits-groups}
 use Rattle.modulation.proofs.Theorems.{size-of-a-frame}
-use Rattle.modulation.proofs.Streams.{length-sync}
 use Rattle.frame.specs.FrameBits.{frameBits}
 use Rattle.frame.specs.Sync.{hashAt, syncRight}
 use Rattle.frame.specs.Frame.{framePairs, frameGroups, frame, nextHash}
 use Rattle.frame.specs.Reading.{RowGives}
 use Rattle.frame.proofs.FrameBits.{length-frame-bits}
+use Rattle.frame.proofs.SyncTables.{length-sync-bits}
 use Rattle.frame.proofs.SyncRight.{sync-as-read, hash-as-read, sync-is-right}
 use Rattle.frame.proofs.Reading.{row-gives}
 
@@ -34,8 +34,7 @@ length-frame hash n row dc =
       arith,
       ap length (bits-append (sync hash n) (modulated n (framePairs row dc) .groups)),
       length-append (bits (sync hash n)) (bits (modulated n (framePairs row dc) .groups)),
-      length-groups (sync hash n),
-      length-sync hash n,
+      length-sync-bits hash n,
       length-modulated n row dc,
     )
 
@@ -49,20 +48,17 @@ module _ (hash : Bool) (n : FS) (row : List ℕ) (dc : ℕ) where
   abbrev body : List ℕ
   body = bits (modulated n (framePairs row dc) .groups)
 
-  length-sync-bits : length (bits (sync hash n)) ≡ 30
-  length-sync-bits = omega (arith, length-groups (sync hash n), length-sync hash n)
-
   pub frame-parts : frame hash n row dc ≡ bits (sync hash n) ++ body
   unfolding frame
   frame-parts = bits-append (sync hash n) (modulated n (framePairs row dc) .groups)
 
   pub frame-sync : take 30 (frame hash n row dc) ≡ bits (sync hash n)
-  frame-sync = ap (take 30) frame-parts ∙ take-at (bits (sync hash n)) body 30 length-sync-bits
+  frame-sync = ap (take 30) frame-parts ∙ take-at (bits (sync hash n)) body 30 (length-sync-bits hash n)
 
   pub frame-body : take 1902 (drop 30 (frame hash n row dc)) ≡ body
   frame-body =
       ap (λ (l : List ℕ). take 1902 (drop 30 l)) frame-parts
-      ∙ ap (take 1902) (drop-at (bits (sync hash n)) body 30 length-sync-bits)
+      ∙ ap (take 1902) (drop-at (bits (sync hash n)) body 30 (length-sync-bits hash n))
       ∙ take-all 1902 body (omega (arith, length-modulated n row dc))
 
 module _ (n : FS) (b : List ℕ) (at : ℕ) (row : List ℕ) (dc : ℕ) where

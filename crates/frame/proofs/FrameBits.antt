@@ -65,13 +65,6 @@ frame-bit-lt row dc j =
       | no h ↦ rw (data-bit row dc j h) (bits-bits row (j - group j))
     ]
 
--- what the code reads
-pub dc-read : (row : List ℕ) (dc j : ℕ) → position j ≡ 45 → (dc / 2 ^ (27 - group j) % 2 ≡ frameBit row dc j) × (dc / 2 ^ (27 - group j) % 2 < 2)
-dc-read row dc j h = (sym (dc-bit row dc j h), mod-lt (dc / 2 ^ (27 - group j)) (zero-lt-suc 1))
-
-pub data-read : (row : List ℕ) (dc j r : ℕ) → (position j ≡ 45 → ⊥) → r ≡ getD (bitsOf row) (j - group j) 0 → (r ≡ frameBit row dc j) × (r < 2)
-data-read row dc j r h e = (e ∙ sym (data-bit row dc j h), rw e (bits-bits row (j - group j)))
-
 pub frame-bits-bits : (row : List ℕ) (dc : ℕ) → Bits (frameBits row dc)
 frame-bits-bits row dc j =
     elim (decLt j 1268) [

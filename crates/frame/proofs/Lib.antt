@@ -1,6 +1,5 @@
 -- Laws of recording frames.
 pub mod FrameBits
-pub mod Pairs
 pub mod Unweaving
 pub mod Same
 pub mod Reading
@@ -8,3 +7,8 @@ pub mod SyncRight
 pub mod Frame
 pub mod SyncTables
 pub mod Writing
+pub mod Bits
+pub mod Words
+pub mod Pairs
+pub mod Image
+pub mod Copy

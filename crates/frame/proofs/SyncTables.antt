@@ -1,15 +1,21 @@
 -- The code's tables are those of Figures 39 and 41. Assumes nothing.
-use mathlib.Core.Path.{_≡_, refl, sym, ap, _∙_}
-use mathlib.Core.Bool.{Bool, false, Bool·beq}
+use mathlib.Core.Path.{_≡_, refl, sym, ap, subst, _∙_}
+use mathlib.Core.Bool.{Bool, true, false, Bool·beq}
 use mathlib.Core.List.{List, [], _∷_}
-use Prim.Native.Nat.{ℕ, suc, _-_, _/_, _%_, _<_}
+use Prim.Native.Nat.{ℕ, _+_, _*_, _-_, _/_, _%_, _^_, _<_}
 use native.Mathlib.Nat.{mod-lt, zero-lt-suc}
 use native.Mathlib.Omega.{arith}
 use lib.Dec.{eqb}
-use lib.ListN.{getD}
-use Rattle.laws.proofs.Finite.{all, all-at, equal-below, bounded-below}
+use lib.ListN.{length, getD}
+use Rattle.laws.proofs.Finite.{all, all-at, all₂, equal-below, equal-below₂, bounded-below}
+use Rattle.bits.specs.Bits.{number, bitsOfNumber}
+use Rattle.bits.proofs.Number.{number-lt, bits-of-number}
 use Rattle.modulation.specs.Modulation.{lastBit}
-use Rattle.modulation.specs.Sync.{FS, FS0, FS1, FS2, FS3, FS4, FS5, FS6, syncId, syncNumbers, syncNumber}
+use Rattle.modulation.specs.Bits.{bits}
+use Rattle.modulation.specs.Sync.{FS, FS0, FS1, FS2, FS3, FS4, FS5, FS6, sync, syncId, syncNumbers, syncNumber}
+use Rattle.modulation.proofs.Bits.{length-bits}
+use Rattle.modulation.proofs.Fronts.{bits-groups}
+use Rattle.modulation.proofs.Streams.{length-sync}
 use Rattle.modulation.proofs.Tests.{beq-same}
 use Rattle.frame.specs.Sync.{fs, fsNumber, syncGroup}
 
@@ -39,30 +45,55 @@ fs-number FS6 = refl
 
 -- ---- Figure 39
 
-abbrev pub bodyTable : List ℕ
-bodyTable = 0b010 ∷ 0b000 ∷ 0b000 ∷ 0b010 ∷ 0b000 ∷ 0b000 ∷ 0b010 ∷ []
-
 abbrev pub idTable : List ℕ
-idTable = 0b000001 ∷ 0b010010 ∷ 0b101000 ∷ 0b100001 ∷ 0b000100 ∷ 0b001001 ∷ 0b010000 ∷ []
+idTable = 0b000_001 ∷ 0b010_010 ∷ 0b101_000 ∷ 0b100_001 ∷ 0b000_100 ∷ 0b001_001 ∷ 0b010_000 ∷ []
+
+pub id-small : (n : ℕ) → n < 7 → getD idTable n 0 < 64
+unfolding all
+id-small n h = bounded-below 7 64 (λ n. getD idTable n 0) tt n h
 
 -- the bit behind which the frame's first word stands
 pub end-at : (number : ℕ) → number < 7 → eqb (getD idTable number 0 % 2) 1 ≡ lastBit false (syncId (fs number))
 unfolding all fs
 end-at number h = beq-same _ _ (all-at 7 (λ k. Bool·beq (eqb (getD idTable k 0 % 2) 1) (lastBit false (syncId (fs k)))) tt number h)
 
--- groups 1 to 7 are the same in each sync; groups 8 and 9 are the ID
-pub body-at : (hash : Bool) (n : FS) (j : ℕ) → (j ≡ 0 → ⊥) → (j ≡ 8 → ⊥) → (j ≡ 9 → ⊥) → j < 10 → getD bodyTable (j - 1) 0 ≡ syncGroup n hash j
-unfolding all syncGroup
-body-at hash n j e f g h =
-    let back : suc (j - 1) ≡ j = omega arith in
-    equal-below 7 (λ k. getD bodyTable k 0) (λ k. syncGroup n hash (suc k)) tt (j - 1) (omega arith) ∙ ap (syncGroup n hash) back
+-- ---- a frame sync as a number of 30 bits
 
-pub high-at : (hash : Bool) (number j : ℕ) → number < 7 → j ≡ 8 → getD idTable number 0 / 8 ≡ syncGroup (fs number) hash j
-unfolding all fs syncGroup
-high-at hash number j h e =
-    equal-below 7 (λ k. getD idTable k 0 / 8) (λ k. syncGroup (fs k) hash 8) tt number h ∙ sym (ap (syncGroup (fs number) hash) e)
+-- the body, with # ZERO and ONE, and the ID
+pub sync-zero : (n : ℕ) → n < 7 → 0b001_010_000_000_010_000_000_010_000_000 + getD idTable n 0 ≡ number (bits (sync false (fs n)))
+unfolding all fs number
+sync-zero n h = equal-below 7 (λ n. 0b001_010_000_000_010_000_000_010_000_000 + getD idTable n 0) (λ n. number (bits (sync false (fs n)))) tt n h
 
-pub low-at : (hash : Bool) (number j : ℕ) → number < 7 → j ≡ 9 → getD idTable number 0 % 8 ≡ syncGroup (fs number) hash j
-unfolding all fs syncGroup
-low-at hash number j h e =
-    equal-below 7 (λ k. getD idTable k 0 % 8) (λ k. syncGroup (fs k) hash 9) tt number h ∙ sym (ap (syncGroup (fs number) hash) e)
+pub sync-one : (n : ℕ) → n < 7 → 0b101_010_000_000_010_000_000_010_000_000 + getD idTable n 0 ≡ number (bits (sync true (fs n)))
+unfolding all fs number
+sync-one n h = equal-below 7 (λ n. 0b101_010_000_000_010_000_000_010_000_000 + getD idTable n 0) (λ n. number (bits (sync true (fs n)))) tt n h
+
+-- its groups
+group-in : (hash : Bool) (n j : ℕ) → n < 7 → j < 10 → number (bits (sync hash (fs n))) / 2 ^ (27 - 3 * j) % 8 ≡ syncGroup (fs n) hash j
+unfolding all all₂ fs number syncGroup
+group-in true n j hn hj =
+    equal-below₂ 7 10 (λ n j. number (bits (sync true (fs n))) / 2 ^ (27 - 3 * j) % 8) (λ n j. syncGroup (fs n) true j) tt n j hn hj
+group-in false n j hn hj =
+    equal-below₂ 7 10 (λ n j. number (bits (sync false (fs n))) / 2 ^ (27 - 3 * j) % 8) (λ n j. syncGroup (fs n) false j) tt n j hn hj
+
+pub group-at : (hash : Bool) (n j word : ℕ) → n < 7 → j < 10 → word ≡ number (bits (sync hash (fs n))) → word / 2 ^ (27 - 3 * j) % 8 ≡ syncGroup (fs n) hash j
+group-at hash n j word hn hj e = ap (λ (x : ℕ). x / 2 ^ (27 - 3 * j) % 8) e ∙ group-in hash n j hn hj
+
+-- its bits, and how large it is
+module _ (hash : Bool) (n : FS) where
+  pub length-sync-bits : length (bits (sync hash n)) ≡ 30
+  length-sync-bits = omega (arith, length-bits (sync hash n), length-sync hash n)
+
+  pub sync-bits : bitsOfNumber 30 (number (bits (sync hash n))) ≡ bits (sync hash n)
+  sync-bits = ap (λ (k : ℕ). bitsOfNumber k (number (bits (sync hash n)))) (sym length-sync-bits) ∙ bits-of-number (bits (sync hash n)) (bits-groups (sync hash n))
+
+  pub sync-small : number (bits (sync hash n)) < 2 ^ 30
+  sync-small = subst (λ (k : ℕ). number (bits (sync hash n)) < 2 ^ k) length-sync-bits (number-lt (bits (sync hash n)) (bits-groups (sync hash n)))
+
+-- its last bit is the ID's
+pub sync-odd : (hash : Bool) (n : ℕ) → n < 7 → eqb (number (bits (sync hash (fs n))) % 2) 1 ≡ lastBit false (syncId (fs n))
+unfolding all fs number
+sync-odd true n h =
+    beq-same _ _ (all-at 7 (λ k. Bool·beq (eqb (number (bits (sync true (fs k))) % 2) 1) (lastBit false (syncId (fs k)))) tt n h)
+sync-odd false n h =
+    beq-same _ _ (all-at 7 (λ k. Bool·beq (eqb (number (bits (sync false (fs k))) % 2) 1) (lastBit false (syncId (fs k)))) tt n h)

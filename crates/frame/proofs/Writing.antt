@@ -1,68 +1,80 @@
--- A frame written: its sync group by group, then its modulation bits. Assumes nothing.
-use mathlib.Core.Bool.{Bool, false}
-use mathlib.Core.List.{List, _++_}
-use mathlib.Core.Path.{_≡_, refl, ap, ap₂, subst, _∙_}
-use Prim.Native.Nat.{ℕ, _+_, _*_, _<_, _≤_}
+-- Values written one after the other: those still to be written, over what stands there, give the whole. A frame sync is written so,
+-- group by group. Assumes nothing.
+use mathlib.Core.Bool.{Bool}
+use mathlib.Core.List.{List, [], _∷_, _++_}
+use mathlib.Core.Path.{_≡_, sym, ap, ap₂, subst, _∙_}
+use Prim.Native.Nat.{ℕ, suc, _+_, _*_, _<_, _≤_}
 use native.Mathlib.Omega.{arith}
-use lib.ListN.{length}
-use lib.Seq.{sets}
+use native.Mathlib.Numerals.{add-one}
+use lib.ListN.{length, set, drop, drop-of-length-le}
+use lib.Seq.{sets, length-sets, drop-cons}
 use Rattle.bits.specs.Bits.{bitsOf, threeOf}
-use Rattle.modulation.specs.Modulation.{lastBit, Modulated, modulate}
+use Rattle.bits.proofs.Bits.{length-bits}
+use Rattle.modulation.specs.Modulation.{Three, m000}
 use Rattle.modulation.specs.Bits.{bits}
-use Rattle.modulation.specs.Sync.{FS, sync, syncId}
-use Rattle.modulation.specs.Stream.{modulated}
-use Rattle.modulation.specs.Pairs.{twos}
-use Rattle.modulator.proofs.Writing.{Left, left-none, left-more, left-length, same-slice, GroupsWritten, groups-none, groups-more, groups-all}
-use Rattle.modulation.proofs.Bits.{bits-append, length-bits}
+use Rattle.modulation.specs.Sync.{FS, sync}
 use Rattle.modulation.proofs.Streams.{length-sync}
 use Rattle.frame.specs.Sync.{syncGroup}
-use Rattle.frame.specs.Frame.{framePairs, frame, frameGroups}
-use Rattle.frame.specs.Written.{SyncWritten, FrameWritten}
-use Rattle.frame.specs.Slices.{PairsOf}
+use Rattle.frame.specs.Written.{SyncWritten}
 
--- ---- the sync
+sets-append : (vs ws l : List ℕ) (i : ℕ) → sets l i (vs ++ ws) ≡ sets (sets l i vs) (i + length vs) ws
+sets-append [] ws l i = ap (λ (k : ℕ). sets l k ws) (none i)
+  where
+    none : (i : ℕ) → i ≡ i + 0
+    none i = omega arith
+sets-append (v ∷ vs) ws l i = sets-append vs ws (set l i v) (suc i) ∙ ap (λ (k : ℕ). sets (sets (set l i v) (suc i) vs) k ws) (one-on i (length vs))
+  where
+    one-on : (i n : ℕ) → suc i + n ≡ i + suc n
+    one-on i n = omega arith
+
+-- of `all`, to be written over `first` from `at` on, vs are still to be written over l, from p on
+pub record Left (first : List ℕ) (at : ℕ) (all l : List ℕ) (p : ℕ) (vs : List ℕ) : Type 0 where
+  pub written : sets l p vs ≡ sets first at all
+
+module _ {first : List ℕ} {at : ℕ} {all : List ℕ} where
+  pub left-none : {p : ℕ} → p ≡ at → Left first at all first p all
+  left-none e = record { written = ap (λ (k : ℕ). sets first k all) e }
+
+  pub left-more : {l after : List ℕ} {p q : ℕ} (a : List ℕ) {vs : List ℕ} → after ≡ sets l p a → q ≡ p + length a → Left first at all l p (a ++ vs)
+      → Left first at all after q vs
+  left-more {l} {after} {p} {q} a {vs} e eq r =
+      record { written = ap₂ (λ (k : List ℕ) (j : ℕ). sets k j vs) e eq ∙ sym (sets-append a vs l p) ∙ r .written }
+
+  pub left-all : {l : List ℕ} {p : ℕ} → Left first at all l p [] → l ≡ sets first at all
+  left-all r = r .written
+
+  pub left-length : {l : List ℕ} {p : ℕ} {vs : List ℕ} → Left first at all l p vs → length l ≡ length first
+  left-length {l} {p} {vs} r = sym (length-sets l p vs) ∙ ap length (r .written) ∙ length-sets first at all
+
+-- a slice whose bits keep their number keeps its length
+pub same-slice : (out first : List ℕ) → length (bitsOf out) ≡ length (bitsOf first) → length out ≡ length first
+same-slice out first e = omega (arith, length-bits out, length-bits first)
+
+-- ---- a frame sync
 
 -- j of its groups are written
-pub record SyncUpto (n : FS) (hash : Bool) (before : List ℕ) (at : ℕ) (after : List ℕ) (j : ℕ) : Type 0 where
-  pub groups : GroupsWritten before at (sync hash n) after j
+pub record SyncUpto (n : FS) (hash : Bool) (before : List ℕ) (at : ℕ) (out : List ℕ) (j : ℕ) : Type 0 where
+  pub left : Left (bitsOf before) at (bits (sync hash n)) (bitsOf out) (at + 3 * j) (bits (drop j (sync hash n)))
 
 module _ {n : FS} {hash : Bool} {before : List ℕ} {at : ℕ} where
   pub sync-none : SyncUpto n hash before at before 0
-  sync-none = record { groups = groups-none }
+  sync-none = record { left = left-none (omega arith) }
 
   module _ {out : List ℕ} {j : ℕ} (u : SyncUpto n hash before at out j) where
     pub sync-more : {after : List ℕ} {v : ℕ} → j < 10 → v ≡ syncGroup n hash j → bitsOf after ≡ sets (bitsOf out) (at + 3 * j) (threeOf v)
         → SyncUpto n hash before at after (j + 1)
     unfolding syncGroup
-    sync-more h e w = record { groups = groups-more (u .groups) (omega (arith, length-sync hash n)) e w }
+    sync-more {after} {v} h e w =
+        let ms = sync hash n in
+        let next : j < length ms = omega (arith, length-sync hash n) in
+        let front : bits (drop j ms) ≡ threeOf v ++ bits (drop (j + 1) ms) =
+        rw (add-one, drop-cons ms j m000 next) (ap (λ (x : ℕ). threeOf x ++ bits (drop (suc j) ms)) (sym e)) in
+        record { left = left-more (threeOf v) w (omega arith) (subst (Left (bitsOf before) at (bits ms) (bitsOf out) (at + 3 * j)) front (u .left)) }
 
     pub sync-all : 10 ≤ j → SyncWritten n hash before at out
-    sync-all h = record { bits-are = groups-all (u .groups) (omega (arith, length-sync hash n)) }
+    sync-all h =
+        let end : drop j (sync hash n) ≡ [] = drop-of-length-le (sync hash n) {i = j} (omega (arith, length-sync hash n)) in
+        record { bits-are = left-all (subst (λ (l : List Three). Left (bitsOf before) at (bits (sync hash n)) (bitsOf out) (at + 3 * j) (bits l)) end (u .left)) }
 
     pub sync-length : length out ≡ length before
-    sync-length = same-slice out before (left-length (u .groups .left))
-
--- ---- the frame
-
--- the sync is written, then the modulation bits of the frame's pairs l behind it
-pub frame-written : {n : FS} {hash b : Bool} {row : List ℕ} {dc : ℕ} {l before mid after : List ℕ} {at : ℕ} {answer : Bool} → SyncWritten n hash before at mid → PairsOf row dc l
-    → b ≡ lastBit false (syncId n)
-    → (bitsOf after ≡ sets (bitsOf mid) (at + 30) (bits (modulate b (twos l) .groups))) × (answer ≡ modulate b (twos l) .terminated)
-    → FrameWritten n hash row dc before at after answer
-unfolding frame
-frame-written {n} {hash} {b} {row} {dc} {l} {before} {mid} {after} {at} {answer} s p eb m =
-    record {
-      bits-are =
-          m .0
-          ∙ ap (λ (f : Modulated). sets (bitsOf mid) (at + 30) (bits (f .groups))) is
-          ∙ left-more (bits (sync hash n)) (s .bits-are) (omega (arith, length-bits (sync hash n), length-sync hash n)) whole .written;
-      next-is = m .1 ∙ ap (λ (f : Modulated). f .terminated) is;
-    }
-  where
-    is : modulate b (twos l) ≡ modulated n (framePairs row dc)
-    is = ap₂ modulate eb (p .are)
-
-    whole : Left (bitsOf before) at (bits (frameGroups hash n row dc)) (bitsOf before) at (bits (sync hash n) ++ bits (modulated n (framePairs row dc) .groups))
-    whole =
-        subst (Left (bitsOf before) at (bits (frameGroups hash n row dc)) (bitsOf before) at) (bits-append (sync hash n) (modulated n (framePairs row dc) .groups))
-        (left-none refl)
+    sync-length = same-slice out before (left-length (u .left))

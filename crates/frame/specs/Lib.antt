@@ -5,4 +5,5 @@ pub mod Sync
 pub mod Frame
 pub mod Written
 pub mod Reading
+pub mod Words
 pub mod Slices

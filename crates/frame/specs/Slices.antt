@@ -5,17 +5,11 @@ use Prim.Native.Nat.{ℕ}
 use lib.ListN.{length}
 use Rattle.modulation.specs.Bits.{dataBits}
 use Rattle.modulation.specs.Pairs.{Pairs, twos}
-use Rattle.frame.specs.Frame.{framePairs}
 
 -- 634 pairs as numbers
 pub record Whole (l : List ℕ) : Type 0 where
   pub size : length l ≡ 634
   pub are-pairs : Pairs l
-
--- those of the frame with row and dc word
-pub record PairsOf (row : List ℕ) (dc : ℕ) (l : List ℕ) : Type 0 where
-  pub whole : Whole l
-  pub are : twos l ≡ framePairs row dc
 
 -- their data bits
 unfoldable pub bitsIn : List ℕ → List ℕ

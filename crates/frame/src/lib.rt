@@ -1,6 +1,7 @@
 // Recording frames (13.15, 13.17.4): a row of 155 bytes and a dc word to 1,932 modulation bits, and back.
 mod sync;
 mod weave;
+mod write;
 
 use demodulator::Found;
 use demodulator::Table;
@@ -11,12 +12,12 @@ ghost use Rattle.bits.specs.Bits.{bitsOf};
 ghost use Rattle.demodulator.specs.Table.{table};
 ghost use Rattle.demodulator.specs.Words.{Words};
 ghost use Rattle.frame.specs.Sync.{fs};
-ghost use Rattle.frame.specs.Written.{FrameWritten};
 ghost use Rattle.frame.specs.Reading.{StrictlyRead, Taken, FrameWords};
 pub use sync::hash_at;
 pub use sync::sync_number;
 pub use sync::sync_right;
 pub use sync::write_sync;
+pub use write::write_frame;
 
 // What the strict reader finds: the dc word, or that no 1,268 bits give the frame and # of the next sync.
 pub enum FrameRead {
@@ -24,37 +25,11 @@ pub enum FrameRead {
     NoFrame,
 }
 
-// 634 pairs, all 0.
-fn no_pairs() -> [u8; 634]
-    ensures { λ r. ⌜ length r ≡ 634 ⌝ }
-{
-    [0u8; 634]
-}
-
 // 29 words, all 0.
 pub fn no_words() -> [u64; 29]
     ensures { λ r. ⌜ length r ≡ 29 ⌝ }
 {
     [0u64; 29]
-}
-
-// The frame of a row and a dc word, from bit `at` of the image on; `hash` is # of its sync, and the answer is # of the next one.
-// For the crates of this repository.
-pub fn write_frame(
-    row: &[u8],
-    dc: u32,
-    number: usize,
-    hash: bool,
-    image: &mut [u8],
-    at: usize,
-) -> bool
-    requires { ⌜ (length (now row) ≡ 155) × ((number < 7) × (at + 1932 < 18446744073709551616)) ⌝ }
-    ensures { λ r. ⌜ FrameWritten (fs number) hash (now (row .entry)) dc (now (image .entry)) at (now (image .exit)) r ⌝ }
-{
-    write_sync(hash, number, image, at);
-    let mut pairs = no_pairs();
-    weave::frame_pairs(row, dc, &mut pairs);
-    modulator::modulate(&pairs, sync::sync_end(number), image, at + 30)
 }
 
 // The frame of the words, if it was found: then its row is left in the slice. For the crates of this repository.

@@ -3,9 +3,10 @@ ghost use mathlib.Core.Path.{_≡_};
 ghost use mathlib.Core.Bool.{false};
 ghost use Prim.Native.Nat.{_+_, _*_, _<_, _≤_};
 ghost use lib.ListN.{length};
-ghost use Rattle.bits.specs.Bits.{bitsOf};
+ghost use Rattle.bits.specs.Bits.{bitsOf, number as numberOf};
+ghost use Rattle.modulation.specs.Bits.{bits};
 ghost use Rattle.modulation.specs.Modulation.{lastBit};
-ghost use Rattle.modulation.specs.Sync.{syncId, syncNumber};
+ghost use Rattle.modulation.specs.Sync.{sync, syncId, syncNumber};
 ghost use Rattle.frame.specs.Sync.{fs, fsNumber, syncGroup, hashAt, syncRight};
 ghost use Rattle.frame.specs.Written.{SyncWritten};
 
@@ -44,8 +45,8 @@ const SYNC_NUMBERS: [usize; 31] = [
     2,
 ];
 
-// The sync body behind its first three bits, #01.
-const SYNC_BODY: [u8; 7] = [0b010, 0b000, 0b000, 0b010, 0b000, 0b000, 0b010];
+// The sync body with # ZERO, and six bits for the ID behind it.
+const SYNC_BODY: u64 = 0b001_010_000_000_010_000_000_010_000_000;
 
 // The sync IDs of FS0 to FS6.
 const SYNC_IDS: [u8; 7] = [
@@ -65,17 +66,24 @@ pub fn sync_number(n: usize) -> usize
     SYNC_NUMBERS[n % 31]
 }
 
-// Group j of the ten of a frame sync: #01, the rest of the body, the ID.
+// The 30 bits of a frame sync as a number.
+pub fn sync_word(hash: bool, number: usize) -> u64
+    requires { ⌜ number < 7 ⌝ }
+    ensures { λ r. ⌜ (r ≡ numberOf (bits (sync hash (fs number)))) × (r < 1073741824) ⌝ }
+{
+    let id = SYNC_IDS[number] as u64;
+    if hash {
+        return 536870912 + SYNC_BODY + id;
+    }
+    SYNC_BODY + id
+}
+
+// Group j of its ten.
 fn sync_group(hash: bool, number: usize, j: usize) -> u8
     requires { ⌜ (number < 7) × (j < 10) ⌝ }
     ensures { λ r. ⌜ r ≡ syncGroup (fs number) hash j ⌝ }
 {
-    match j {
-        0 => if hash { 0b101 } else { 0b001 },
-        8 => SYNC_IDS[number] / 8,
-        9 => SYNC_IDS[number] % 8,
-        _ => SYNC_BODY[j - 1],
-    }
+    ((sync_word(hash, number) >> (27 - 3 * j)) % 8) as u8
 }
 
 // The last bit of a frame sync.

@@ -204,8 +204,18 @@ fn frame_lines(input: &[u8])
 {
     let head = head_of(input);
     let sync = head.number;
+    let mut table = modulator::no_table();
+    modulator::fill_table(&mut table);
     let mut image = blank();
-    let next = frame::write_frame(&input[6..161], head.dc, sync, head.hash, &mut image, AT);
+    let next = frame::write_frame(
+        &table,
+        &input[6..161],
+        head.dc,
+        sync,
+        head.hash,
+        &mut image,
+        AT,
+    );
     bytes_line(b"image ", &image);
     number(b"# ", flag(frame::hash_at(&image, AT)));
     number(b" next # ", flag(next));

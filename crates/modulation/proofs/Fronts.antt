@@ -92,7 +92,7 @@ module _ {A : Type 0} (n : A → ℕ) (injective : (x y : A) → n x ≡ n y →
             let front = number-injective (take (length xs) l) xs (length-take-le (length xs) l within) same in
             ap (starts n xs) (sym (take-append-drop (length xs) l) ∙ ap (λ (k : List A). k ++ drop (length xs) l) front) ∙ starts-append xs (drop (length xs) l)
 
-bits-dataBits : (ds : List Two) → Bits (dataBits ds)
+pub bits-dataBits : (ds : List Two) → Bits (dataBits ds)
 bits-dataBits [] i = omega arith
 bits-dataBits (d00 ∷ ds) zero = omega arith
 bits-dataBits (d01 ∷ ds) zero = omega arith

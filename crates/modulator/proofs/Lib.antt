@@ -1,9 +1,13 @@
 -- Laws that the proofs of the modulator's functions cite.
-pub mod Rows
+pub mod CodedRows
 pub mod Search
-pub mod Ahead
+pub mod FewPairs
 pub mod Next
-pub mod Told
 pub mod Fitting
-pub mod Writing
 pub mod Modulating
+pub mod Runs
+pub mod Holding
+pub mod Tables
+pub mod Put
+pub mod Turning
+pub mod Entries

@@ -7,7 +7,7 @@ use lib.ListN.{List·getD-eq-default}
 use Rattle.laws.specs.First.{first}
 use Rattle.modulation.specs.Modulation.{Two, d00, d01, d10, d11, Row, rows, noRow, rowAt, startsWith010, modulateFrom, modulate}
 use Rattle.modulation.proofs.Machine.{next-11}
-use Rattle.modulator.specs.Ahead.{standingRow}
+use Rattle.modulator.specs.Few.{standingRow}
 
 pub next-010 : (b : Bool) (ds : List Two) → startsWith010 (modulate b ds .groups) ≡ startsWith010 (rowAt (standingRow ds) .groups)
 unfolding modulateFrom first

@@ -1,3 +1,5 @@
--- The rows in the code's table, and what the modulator's functions answer.
+-- The rows in the code's table, what is found by them, the table made of them, and what a modulated frame leaves in a slice.
 pub mod Rows
-pub mod Ahead
+pub mod Few
+pub mod Table
+pub mod Put

@@ -7,9 +7,9 @@ use Rattle.laws.specs.Tabulate.{tabulate}
 use Rattle.bits.specs.Bits.{number}
 use Rattle.modulation.specs.Modulation.{Row, When, always, after-one, after-zero, before-010, at-end, rowAt}
 use Rattle.modulation.specs.Bits.{dataBits, bits}
-use Rattle.modulator.specs.declared.Row.{Row as CodeRow}
-use Rattle.modulator.specs.declared.When.{When as CodeWhen}
-use Rattle.modulator.specs.declared.When.the-variants.{Always, AfterOne, AfterZero, Before010, AtEnd}
+use Rattle.modulator.specs.declared.conversion.Row.{Row as CodeRow}
+use Rattle.modulator.specs.declared.conversion.When.{When as CodeWhen}
+use Rattle.modulator.specs.declared.conversion.When.the-variants.{Always, AfterOne, AfterZero, Before010, AtEnd}
 
 abbrev pub codedWhen : When → CodeWhen
 codedWhen always = Always
@@ -43,6 +43,11 @@ packed r = 0x800000 * r .0 + 0x100000 * whenNumber (r .3) + 0x1000 * r .1 + r .2
 -- the rows as they are lent
 unfoldable pub packedRows : List ℕ
 packedRows = tabulate 16 (λ k. packed (coded (rowAt k)))
+
+-- r is row k
+pub record IsRow (k : ℕ) (r : CodeRow) : Type 0 where
+  pub below : k < 16
+  pub is : r ≡ coded (rowAt k)
 
 -- row k has n pairs and as many groups, 1 to 4
 pub record Sized (k n : ℕ) : Type 0 where

@@ -2,14 +2,14 @@
 use address::Judged;
 use address::Psn;
 use answer::Answer;
-use table_modulator::Table;
+use modulator::Table;
 ghost use mathlib.Core.Path.{_≡_};
 ghost use Prim.Native.Nat.{_*_, _<_};
 ghost use lib.ListN.{length, getD};
 ghost use Rattle.answer.specs.Answer.{andThen, lengthsAnswer};
 ghost use Rattle.modulation.specs.Sync.{syncNumber};
 ghost use Rattle.frame.specs.Written.{FrameWritten};
-ghost use Rattle.table_modulator.specs.Table.{lentTable};
+ghost use Rattle.modulator.specs.Table.{lentTable};
 ghost use Rattle.cluster.specs.EccCluster.{rowOf};
 ghost use Rattle.image.specs.Image.{Input};
 ghost use Rattle.writer.specs.Written.{FramesWritten, ImageWritten, Passed, Filled};
@@ -37,7 +37,7 @@ fn put_frame(table: &Table, work: &[u8], dc: &[u32], n: usize, hash: bool, image
 {
     let row = cluster::row(work, n);
     let number = frame::sync_number(n);
-    table_frame::write_frame(table, row, dc[n], number, hash, image, 1932 * n)
+    frame::write_frame(table, row, dc[n], number, hash, image, 1932 * n)
 }
 
 // The 496 frames; the answer is # of the sync that follows.
@@ -45,7 +45,8 @@ fn put_frames(work: &[u8], dc: &[u32], image: &mut [u8]) -> bool
     requires { ⌜ ((length (now work) ≡ 76880) × (length (now dc) ≡ 496)) × (length (now image) ≡ 119788) ⌝ }
     ensures { λ r. ⌜ FramesWritten (now (work .entry)) (now (dc .entry)) (now (image .entry)) 496 (now (image .exit)) r ⌝ }
 {
-    let table = table_modulator::make_table();
+    let mut table = modulator::no_table();
+    modulator::fill_table(&mut table);
     let mut hash = false;
     let mut n = 0;
     while n < 496 {

@@ -4,6 +4,12 @@ use borrow.Author.Needs.{needs}
 use Rattle.gaps.proofs.frame_counts.Statement.{statement}
 use Rattle.gaps.proofs.frame_counts.Tie as tie
 
+no-table-requires : tie.Need-no-table-requires
+no-table-requires c κs = search needs
+
+fill-table-requires : tie.Need-fill-table-requires
+fill-table-requires c κs = search needs
+
 blank-requires : tie.Need-blank-requires
 blank-requires c κs = search needs
 
@@ -26,6 +32,8 @@ pub frame-counts-spec : {M : Type 1} → statement M
 frame-counts-spec =
     tie.close
     (tie.spec
+    no-table-requires
+    fill-table-requires
     blank-requires
     slice-aggregate-write-frame
     write-frame-requires

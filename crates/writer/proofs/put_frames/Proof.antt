@@ -3,7 +3,7 @@ use mathlib.Core.Path.{_≡_}
 use native.Mathlib.Omega.{arith}
 use Prim.Native.Nat.{_-_, _≤_}
 use borrow.Author.Needs.{needs}
-use Rattle.table_modulator.specs.Table.{lentTable}
+use Rattle.modulator.specs.Table.{lentTable}
 use Rattle.writer.specs.Written.{FramesWritten}
 use Rattle.writer.proofs.Frames.{frames-none, frames-more, frames-end}
 use Rattle.writer.proofs.put_frames.Statement.{statement}
@@ -15,11 +15,14 @@ Inv-loop work dc image₀ table hash₀ n₀ image hash n = (table ≡ lentTable
 abbrev μ-loop : tie.MeasureT-loop
 μ-loop work dc image₀ table hash₀ n₀ image hash n = 496 - n
 
-make-table-requires : tie.Need-make-table-requires Inv-loop μ-loop
-make-table-requires c κs = search needs
+no-table-requires : tie.Need-no-table-requires Inv-loop μ-loop
+no-table-requires c κs = search needs
+
+fill-table-requires : tie.Need-fill-table-requires Inv-loop μ-loop
+fill-table-requires c κs = search needs
 
 loop-holds : tie.Need-loop-holds Inv-loop μ-loop
-loop-holds c = (c .make-table .ensures, (omega arith, frames-none _ _ _))
+loop-holds c = (c .fill-table .ensures, (omega arith, frames-none _ _ _))
 
 put-frame-requires : tie.Need-put-frame-requires Inv-loop μ-loop
 put-frame-requires c κs = search needs
@@ -45,7 +48,8 @@ put-frames-spec =
     (tie.spec
     Inv-loop
     μ-loop
-    make-table-requires
+    no-table-requires
+    fill-table-requires
     loop-holds
     put-frame-requires
     add-n
