@@ -1,5 +1,5 @@
 -- The table's entries, by tests over states and groups; several groups read at once. Assumes nothing.
-use mathlib.Core.Bool.{true, false, cond}
+use mathlib.Core.Bool.{Bool, true, false, cond}
 use mathlib.Core.List.{List, [], _∷_, _++_}
 use mathlib.Core.Path.{_≡_, refl, sym, ap, ap₂, subst, _∙_}
 use Prim.Native.Nat.{ℕ, zero, suc, _+_, _*_, _-_, _/_, _%_, _^_, _<_, _≤_}
@@ -13,8 +13,8 @@ use Rattle.laws.proofs.Finite.{both, both-left, both-right, all, all-at, all₂
 use Rattle.laws.proofs.Tabulate.{getD-tabulate}
 use Rattle.modulation.specs.Modulation.{Three, m000, m001, m010, m011, m100, m101, m110, m111, threeNumber}
 use Rattle.modulation.proofs.Fronts.{three-below}
-use Rattle.demodulator.specs.Automaton.{reads, next, added, stateAfter, numberAfter}
-use Rattle.demodulator.specs.Table.{group, twoGroups, threeGroups, readFrom, tableEntry, table, After}
+use Rattle.demodulator.specs.Automaton.{reads, start, next, added, stateAfter, numberAfter}
+use Rattle.demodulator.specs.Table.{group, twoGroups, threeGroups, readFrom, tableEntry, table, After, limit}
 use Rattle.demodulator.proofs.Complete.{after-append}
 
 -- ---- one group
@@ -136,6 +136,10 @@ unfolding stateAfter
 state-small s [] h = h
 state-small s (g ∷ gs) h = state-small (next s (threeNumber g)) gs (entry-state s (threeNumber g) h (three-below g))
 
+pub start-small : (before : Bool) → start before < 18
+start-small true = omega arith
+start-small false = omega arith
+
 -- x with the groups read whose entry is e
 pub after-entry : (gs : List Three) (x e : ℕ) (w : ℕ) → w ≡ 32 * 4 ^ length gs → x % 32 < 18 → e ≡ readFrom (x % 32) gs → After gs x (x / 32 * w + e)
 unfolding readFrom
@@ -168,10 +172,6 @@ after-more {gs} {hs} {x} {y} {r} a b =
     }
 
 -- ---- how large the number grows
-
--- 2 to the power of the bits pending in a state
-abbrev pub limit : ℕ → ℕ
-limit s = getD (1 ∷ 1 ∷ 1 ∷ 1 ∷ 2 ∷ 2 ∷ 1 ∷ 4 ∷ 2 ∷ 8 ∷ 8 ∷ 4 ∷ 2 ∷ 8 ∷ 2 ∷ 32 ∷ 16 ∷ 1 ∷ []) s 1
 
 grows-within : (s g : ℕ) → s < 18 → g < 8 → T (leb (added s g + limit (next s g)) (4 * limit s))
 unfolding all all₂ reads

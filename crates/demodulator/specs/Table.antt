@@ -1,14 +1,15 @@
 -- Two and three groups at once: a table by state and groups. A number x stands for a state and the number of the data bits so far: 32 times
 -- the latter, and the state.
-use mathlib.Core.Bool.{cond}
+use mathlib.Core.Bool.{Bool, cond}
 use mathlib.Core.List.{List, [], _∷_}
 use mathlib.Core.Path.{_≡_}
 use Prim.Native.Nat.{ℕ, _+_, _*_, _-_, _/_, _%_, _<_}
-use lib.Dec.{ltb}
+use lib.Dec.{eqb, ltb}
+use lib.ListN.{getD}
 use Rattle.laws.specs.Tabulate.{tabulate}
 use Rattle.modulation.specs.Modulation.{Three}
 use Rattle.modulation.specs.Bits.{three}
-use Rattle.demodulator.specs.Automaton.{stateAfter, numberAfter}
+use Rattle.demodulator.specs.Automaton.{ending, stateAfter, numberAfter}
 
 abbrev pub group : ℕ → Three
 group g = three (g / 4 % 2) (g / 2 % 2) (g % 2)
@@ -35,3 +36,26 @@ pub record After (gs : List Three) (x r : ℕ) : Type 0 where
   pub number : r / 32 ≡ numberAfter (x % 32) (x / 32) gs
   pub state : r % 32 ≡ stateAfter (x % 32) gs
   pub small : r % 32 < 18
+
+-- 2 to the power of the bits pending in a state
+abbrev pub limit : ℕ → ℕ
+limit s = getD (1 ∷ 1 ∷ 1 ∷ 1 ∷ 2 ∷ 2 ∷ 1 ∷ 4 ∷ 2 ∷ 8 ∷ 8 ∷ 4 ∷ 2 ∷ 8 ∷ 2 ∷ 32 ∷ 16 ∷ 1 ∷ []) s 1
+
+-- x is a state and a number of 46 bits whose pending bits are zeros
+pub record Held (x : ℕ) : Type 0 where
+  pub state : x % 32 < 18
+  pub below : x < 2251799813685248
+  pub pending : x / 32 % 32 % limit (x % 32) ≡ 0
+
+-- with the groups gs read, x is a word of 46 bits and what is held of the next
+pub record NextWord (gs : List Three) (x word held : ℕ) : Type 0 where
+  pub number : word * 70368744177664 + held / 32 ≡ numberAfter (x % 32) (x / 32) gs
+  pub state : held % 32 ≡ stateAfter (x % 32) gs
+  pub below : word < 70368744177664
+  pub holds : Held held
+
+-- at the frame's end x is a last word, and it is found whether a frame may end so
+pub record LastWord (x : ℕ) (hash : Bool) (word : ℕ) (found : Bool) : Type 0 where
+  pub number : word ≡ x / 32 + ending (x % 32) hash / 2
+  pub answer : found ≡ eqb (ending (x % 32) hash % 2) 0
+  pub below : word < 70368744177664

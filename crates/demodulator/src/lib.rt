@@ -9,9 +9,9 @@ ghost use Prim.Native.Nat.{_+_, _*_, _-_, _/_, _%_, _^_, _<_, _≤_};
 ghost use lib.ListN.{length, getD, take, drop};
 ghost use Rattle.bits.specs.Bits.{bitsOf};
 ghost use Rattle.demodulator.specs.Groups.{Inside, groupsAt};
-ghost use Rattle.demodulator.specs.Automaton.{reads, ending};
+ghost use Rattle.demodulator.specs.Automaton.{reads, start, ending};
 ghost use Rattle.demodulator.specs.Words.{WordsRead};
-ghost use Rattle.demodulator.specs.Table.{twoGroups, threeGroups, readFrom, tableEntry, table, After};
+ghost use Rattle.demodulator.specs.Table.{twoGroups, threeGroups, readFrom, tableEntry, table, After, Held, NextWord, LastWord};
 
 // Three groups at each state, then two.
 pub type Table = [u16; 10368];
@@ -137,55 +137,6 @@ fn segment(made: &Table, bytes: &[u8], at: usize, s: u64) -> u64
     two_on(made, x, six(bytes, at + 63))
 }
 
-// 13 groups: 26 data bits.
-fn first(made: &Table, bytes: &[u8], at: usize, s: u64) -> u64
-    requires { ⌜ (now made ≡ table) × ((s < 18) × Inside (now bytes) at 13) ⌝ }
-    ensures { λ r. ⌜ After (groupsAt (bitsOf (now (bytes .entry))) at 13) s r ⌝ }
-{
-    let x = run(made, bytes, at, s, 3);
-    let y = two_on(made, x, six(bytes, at + 27));
-    two_on(made, y, six(bytes, at + 33))
-}
-
-// Two frames at once: the look-ups of one wait while those of the other go on.
-pub struct Two {
-    pub first: u64,
-    pub second: u64,
-}
-
-// The groups at two positions, three a turn.
-fn run_two(made: &Table, bytes: &[u8], at: usize, also: usize, s: u64, t: u64, turns: usize) -> Two
-    requires { ⌜ (now made ≡ table) × (((s < 18) × (t < 18)) × ((turns < 8) × (Inside (now bytes) at (3 * turns) × Inside (now bytes) also (3 * turns)))) ⌝ }
-    ensures { λ r. ⌜ After (groupsAt (bitsOf (now (bytes .entry))) at (3 * turns)) s (r .first) × After (groupsAt (bitsOf (now (bytes .entry))) also (3 * turns)) t (r .second) ⌝ }
-{
-    let mut x = s;
-    let mut y = t;
-    let mut k = 0;
-    while k < turns {
-        x = three_on(made, x, nine(bytes, at + 9 * k));
-        y = three_on(made, y, nine(bytes, also + 9 * k));
-        k += 1;
-    }
-    Two {
-        first: x,
-        second: y,
-    }
-}
-
-// 23 groups at each of two positions.
-fn segment_two(made: &Table, bytes: &[u8], at: usize, also: usize, s: u64, t: u64) -> Two
-    requires { ⌜ (now made ≡ table) × (((s < 18) × (t < 18)) × (Inside (now bytes) at 23 × Inside (now bytes) also 23)) ⌝ }
-    ensures { λ r. ⌜ After (groupsAt (bitsOf (now (bytes .entry))) at 23) s (r .first) × After (groupsAt (bitsOf (now (bytes .entry))) also 23) t (r .second) ⌝ }
-{
-    let ran = run_two(made, bytes, at, also, s, t, 7);
-    let x = two_on(made, ran.first, six(bytes, at + 63));
-    let y = two_on(made, ran.second, six(bytes, also + 63));
-    Two {
-        first: x,
-        second: y,
-    }
-}
-
 fn flag(b: bool) -> u64
     ensures { λ r. ⌜ (r ≡ cond b 1 0) × (r < 2) ⌝ }
 {
@@ -201,6 +152,52 @@ fn ending(s: u64, hash: bool) -> u64
     wide(ends[(2 * s + flag(hash)) as usize])
 }
 
+// The frame's first 13 groups: 26 data bits.
+fn begin(made: &Table, bytes: &[u8], at: usize, before: bool) -> u64
+    requires { ⌜ (now made ≡ table) × Inside (now bytes) at 13 ⌝ }
+    ensures { λ r. ⌜ After (groupsAt (bitsOf (now (bytes .entry))) at 13) (start before) r ⌝ }
+{
+    let x = run(made, bytes, at, flag(before), 3);
+    let y = two_on(made, x, six(bytes, at + 27));
+    two_on(made, y, six(bytes, at + 33))
+}
+
+// A word of 46 data bits, and what is held of the next.
+struct Next {
+    word: u64,
+    held: u64,
+}
+
+// The frame's word i: what is held, with 23 groups more.
+fn next_word(made: &Table, bytes: &[u8], at: usize, i: usize, x: u64) -> Next
+    requires { ⌜ (now made ≡ table) × ((i < 27) × (Inside (now bytes) at 634 × Held x)) ⌝ }
+    ensures { λ r. ⌜ NextWord (groupsAt (bitsOf (now (bytes .entry))) (at + 39 + 69 * i) 23) x (r .word) (r .held) ⌝ }
+{
+    let y = segment(made, bytes, at + 39 + 69 * i, x % 32);
+    Next {
+        word: x / 32 + y / 2251799813685248,
+        held: y % 2251799813685248,
+    }
+}
+
+// The frame's last word, and whether a frame may end so.
+struct Last {
+    word: u64,
+    found: bool,
+}
+
+// What is held, with what the frame's end adds.
+fn last_word(x: u64, hash: bool) -> Last
+    requires { ⌜ Held x ⌝ }
+    ensures { λ r. ⌜ LastWord x hash (r .word) (r .found) ⌝ }
+{
+    let end = ending(x % 32, hash);
+    Last {
+        word: x / 32 + end / 2,
+        found: end % 2 == 0,
+    }
+}
+
 // The data bits of the 634 groups at bit `at`, in words of 46 bits; whether there are data bits that give these groups.
 pub fn read_words(
     made: &Table,
@@ -213,18 +210,18 @@ pub fn read_words(
     requires { ⌜ (now made ≡ table) × ((length (now words) ≡ 29) × Inside (now bytes) at 634) ⌝ }
     ensures { λ r. ⌜ WordsRead before (take 1902 (drop at (bitsOf (now (bytes .entry))))) hash r (now (words .exit)) ⌝ }
 {
-    let mut x = first(made, bytes, at, flag(before));
+    let mut x = begin(made, bytes, at, before);
     let mut i = 0;
     while i < 27 {
-        let y = segment(made, bytes, at + 39 + 69 * i, x % 32);
-        words[i] = x / 32 + y / 2251799813685248;
-        x = y % 2251799813685248;
+        let next = next_word(made, bytes, at, i, x);
+        words[i] = next.word;
+        x = next.held;
         i += 1;
     }
-    let end = ending(x % 32, hash);
-    words[27] = x / 32 + end / 2;
+    let last = last_word(x, hash);
+    words[27] = last.word;
     words[28] = 0;
-    end % 2 == 0
+    last.found
 }
 
 // Which of two frames were found.
@@ -233,7 +230,7 @@ pub struct Found {
     pub second: bool,
 }
 
-// The same of two frames, at `at` and at `also`.
+// The same of two frames, at `at` and at `also`: the look-ups of one go on while those of the other wait.
 pub fn read_two(
     made: &Table,
     bytes: &[u8],
@@ -249,32 +246,26 @@ pub fn read_two(
     requires { ⌜ (now made ≡ table) × (((length (now words) ≡ 29) × (length (now more) ≡ 29)) × (Inside (now bytes) at 634 × Inside (now bytes) also 634)) ⌝ }
     ensures { λ r. ⌜ WordsRead before (take 1902 (drop at (bitsOf (now (bytes .entry))))) hash (r .first) (now (words .exit)) × WordsRead prior (take 1902 (drop also (bitsOf (now (bytes .entry))))) sign (r .second) (now (more .exit)) ⌝ }
 {
-    let mut x = first(made, bytes, at, flag(before));
-    let mut y = first(made, bytes, also, flag(prior));
+    let mut x = begin(made, bytes, at, before);
+    let mut y = begin(made, bytes, also, prior);
     let mut i = 0;
     while i < 27 {
-        let next = segment_two(
-            made,
-            bytes,
-            at + 39 + 69 * i,
-            also + 39 + 69 * i,
-            x % 32,
-            y % 32,
-        );
-        words[i] = x / 32 + next.first / 2251799813685248;
-        more[i] = y / 32 + next.second / 2251799813685248;
-        x = next.first % 2251799813685248;
-        y = next.second % 2251799813685248;
+        let one = next_word(made, bytes, at, i, x);
+        let two = next_word(made, bytes, also, i, y);
+        words[i] = one.word;
+        more[i] = two.word;
+        x = one.held;
+        y = two.held;
         i += 1;
     }
-    let end = ending(x % 32, hash);
-    let last = ending(y % 32, sign);
-    words[27] = x / 32 + end / 2;
+    let one = last_word(x, hash);
+    let two = last_word(y, sign);
+    words[27] = one.word;
     words[28] = 0;
-    more[27] = y / 32 + last / 2;
+    more[27] = two.word;
     more[28] = 0;
     Found {
-        first: end % 2 == 0,
-        second: last % 2 == 0,
+        first: one.found,
+        second: two.found,
     }
 }
