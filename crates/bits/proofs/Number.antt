@@ -43,7 +43,7 @@ number-lt [] h = omega arith
 number-lt (x ∷ xs) h = rw (pow-suc 2 (length xs)) (omega (arith, digits-lt {q = x} {m = 2} {r = number xs} {c = 2 ^ length xs} (h 0) (number-lt xs (λ i. h (suc i)))))
 
 -- what stands above bit n does not touch the bits below
-below-block : (n a r t : ℕ) → t < n → (a * 2 ^ n + r) / 2 ^ t % 2 ≡ r / 2 ^ t % 2
+pub below-block : (n a r t : ℕ) → t < n → (a * 2 ^ n + r) / 2 ^ t % 2 ≡ r / 2 ^ t % 2
 below-block zero a r t h = absurd (omega arith)
 below-block (suc n) a r zero h = block-odd′ (a * 2 ^ suc n + r) r (block-odd a n r)
   where

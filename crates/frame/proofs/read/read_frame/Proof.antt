@@ -1,8 +1,8 @@
 -- `read_frame` meets its contract: the words that were read, if any, taken apart (Reading). Assumes nothing.
 use borrow.Author.Needs.{needs}
 use Rattle.frame.proofs.Reading.{reads}
-use Rattle.frame.proofs.read_frame.Statement.{statement}
-use Rattle.frame.proofs.read_frame.Tie as tie
+use Rattle.frame.proofs.read.read_frame.Statement.{statement}
+use Rattle.frame.proofs.read.read_frame.Tie as tie
 
 no-words-requires : tie.Need-no-words-requires
 no-words-requires c κs = search needs

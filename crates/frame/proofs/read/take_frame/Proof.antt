@@ -1,8 +1,8 @@
 -- `take_frame` meets its contract: the row and the dc word of the words, if any (Reading). Assumes nothing.
 use borrow.Author.Needs.{needs}
 use Rattle.frame.proofs.Reading.{taken-there, taken-none}
-use Rattle.frame.proofs.take_frame.Statement.{statement}
-use Rattle.frame.proofs.take_frame.Tie as tie
+use Rattle.frame.proofs.read.take_frame.Statement.{statement}
+use Rattle.frame.proofs.read.take_frame.Tie as tie
 
 row-in-requires : tie.Need-row-in-requires
 row-in-requires c κs = search needs
