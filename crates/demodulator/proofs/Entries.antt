@@ -1,20 +1,19 @@
 -- The table's entries, by tests over states and groups; several groups read at once. Assumes nothing.
-use mathlib.Core.Bool.{Bool, true, false, cond}
+use mathlib.Core.Bool.{Bool, true, false}
 use mathlib.Core.List.{List, [], _∷_, _++_}
 use mathlib.Core.Path.{_≡_, refl, sym, ap, ap₂, subst, _∙_}
-use Prim.Native.Nat.{ℕ, zero, suc, _+_, _*_, _-_, _/_, _%_, _^_, _<_, _≤_}
+use Prim.Native.Nat.{ℕ, _+_, _*_, _-_, _/_, _%_, _^_, _<_, _≤_}
 use native.Mathlib.Nat.{add-mul, mul-assoc, mul-comm, pow-suc, mul-le-mul-left, mul-le-mul-right, pow-le-pow-right}
 use native.Mathlib.Omega.{arith}
 use borrow.Author.Tests.{lt-ltb, le-ltb}
-use lib.Arith.{digits-div, digits-mod}
 use lib.Dec.{T, eqb, eqb→eq, ltb, ltb→lt, leb, leb→le}
 use lib.ListN.{length, getD}
 use Rattle.laws.proofs.Finite.{both, both-left, both-right, all, all-at, all₂, all₂-at}
 use Rattle.laws.proofs.Tabulate.{getD-tabulate}
-use Rattle.modulation.specs.Modulation.{Three, m000, m001, m010, m011, m100, m101, m110, m111, threeNumber}
+use Rattle.modulation.specs.Modulation.{Three, threeNumber}
 use Rattle.modulation.proofs.Fronts.{three-below}
 use Rattle.demodulator.specs.Automaton.{reads, start, next, added, stateAfter, numberAfter}
-use Rattle.demodulator.specs.Table.{group, twoGroups, threeGroups, readFrom, tableEntry, table, After, limit}
+use Rattle.demodulator.specs.Table.{twoGroups, threeGroups, readFrom, tableEntry, table, After, limit}
 use Rattle.demodulator.proofs.Complete.{after-append}
 
 -- ---- one group
@@ -58,20 +57,13 @@ module _ (s v : ℕ) (hs : s < 18) (hv : v < 64) where
       ltb→lt (readFrom s (twoGroups v) % 32) 18
       (both-right (ltb (readFrom s (twoGroups v)) 14752) _ (both-right (eqb (then (entry s (v / 8)) (v % 8)) (readFrom s (twoGroups v))) _ (two-test s v hs hv)))
 
-three-test : (s v : ℕ) → s < 18 → v < 512
-    → T (both (eqb (then (readFrom s (twoGroups (v / 8))) (v % 8)) (readFrom s (threeGroups v))) (ltb (readFrom s (threeGroups v) % 32) 18))
+three-test : (s v : ℕ) → s < 18 → v < 512 → T (eqb (then (readFrom s (twoGroups (v / 8))) (v % 8)) (readFrom s (threeGroups v)))
 unfolding all all₂ reads readFrom numberAfter stateAfter
-three-test =
-    all₂-at 18 512 (λ s v. both (eqb (then (readFrom s (twoGroups (v / 8))) (v % 8)) (readFrom s (threeGroups v))) (ltb (readFrom s (threeGroups v) % 32) 18)) tt
+three-test = all₂-at 18 512 (λ s v. eqb (then (readFrom s (twoGroups (v / 8))) (v % 8)) (readFrom s (threeGroups v))) tt
 
-module _ (s v : ℕ) (hs : s < 18) (hv : v < 512) where
-  pub three-is : then (readFrom s (twoGroups (v / 8))) (v % 8) ≡ readFrom s (threeGroups v)
-  three-is = eqb→eq _ _ (both-left (eqb (then (readFrom s (twoGroups (v / 8))) (v % 8)) (readFrom s (threeGroups v))) _ (three-test s v hs hv))
-
-  pub three-state : readFrom s (threeGroups v) % 32 < 18
-  three-state =
-      ltb→lt (readFrom s (threeGroups v) % 32) 18
-      (both-right (eqb (then (readFrom s (twoGroups (v / 8))) (v % 8)) (readFrom s (threeGroups v))) _ (three-test s v hs hv))
+pub three-is : (s v : ℕ) → s < 18 → v < 512 → then (readFrom s (twoGroups (v / 8))) (v % 8) ≡ readFrom s (threeGroups v)
+three-is s v hs hv =
+    eqb→eq _ _ (three-test s v hs hv)
 
 -- ---- the table's places
 

@@ -1,8 +1,8 @@
 -- A frame's words, one a turn, and the answer. Assumes nothing.
-use mathlib.Core.Bool.{Bool, true, false, cond, false≢true, true≢false}
-use mathlib.Core.List.{List, [], _∷_, _++_}
-use mathlib.Core.Path.{_≡_, refl, sym, ap, ap₂, subst, _∙_}
-use Prim.Native.Nat.{ℕ, zero, suc, _+_, _*_, _-_, _/_, _%_, _^_, _<_, _≤_}
+use mathlib.Core.Bool.{Bool, true, false, false≢true}
+use mathlib.Core.List.{List, _++_}
+use mathlib.Core.Path.{_≡_, sym, ap, ap₂, subst, _∙_}
+use Prim.Native.Nat.{ℕ, _+_, _*_, _-_, _/_, _%_, _^_, _<_, _≤_}
 use native.Mathlib.Decide.{decLt, ℕ-discrete}
 use native.Mathlib.Nat.{not-suc-le-zero}
 use native.Mathlib.Omega.{arith}
@@ -13,7 +13,7 @@ use lib.Seq.{getD-set-same, getD-set-other}
 use Rattle.bits.specs.Bits.{bitsOf}
 use Rattle.bits.proofs.Bits.{length-bits as length-bitsOf, bits-bits}
 use Rattle.modulation.specs.Modulation.{Two, Three, Modulated, modulate}
-use Rattle.modulation.specs.Bits.{pairs, bits, dataBits, Gives}
+use Rattle.modulation.specs.Bits.{pairs, bits, Gives}
 use Rattle.modulation.proofs.Bits.{bits-injective, pairs-dataBits}
 use Rattle.modulation.proofs.Size.{size}
 use Rattle.demodulator.specs.Groups.{Inside, groupsAt, frameAt}
@@ -22,7 +22,7 @@ use Rattle.demodulator.specs.Automaton.{start, ending, stateAfter, numbe
 use Rattle.demodulator.specs.Table.{After, Held, NextWord, LastWord}
 use Rattle.demodulator.specs.Words.{bitsIn, Words, WordsRead}
 use Rattle.demodulator.proofs.Complete.{after-append, complete}
-use Rattle.demodulator.proofs.Sound.{Sound, sound}
+use Rattle.demodulator.proofs.Sound.{sound}
 use Rattle.demodulator.proofs.Entries.{number-append, number-shift, start-small}
 use Rattle.demodulator.proofs.Held.{read-number, read-state, held-first}
 use Rattle.demodulator.proofs.Windows.{groups-append}

@@ -1,6 +1,6 @@
 -- Words of 46 bits, one behind the other, as one number, and its bits. Assumes nothing.
-use mathlib.Core.List.{List, [], _∷_, _++_}
-use mathlib.Core.Path.{_≡_, refl, sym, ap, ap₂, subst, _∙_}
+use mathlib.Core.List.{List, [], _∷_}
+use mathlib.Core.Path.{_≡_, refl, sym, ap, ap₂, _∙_}
 use Prim.Native.Nat.{ℕ, zero, suc, _+_, _*_, _-_, _/_, _%_, _^_, _<_, _≤_}
 use native.Mathlib.Nat.{add-mul, pow-suc, mul-assoc, mul-comm}
 use native.Mathlib.Omega.{arith}
@@ -8,13 +8,14 @@ use lib.ListN.{length, getD, set}
 use lib.Pow.{shr-shr, high}
 use lib.Seq.{ext-getD, getD-set-same, getD-set-other}
 use Rattle.laws.proofs.Tabulate.{length-tabulate, getD-tabulate}
-use Rattle.bits.specs.Bits.{Bits, number}
+use Rattle.bits.specs.Bits.{number}
 use Rattle.bits.proofs.Number.{below-block, number-bit}
-use Rattle.modulation.specs.Modulation.{Two, d00, d01, d10, d11, twoNumber}
+use Rattle.modulation.specs.Modulation.{Two, twoNumber}
 use Rattle.modulation.specs.Bits.{dataBits}
 use Rattle.modulation.proofs.Bits.{length-dataBits}
+use Rattle.modulation.proofs.Fronts.{bits-dataBits}
 use Rattle.demodulator.specs.Automaton.{onto}
-use Rattle.demodulator.specs.Words.{bitsIn, Words}
+use Rattle.demodulator.specs.Words.{bitsIn}
 use Rattle.demodulator.proofs.Sound.{onto-shift}
 
 -- ---- the first n words as a number
@@ -107,18 +108,6 @@ number-bits (d ∷ ds) =
         let three = sym (add-mul (2 * (d / 2)) (d % 2) p) ∙ ap (λ (x : ℕ). x * p) two in
         omega (arith, one, three)
 
-pub data-bits : (ds : List Two) → Bits (dataBits ds)
-data-bits [] i = omega arith
-data-bits (d00 ∷ ds) zero = omega arith
-data-bits (d01 ∷ ds) zero = omega arith
-data-bits (d10 ∷ ds) zero = omega arith
-data-bits (d11 ∷ ds) zero = omega arith
-data-bits (d00 ∷ ds) (suc zero) = omega arith
-data-bits (d01 ∷ ds) (suc zero) = omega arith
-data-bits (d10 ∷ ds) (suc zero) = omega arith
-data-bits (d11 ∷ ds) (suc zero) = omega arith
-data-bits (d ∷ ds) (suc (suc i)) = data-bits ds i
-
 -- the words of a number hold its data bits
 pub words-bits : (ws : List ℕ) (ds : List Two) → ((i : ℕ) → getD ws i 0 < 70368744177664) → length ds ≡ 634 → onto 0 ds ≡ joined ws 28 → dataBits ds ≡ bitsIn ws
 unfolding bitsIn
@@ -132,7 +121,7 @@ words-bits ws ds h size e = ext-getD 0 (dataBits ds) (bitsIn ws) (long ∙ sym (
 
     at : (j : ℕ) → j < 1268 → getD (dataBits ds) j 0 ≡ getD (bitsIn ws) j 0
     at j l =
-        sym (number-bit (dataBits ds) j (data-bits ds) (omega (arith, long)))
+        sym (number-bit (dataBits ds) j (bits-dataBits ds) (omega (arith, long)))
         ∙ ap₂ (λ (x y : ℕ). x / 2 ^ (y - 1 - j) % 2) (number-bits ds ∙ e) long
         ∙ joined-bit ws h j l
         ∙ sym (getD-tabulate 1268 f j 0 l)

@@ -16,8 +16,8 @@ use Rattle.modulation.specs.Sync.{FS, syncId}
 use Rattle.modulation.specs.Stream.{modulated}
 use Rattle.modulation.specs.Demodulator.{demodulate}
 use Rattle.demodulator.specs.Words.{bitsIn, WordsRead}
-use Rattle.demodulator.proofs.Words.{data-bits}
 use Rattle.modulation.proofs.Bits.{length-bits, groups-bits, length-pairs, length-dataBits, pairs-dataBits}
+use Rattle.modulation.proofs.Fronts.{bits-dataBits}
 use Rattle.modulation.proofs.Size.{size}
 use Rattle.modulation.proofs.Tests.{and-left, and-right, and-true, true-T, beq-same, beq-refl}
 use Rattle.modulation.proofs.Theorems.{comes-back, injective}
@@ -108,7 +108,7 @@ module _ (n : FS) (m : List ℕ) (hash : Bool) where
 
   pub readable-gives : readable n m hash ≡ true → BitsGive n (bitsRead n m hash) m hash
   unfolding readable bitsRead
-  readable-gives e = record { size = long; are-bits = data-bits ds; gives = subst (λ (l : List Two). Gives (lastBit false (syncId n)) l m hash) (sym (pairs-dataBits ds)) given }
+  readable-gives e = record { size = long; are-bits = bits-dataBits ds; gives = subst (λ (l : List Two). Gives (lastBit false (syncId n)) l m hash) (sym (pairs-dataBits ds)) given }
     where
       ds : List Two
       ds = demodulate (lastBit false (syncId n)) (record { groups = groups m; terminated = hash })

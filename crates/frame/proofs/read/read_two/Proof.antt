@@ -1,5 +1,4 @@
 -- `read_two` meets its contract: the words of two frames, taken apart (Reading). Assumes nothing.
-use Rattle.frame.specs.Sync.{fs}
 use Rattle.frame.proofs.Reading.{reads}
 use borrow.Author.Needs.{needs}
 use Rattle.frame.proofs.read.read_two.Statement.{statement}
