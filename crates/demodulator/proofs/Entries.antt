@@ -15,6 +15,7 @@ use Rattle.modulation.proofs.Fronts.{three-below}
 use Rattle.demodulator.specs.Automaton.{reads, start, next, added, stateAfter, numberAfter}
 use Rattle.demodulator.specs.Table.{twoGroups, threeGroups, readFrom, tableEntry, table, After, limit}
 use Rattle.demodulator.proofs.Complete.{after-append}
+use Rattle.demodulator.proofs.Sound.{shifted, plain}
 
 -- ---- one group
 
@@ -101,15 +102,6 @@ pub number-append : (s a : ℕ) (x y : List Three) → numberAfter s a (x ++ y) 
 unfolding numberAfter stateAfter
 number-append s a [] y = refl
 number-append s a (g ∷ x) y = number-append (next s (threeNumber g)) (4 * a + added s (threeNumber g)) x y
-
-shifted : (a d p r : ℕ) → (4 * a + d) * p + r ≡ a * (p * 4) + (d * p + r)
-shifted a d p r =
-    let one = add-mul (4 * a) d p in
-    let two : 4 * a * p ≡ a * (p * 4) = ap (λ (x : ℕ). x * p) (mul-comm 4 a) ∙ mul-assoc a 4 p ∙ ap (λ (x : ℕ). a * x) (mul-comm 4 p) in
-    omega (arith, one, two)
-
-plain : (d : ℕ) → 4 * 0 + d ≡ d
-plain d = omega arith
 
 pub number-shift : (s a : ℕ) (gs : List Three) → numberAfter s a gs ≡ a * 4 ^ length gs + numberAfter s 0 gs
 unfolding numberAfter

@@ -16,7 +16,7 @@ use Rattle.modulation.proofs.Bits.{length-dataBits}
 use Rattle.modulation.proofs.Fronts.{bits-dataBits}
 use Rattle.demodulator.specs.Automaton.{onto}
 use Rattle.demodulator.specs.Words.{bitsIn}
-use Rattle.demodulator.proofs.Sound.{onto-shift}
+use Rattle.demodulator.proofs.Sound.{plain, onto-shift}
 
 -- ---- the first n words as a number
 
@@ -98,9 +98,6 @@ number-bits (d ∷ ds) =
     ∙ ap (λ (x : ℕ). x * 4 ^ length ds + onto 0 ds) (sym (plain (twoNumber d)))
     ∙ sym (onto-shift (4 * 0 + twoNumber d) ds)
   where
-    plain : (d : ℕ) → 4 * 0 + d ≡ d
-    plain d = omega arith
-
     halves : (d p r : ℕ) → d / 2 * (p * 2) + (d % 2 * p + r) ≡ d * p + r
     halves d p r =
         let one : d / 2 * (p * 2) ≡ 2 * (d / 2) * p = ap (λ (x : ℕ). d / 2 * x) (mul-comm p 2) ∙ sym (mul-assoc (d / 2) 2 p) ∙ ap (λ (x : ℕ). x * p) (mul-comm (d / 2) 2) in
