@@ -9,11 +9,12 @@ use borrow.Author.Tests.{lt-ltb, le-ltb}
 use lib.Dec.{T, eqb, eqb→eq, ltb, ltb→lt, leb, leb→le}
 use lib.ListN.{length, getD}
 use Rattle.laws.proofs.Finite.{both, both-left, both-right, all, all-at, all₂, all₂-at}
+use Rattle.laws.proofs.Fill.{Upto}
 use Rattle.laws.proofs.Tabulate.{getD-tabulate}
 use Rattle.modulation.specs.Modulation.{Three, threeNumber}
 use Rattle.modulation.proofs.Fronts.{three-below}
 use Rattle.demodulator.specs.Automaton.{reads, start, next, added, stateAfter, numberAfter}
-use Rattle.demodulator.specs.Table.{twoGroups, threeGroups, readFrom, tableEntry, table, After, limit}
+use Rattle.demodulator.specs.Table.{twoGroups, threeGroups, readFrom, more, tableEntry, table, Twos, After, limit}
 use Rattle.demodulator.proofs.Complete.{after-append}
 use Rattle.demodulator.proofs.Sound.{shifted, plain}
 
@@ -32,69 +33,112 @@ entry-bound s g hs hg = ltb→lt (entry s g) 2950 (both-left (ltb (entry s g) 29
 pub entry-state : (s g : ℕ) → s < 18 → g < 8 → entry s g % 32 < 18
 entry-state s g hs hg = ltb→lt (entry s g % 32) 18 (both-right (ltb (entry s g) 2950) _ (entry-small s g hs hg))
 
+pub more-bound : (s g : ℕ) → s < 18 → g < 8 → more s g < 2950
+more-bound s g hs hg =
+    let none : s / 32 ≡ 0 = omega arith in
+    let state : s % 32 < 18 = omega arith in
+    omega (arith, none, entry-bound (s % 32) g state hg)
+
+pub more-state : (a g : ℕ) → a % 32 < 18 → g < 8 → more a g % 32 < 18
+more-state a g h hg =
+    let whole : more a g % 32 ≡ entry (a % 32) g % 32 = low (a / 32) (entry (a % 32) g) in
+    subst (λ (n : ℕ). n < 18) (sym whole) (entry-state (a % 32) g h hg)
+  where
+    low : (n e : ℕ) → (n * 128 + e) % 32 ≡ e % 32
+    low n e = omega arith
+
 -- ---- two and three groups
 
-abbrev then : ℕ → ℕ → ℕ
-then a g = a / 32 * 128 + entry (a % 32) g
-
 two-test : (s v : ℕ) → s < 18 → v < 64
-    → T (both (eqb (then (entry s (v / 8)) (v % 8)) (readFrom s (twoGroups v))) (both (ltb (readFrom s (twoGroups v)) 14752) (ltb (readFrom s (twoGroups v) % 32) 18)))
+    → T (both (eqb (more (more s (v / 8)) (v % 8)) (readFrom s (twoGroups v))) (both (ltb (readFrom s (twoGroups v)) 14752) (ltb (readFrom s (twoGroups v) % 32) 18)))
 unfolding all all₂ reads readFrom numberAfter stateAfter
 two-test =
     all₂-at 18 64
-    (λ s v. both (eqb (then (entry s (v / 8)) (v % 8)) (readFrom s (twoGroups v))) (both (ltb (readFrom s (twoGroups v)) 14752) (ltb (readFrom s (twoGroups v) % 32) 18))) tt
+    (λ s v. both (eqb (more (more s (v / 8)) (v % 8)) (readFrom s (twoGroups v))) (both (ltb (readFrom s (twoGroups v)) 14752) (ltb (readFrom s (twoGroups v) % 32) 18))) tt
 
 module _ (s v : ℕ) (hs : s < 18) (hv : v < 64) where
-  pub two-is : then (entry s (v / 8)) (v % 8) ≡ readFrom s (twoGroups v)
-  two-is = eqb→eq _ _ (both-left (eqb (then (entry s (v / 8)) (v % 8)) (readFrom s (twoGroups v))) _ (two-test s v hs hv))
+  two-is : more (more s (v / 8)) (v % 8) ≡ readFrom s (twoGroups v)
+  two-is = eqb→eq _ _ (both-left (eqb (more (more s (v / 8)) (v % 8)) (readFrom s (twoGroups v))) _ (two-test s v hs hv))
 
-  pub two-bound : readFrom s (twoGroups v) < 14752
+  two-bound : readFrom s (twoGroups v) < 14752
   two-bound =
       ltb→lt (readFrom s (twoGroups v)) 14752
-      (both-left (ltb (readFrom s (twoGroups v)) 14752) _ (both-right (eqb (then (entry s (v / 8)) (v % 8)) (readFrom s (twoGroups v))) _ (two-test s v hs hv)))
+      (both-left (ltb (readFrom s (twoGroups v)) 14752) _ (both-right (eqb (more (more s (v / 8)) (v % 8)) (readFrom s (twoGroups v))) _ (two-test s v hs hv)))
 
-  pub two-state : readFrom s (twoGroups v) % 32 < 18
+  two-state : readFrom s (twoGroups v) % 32 < 18
   two-state =
       ltb→lt (readFrom s (twoGroups v) % 32) 18
-      (both-right (ltb (readFrom s (twoGroups v)) 14752) _ (both-right (eqb (then (entry s (v / 8)) (v % 8)) (readFrom s (twoGroups v))) _ (two-test s v hs hv)))
+      (both-right (ltb (readFrom s (twoGroups v)) 14752) _ (both-right (eqb (more (more s (v / 8)) (v % 8)) (readFrom s (twoGroups v))) _ (two-test s v hs hv)))
 
-three-test : (s v : ℕ) → s < 18 → v < 512 → T (eqb (then (readFrom s (twoGroups (v / 8))) (v % 8)) (readFrom s (threeGroups v)))
+three-test : (s v : ℕ) → s < 18 → v < 512 → T (eqb (more (readFrom s (twoGroups (v / 8))) (v % 8)) (readFrom s (threeGroups v)))
 unfolding all all₂ reads readFrom numberAfter stateAfter
-three-test = all₂-at 18 512 (λ s v. eqb (then (readFrom s (twoGroups (v / 8))) (v % 8)) (readFrom s (threeGroups v))) tt
+three-test = all₂-at 18 512 (λ s v. eqb (more (readFrom s (twoGroups (v / 8))) (v % 8)) (readFrom s (threeGroups v))) tt
 
-pub three-is : (s v : ℕ) → s < 18 → v < 512 → then (readFrom s (twoGroups (v / 8))) (v % 8) ≡ readFrom s (threeGroups v)
-three-is s v hs hv =
-    eqb→eq _ _ (three-test s v hs hv)
+three-is : (s v : ℕ) → s < 18 → v < 512 → more (readFrom s (twoGroups (v / 8))) (v % 8) ≡ readFrom s (threeGroups v)
+three-is s v hs hv = eqb→eq _ _ (three-test s v hs hv)
 
 -- ---- the table's places
 
-pub entry-three : (k : ℕ) → k < 9216 → readFrom (k % 18) (threeGroups (k / 18)) ≡ tableEntry k
+entry-two : (k : ℕ) → k < 1152 → readFrom (k % 18) (twoGroups (k / 18)) ≡ tableEntry k
 unfolding tableEntry
-entry-three k h = rw (lt-ltb k 9216 h)
+entry-two k h = rw (lt-ltb k 1152 h)
 
-pub entry-two : (k : ℕ) → 9216 ≤ k → readFrom ((k - 9216) % 18) (twoGroups ((k - 9216) / 18)) ≡ tableEntry k
+entry-three : (k : ℕ) → 1152 ≤ k → readFrom ((k - 1152) % 18) (threeGroups ((k - 1152) / 18)) ≡ tableEntry k
 unfolding tableEntry
-entry-two k h = rw (le-ltb k 9216 h)
+entry-three k h = rw (le-ltb k 1152 h)
 
-pub table-three : (v s : ℕ) → v < 512 → s < 18 → getD table (18 * v + s) 0 ≡ readFrom s (threeGroups v)
+pub table-two : (v s : ℕ) → v < 64 → s < 18 → getD table (18 * v + s) 0 ≡ readFrom s (twoGroups v)
 unfolding table
-table-three v s hv hs =
+table-two v s hv hs =
     let k : ℕ = 18 * v + s in
     let quotient : k / 18 ≡ v = omega arith in
     let rest : k % 18 ≡ s = omega arith in
     getD-tabulate 10368 tableEntry k 0 (omega arith)
+    ∙ sym (entry-two k (omega arith))
+    ∙ ap₂ (λ (x y : ℕ). readFrom x (twoGroups y)) rest quotient
+
+pub table-three : (v s : ℕ) → v < 512 → s < 18 → getD table (1152 + 18 * v + s) 0 ≡ readFrom s (threeGroups v)
+unfolding table
+table-three v s hv hs =
+    let k : ℕ = 1152 + 18 * v + s in
+    let quotient : (k - 1152) / 18 ≡ v = omega arith in
+    let rest : (k - 1152) % 18 ≡ s = omega arith in
+    getD-tabulate 10368 tableEntry k 0 (omega arith)
     ∙ sym (entry-three k (omega arith))
     ∙ ap₂ (λ (x y : ℕ). readFrom x (threeGroups y)) rest quotient
 
-pub table-two : (v s : ℕ) → v < 64 → s < 18 → getD table (9216 + 18 * v + s) 0 ≡ readFrom s (twoGroups v)
-unfolding table
-table-two v s hv hs =
-    let k : ℕ = 9216 + 18 * v + s in
-    let quotient : (k - 9216) / 18 ≡ v = omega arith in
-    let rest : (k - 9216) % 18 ≡ s = omega arith in
-    getD-tabulate 10368 tableEntry k 0 (omega arith)
-    ∙ sym (entry-two k (omega arith))
-    ∙ ap₂ (λ (x y : ℕ). readFrom x (twoGroups y)) rest quotient
+-- ---- the table filled
+
+pub two-made : (k : ℕ) → k < 1152 → more (more (k % 18) (k / 144)) (k / 18 % 8) ≡ tableEntry k
+two-made k h =
+    let eighth : k / 144 ≡ k / 18 / 8 = omega arith in
+    ap (λ (g : ℕ). more (more (k % 18) g) (k / 18 % 8)) eighth ∙ two-is (k % 18) (k / 18) (omega arith) (omega arith) ∙ entry-two k h
+
+module _ {l : List ℕ} (twos : Twos l) where
+  two-there : (k : ℕ) → k < 1152 → getD l k 0 ≡ readFrom (k % 18) (twoGroups (k / 18))
+  two-there k h = twos .each k h ∙ sym (entry-two k h)
+
+  pub there-bound : (k : ℕ) → k < 1152 → getD l k 0 < 14752
+  there-bound k h = subst (λ (n : ℕ). n < 14752) (sym (two-there k h)) (two-bound (k % 18) (k / 18) (omega arith) (omega arith))
+
+  pub there-state : (k : ℕ) → k < 1152 → getD l k 0 % 32 < 18
+  there-state k h = subst (λ (n : ℕ). n % 32 < 18) (sym (two-there k h)) (two-state (k % 18) (k / 18) (omega arith) (omega arith))
+
+  pub three-made : (k : ℕ) → 1152 ≤ k → k < 10368 → more (getD l ((k - 1152) / 144 * 18 + (k - 1152) % 18) 0) ((k - 1152) / 18 % 8) ≡ tableEntry k
+  three-made k h below =
+      let j : ℕ = k - 1152 in
+      let at : ℕ = j / 144 * 18 + j % 18 in
+      let state : at % 18 ≡ j % 18 = omega arith in
+      let groups : at / 18 ≡ j / 18 / 8 = omega arith in
+      ap (λ (a : ℕ). more a (j / 18 % 8)) (two-there at (omega arith) ∙ ap₂ (λ (s v : ℕ). readFrom s (twoGroups v)) state groups)
+      ∙ three-is (j % 18) (j / 18) (omega arith) (omega arith)
+      ∙ entry-three k h
+
+pub twos-all : {l : List ℕ} {k : ℕ} → 1152 ≤ k → Upto 0 tableEntry 10368 k l → Twos l
+twos-all h u = record { size = u .size; each = λ j below. u .below j (omega arith) }
+
+pub twos-upto : {l : List ℕ} → Twos l → Upto 0 tableEntry 10368 1152 l
+twos-upto twos = record { within = omega arith; size = twos .size; below = twos .each }
 
 -- ---- several groups behind one another
 

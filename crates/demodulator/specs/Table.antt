@@ -5,11 +5,11 @@ use mathlib.Core.List.{List, [], _∷_}
 use mathlib.Core.Path.{_≡_}
 use Prim.Native.Nat.{ℕ, _+_, _*_, _-_, _/_, _%_, _<_}
 use lib.Dec.{eqb, ltb}
-use lib.ListN.{getD}
+use lib.ListN.{length, getD}
 use Rattle.laws.specs.Tabulate.{tabulate}
 use Rattle.modulation.specs.Modulation.{Three}
 use Rattle.modulation.specs.Bits.{three}
-use Rattle.demodulator.specs.Automaton.{ending, stateAfter, numberAfter}
+use Rattle.demodulator.specs.Automaton.{reads, ending, stateAfter, numberAfter}
 
 abbrev pub group : ℕ → Three
 group g = three (g / 4 % 2) (g / 2 % 2) (g % 2)
@@ -24,12 +24,21 @@ threeGroups v = group (v / 64) ∷ group (v / 8 % 8) ∷ group (v % 8) ∷ []
 unfoldable pub readFrom : ℕ → List Three → ℕ
 readFrom s gs = 32 * numberAfter s 0 gs + stateAfter s gs
 
--- three groups v from state s stand at 18 v + s, and behind these two groups likewise
+-- such a number with group g read
+abbrev pub more : ℕ → ℕ → ℕ
+more a g = a / 32 * 128 + getD reads (8 * (a % 32) + g) 0
+
+-- two groups v from state s stand at 18 v + s, and behind these three groups likewise
 unfoldable pub tableEntry : ℕ → ℕ
-tableEntry k = cond (ltb k 9216) (readFrom (k % 18) (threeGroups (k / 18))) (readFrom ((k - 9216) % 18) (twoGroups ((k - 9216) / 18)))
+tableEntry k = cond (ltb k 1152) (readFrom (k % 18) (twoGroups (k / 18))) (readFrom ((k - 1152) % 18) (threeGroups ((k - 1152) / 18)))
 
 unfoldable pub table : List ℕ
 table = tabulate 10368 tableEntry
+
+-- the part for two groups stands in l
+pub record Twos (l : List ℕ) : Type 0 where
+  pub size : length l ≡ 10368
+  pub each : (k : ℕ) → k < 1152 → getD l k 0 ≡ tableEntry k
 
 -- r is x with the groups gs read
 pub record After (gs : List Three) (x r : ℕ) : Type 0 where

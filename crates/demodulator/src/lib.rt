@@ -4,75 +4,76 @@ mod constants;
 
 ghost use mathlib.Core.Bool.{cond};
 ghost use mathlib.Core.Path.{_≡_};
-ghost use Prim.Native.Nat.{_+_, _*_, _-_, _/_, _%_, _<_};
-ghost use lib.ListN.{length, getD, take, drop};
+ghost use Prim.Native.Nat.{_+_, _*_, _-_, _/_, _%_, _<_, _≤_};
+ghost use lib.ListN.{length, take, drop};
 ghost use Rattle.bits.specs.Bits.{bitsOf};
 ghost use Rattle.demodulator.specs.Groups.{Inside, groupsAt};
 ghost use Rattle.demodulator.specs.Automaton.{reads, start, ending};
 ghost use Rattle.demodulator.specs.Words.{WordsRead};
-ghost use Rattle.demodulator.specs.Table.{twoGroups, threeGroups, readFrom, tableEntry, table, After, Held, NextWord, LastWord};
+ghost use Rattle.demodulator.specs.Table.{twoGroups, threeGroups, more, tableEntry, table, Twos, After, Held, NextWord, LastWord};
 
-// Three groups at each state, then two.
+// Two groups at each state, then three.
 pub type Table = [u16; 10368];
 
-// State s at group g.
-fn entry(ones: &[u16; 144], s: usize, g: usize) -> u16
-    requires { ⌜ (now ones ≡ reads) × ((s < 18) × (g < 8)) ⌝ }
-    ensures { λ r. ⌜ (r ≡ getD reads (8 * s + g) 0) × ((r < 2950) × (r % 32 < 18)) ⌝ }
+// A number of data bits and a state, as the table has them, with group g read.
+fn one_more(ones: &[u16; 144], a: u16, g: usize) -> u16
+    requires { ⌜ (now ones ≡ reads) × ((a < 14752) × ((a % 32 < 18) × (g < 8))) ⌝ }
+    ensures { λ r. ⌜ r ≡ more a g ⌝ }
 {
-    ones[8 * s + g]
+    a / 32 * 128 + ones[8 * (a % 32) as usize + g]
 }
 
-// State s at two groups.
-fn two_entry(ones: &[u16; 144], s: usize, v: usize) -> u16
-    requires { ⌜ (now ones ≡ reads) × ((s < 18) × (v < 64)) ⌝ }
-    ensures { λ r. ⌜ (r ≡ readFrom s (twoGroups v)) × ((r < 14752) × (r % 32 < 18)) ⌝ }
-{
-    let a = entry(ones, s, v / 8);
-    let b = entry(ones, (a % 32) as usize, v % 8);
-    a / 32 * 128 + b
-}
-
-// State s at three groups.
-fn three_entry(ones: &[u16; 144], s: usize, v: usize) -> u16
-    requires { ⌜ (now ones ≡ reads) × ((s < 18) × (v < 512)) ⌝ }
-    ensures { λ r. ⌜ r ≡ readFrom s (threeGroups v) ⌝ }
-{
-    let a = two_entry(ones, s, v / 8);
-    let b = entry(ones, (a % 32) as usize, v % 8);
-    a / 32 * 128 + b
-}
-
-// Entry k of the table.
-fn entry_at(ones: &[u16; 144], k: usize) -> u16
-    requires { ⌜ (now ones ≡ reads) × (k < 10368) ⌝ }
+// Entry k of the table, for two groups.
+fn two_at(ones: &[u16; 144], k: usize) -> u16
+    requires { ⌜ (now ones ≡ reads) × (k < 1152) ⌝ }
     ensures { λ r. ⌜ r ≡ tableEntry k ⌝ }
 {
-    if k < 9216 {
-        three_entry(ones, k % 18, k / 18)
-    } else {
-        two_entry(ones, (k - 9216) % 18, (k - 9216) / 18)
+    let a = one_more(ones, (k % 18) as u16, k / 144);
+    one_more(ones, a, k / 18 % 8)
+}
+
+// Entry k of the table, for three groups: one more than the two of an entry that is made.
+fn three_at(ones: &[u16; 144], made: &Table, k: usize) -> u16
+    requires { ⌜ (now ones ≡ reads) × (Twos (now made) × ((1152 ≤ k) × (k < 10368))) ⌝ }
+    ensures { λ r. ⌜ r ≡ tableEntry k ⌝ }
+{
+    let j = k - 1152;
+    let a = made[j / 144 * 18 + j % 18];
+    one_more(ones, a, j / 18 % 8)
+}
+
+// The entries for two groups.
+fn fill_twos(ones: &[u16; 144], made: &mut Table)
+    requires { ⌜ (now ones ≡ reads) × (length (now made) ≡ 10368) ⌝ }
+    ensures { λ _. ⌜ Twos (now (made .exit)) ⌝ }
+{
+    let mut k = 0;
+    while k < 1152 {
+        made[k] = two_at(ones, k);
+        k += 1;
     }
 }
 
-fn no_entries() -> [u16; 10368]
+// The table, to be filled once and lent.
+pub fn fill_table(made: &mut Table)
+    requires { ⌜ length (now made) ≡ 10368 ⌝ }
+    ensures { λ _. ⌜ now (made .exit) ≡ table ⌝ }
+{
+    let ones = constants::reads();
+    fill_twos(&ones, made);
+    let mut k = 1152;
+    while k < 10368 {
+        let entry = three_at(&ones, made, k);
+        made[k] = entry;
+        k += 1;
+    }
+}
+
+// A table of zeros, for its caller to hold.
+pub fn no_table() -> [u16; 10368]
     ensures { λ r. ⌜ length r ≡ 10368 ⌝ }
 {
     [0u16; 10368]
-}
-
-// The table, made once and lent.
-pub fn table() -> [u16; 10368]
-    ensures { λ r. ⌜ r ≡ table ⌝ }
-{
-    let ones = constants::reads();
-    let mut made = no_entries();
-    let mut k = 0;
-    while k < 10368 {
-        made[k] = entry_at(&ones, k);
-        k += 1;
-    }
-    made
 }
 
 fn wide(a: u16) -> u64
@@ -86,7 +87,7 @@ fn three_on(made: &Table, x: u64, v: usize) -> u64
     requires { ⌜ (now made ≡ table) × ((v < 512) × ((x % 32 < 18) × (x < 9007199254740992))) ⌝ }
     ensures { λ r. ⌜ After (threeGroups v) x r ⌝ }
 {
-    x / 32 * 2048 + wide(made[18 * v + (x % 32) as usize])
+    x / 32 * 2048 + wide(made[1152 + 18 * v + (x % 32) as usize])
 }
 
 // Two groups v more.
@@ -94,7 +95,7 @@ fn two_on(made: &Table, x: u64, v: usize) -> u64
     requires { ⌜ (now made ≡ table) × ((v < 64) × ((x % 32 < 18) × (x < 9007199254740992))) ⌝ }
     ensures { λ r. ⌜ After (twoGroups v) x r ⌝ }
 {
-    x / 32 * 512 + wide(made[9216 + 18 * v + (x % 32) as usize])
+    x / 32 * 512 + wide(made[18 * v + (x % 32) as usize])
 }
 
 // The two groups at bit `at`.

@@ -80,7 +80,8 @@ fn read_frames(image: &[u8], dc: &mut [u32], work: &mut [u8]) -> usize
     requires { ⌜ (length (now image) ≡ 119788) × ((length (now dc) ≡ 496) × (length (now work) ≡ 76880)) ⌝ }
     ensures { λ r. ⌜ FramesRead (bitsOf (now (image .entry))) r (now (dc .exit)) (now (work .exit)) ⌝ }
 {
-    let steps = demodulator::table();
+    let mut steps = demodulator::no_table();
+    demodulator::fill_table(&mut steps);
     let mut n = 0;
     while n < 496 {
         let two = read_two(&steps, image, n, work);

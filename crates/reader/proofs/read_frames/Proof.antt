@@ -16,11 +16,14 @@ Inv-loop image dc₀ work₀ steps n₀ dc work n = (steps ≡ table) × Below (
 abbrev μ-loop : tie.MeasureT-loop
 μ-loop image dc₀ work₀ steps n₀ dc work n = 496 - n
 
-table-requires : tie.Need-table-requires Inv-loop μ-loop
-table-requires c κs = search needs
+no-table-requires : tie.Need-no-table-requires Inv-loop μ-loop
+no-table-requires c κs = search needs
+
+fill-table-requires : tie.Need-fill-table-requires Inv-loop μ-loop
+fill-table-requires c κs = search needs
 
 loop-holds : tie.Need-loop-holds Inv-loop μ-loop
-loop-holds c = (c .table .ensures, search (below-none))
+loop-holds c = (c .fill-table .ensures, search (below-none))
 
 read-two-requires : tie.Need-read-two-requires Inv-loop μ-loop
 read-two-requires c κs = search needs
@@ -97,7 +100,8 @@ read-frames-spec =
     (tie.spec
     Inv-loop
     μ-loop
-    table-requires
+    no-table-requires
+    fill-table-requires
     loop-holds
     read-two-requires
     enum-known-first
