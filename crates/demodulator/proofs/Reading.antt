@@ -3,12 +3,10 @@ use mathlib.Core.Bool.{Bool, true, false, false≢true}
 use mathlib.Core.List.{List, _++_}
 use mathlib.Core.Path.{_≡_, sym, ap, ap₂, subst, _∙_}
 use Prim.Native.Nat.{ℕ, _+_, _*_, _-_, _/_, _%_, _^_, _<_, _≤_}
-use native.Mathlib.Decide.{decLt, ℕ-discrete}
-use native.Mathlib.Nat.{not-suc-le-zero}
+use native.Mathlib.Decide.{ℕ-discrete}
 use native.Mathlib.Omega.{arith}
-use borrow.Author.Count.{below-more}
 use lib.Dec.{eqb}
-use lib.ListN.{length, getD, set, take, drop, length-set, List·getD-eq-default}
+use lib.ListN.{length, getD, set, take, drop, length-set}
 use lib.Seq.{getD-set-same, getD-set-other}
 use Rattle.bits.specs.Bits.{bitsOf}
 use Rattle.bits.proofs.Bits.{length-bits as length-bitsOf, bits-bits}
@@ -27,26 +25,24 @@ use Rattle.demodulator.proofs.Entries.{number-append, number-shift, sta
 use Rattle.demodulator.proofs.Held.{read-number, read-state, held-first}
 use Rattle.demodulator.proofs.Windows.{groups-append}
 use Rattle.demodulator.proofs.Running.{read-bound}
-use Rattle.demodulator.proofs.Words.{joined, joined-none, joined-set, joined-more, words-bits}
+use Rattle.demodulator.proofs.Words.{joined, joined-none, joined-more, words-bits}
 
 -- the first i words are done, and x is what is held of the next
 pub record Reading (b : List ℕ) (at : ℕ) (before : Bool) (ws : List ℕ) (x i : ℕ) : Type 0 where
   pub within : i ≤ 27
-  pub size : length ws ≡ 29
+  pub words : Words ws
   pub held : Held x
   pub state : x % 32 ≡ stateAfter (start before) (groupsAt b at (13 + 23 * i))
   pub number : joined ws i * 70368744177664 + x / 32 ≡ numberAfter (start before) 0 (groupsAt b at (13 + 23 * i))
-  pub done : (k : ℕ) → k < i → getD ws k 0 < 70368744177664
 
-pub reading-none : (b : List ℕ) (at : ℕ) (before : Bool) {x : ℕ} {ws : List ℕ} → length ws ≡ 29 → After (groupsAt b at 13) (start before) x → Reading b at before ws x 0
-reading-none b at before {x} {ws} long a =
+pub reading-none : (b : List ℕ) (at : ℕ) (before : Bool) {x : ℕ} {ws : List ℕ} → Words ws → After (groupsAt b at 13) (start before) x → Reading b at before ws x 0
+reading-none b at before {x} {ws} words a =
     record {
       within = omega arith;
-      size = long;
+      words = words;
       held = let bound : x / 32 < 32 * 4 ^ 13 = read-bound 13 small (omega (arith, length-groupsAt b at 13)) a in held-first small a (omega (arith, bound));
       state = read-state small a;
       number = ap (λ (j : ℕ). j * 70368744177664 + x / 32) (joined-none ws) ∙ none (x / 32) ∙ read-number small a;
-      done = λ k h. absurd (not-suc-le-zero h);
     }
   where
     small : start before < 18
@@ -54,6 +50,18 @@ reading-none b at before {x} {ws} long a =
 
     none : (n : ℕ) → 0 * 70368744177664 + n ≡ n
     none n = omega arith
+
+words-set : (ws : List ℕ) (i v : ℕ) → i < 29 → Words ws → v < 70368744177664 → Words (set ws i v)
+words-set ws i v inside words h = record { size = length-set ws i v ∙ words .size; below = below }
+  where
+    below : (k : ℕ) → getD (set ws i v) k 0 < 70368744177664
+    below k =
+        elim (ℕ-discrete k i) [
+          | yes same ↦
+              subst (λ (n : ℕ). getD (set ws i v) n 0 < 70368744177664) (sym same)
+              (subst (λ (n : ℕ). n < 70368744177664) (sym (getD-set-same ws i v 0 (omega (arith, words .size)))) h)
+          | no other ↦ subst (λ (n : ℕ). n < 70368744177664) (sym (getD-set-other ws i k v 0 other)) (words .below k)
+        ]
 
 -- one word more
 module _ (b : List ℕ) (at : ℕ) {before : Bool} {x i word held : ℕ} {ws : List ℕ} (r : Reading b at before ws x i)
@@ -91,17 +99,13 @@ module _ (b : List ℕ) (at : ℕ) {before : Bool} {x i word held : ℕ} {ws : L
   reading-more h =
       record {
         within = omega arith;
-        size = length-set ws i word ∙ r .size;
+        words = words-set ws i word (omega arith) (r .words) (next .below);
         held = next .holds;
         state = next .state ∙ ap (λ (t : ℕ). stateAfter t gs) (r .state) ∙ sym (after-append s front gs) ∙ ap (stateAfter s) together;
         number =
-            ap (λ (n : ℕ). n * 70368744177664 + held / 32) (joined-more ws i word (omega (arith, r .size)))
+            ap (λ (n : ℕ). n * 70368744177664 + held / 32) (joined-more ws i word (omega (arith, r .words .size)))
             ∙ sym moved
             ∙ ap (numberAfter s 0) together;
-        done =
-            below-more (λ k. getD (set ws i word) k 0 < 70368744177664) i
-            (λ k lt. subst (λ (n : ℕ). n < 70368744177664) (sym (getD-set-other ws i k word 0 (λ q. omega (arith, q)))) (r .done k lt))
-            (subst (λ (n : ℕ). n < 70368744177664) (sym (getD-set-same ws i word 0 (omega (arith, r .size)))) (next .below));
       }
 
 -- ---- the end
@@ -128,7 +132,7 @@ module _ {bytes : List ℕ} {at : ℕ} (before hash : Bool) (inside : Inside byt
 
   module _ {x word i : ℕ} {found : Bool} {ws : List ℕ} (r : Reading (bitsOf bytes) at before ws x i) (past : 27 ≤ i) (end : LastWord x hash word found) where
     abbrev after : List ℕ
-    after = set (set ws 27 word) 28 0
+    after = set ws 27 word
 
     abbrev whole : List Three
     whole = groupsAt (bitsOf bytes) at 634
@@ -139,37 +143,13 @@ module _ {bytes : List ℕ} {at : ℕ} (before hash : Bool) (inside : Inside byt
     state-is : x % 32 ≡ stateAfter (start before) whole
     state-is = r .state ∙ ap (λ (n : ℕ). stateAfter (start before) (groupsAt (bitsOf bytes) at n)) all-read
 
-    size-27 : length (set ws 27 word) ≡ 29
-    size-27 = length-set ws 27 word ∙ r .size
-
-    each-below : (k : ℕ) → getD after k 0 < 70368744177664
-    each-below k =
-        elim (ℕ-discrete k 28) [
-          | yes last ↦ subst (λ (n : ℕ). getD after n 0 < 70368744177664) (sym last) (subst (λ (n : ℕ). n < 70368744177664) (sym (getD-set-same (set ws 27 word) 28 0 0 (omega (arith, size-27)))) (omega arith))
-          | no other ↦
-              subst (λ (n : ℕ). n < 70368744177664) (sym (getD-set-other (set ws 27 word) 28 k 0 0 (λ q. other q)))
-              (elim (ℕ-discrete k 27) [
-                | yes held ↦ subst (λ (n : ℕ). getD (set ws 27 word) n 0 < 70368744177664) (sym held) (subst (λ (n : ℕ). n < 70368744177664) (sym (getD-set-same ws 27 word 0 (omega (arith, r .size)))) (end .below))
-                | no further ↦
-                    subst (λ (n : ℕ). n < 70368744177664) (sym (getD-set-other ws 27 k word 0 (λ q. further q)))
-                    (elim (decLt k 27) [
-                      | yes low ↦ r .done k (omega (arith, past))
-                      | no high ↦ subst (λ (n : ℕ). n < 70368744177664) (sym (List·getD-eq-default ws 0 {n = k} (beyond k other further high))) (omega arith)
-                    ])
-              ])
-        ]
-      where
-        beyond : (k : ℕ) → (k ≡ 28 → ⊥) → (k ≡ 27 → ⊥) → (k < 27 → ⊥) → length ws ≤ k
-        beyond k a c d = omega (arith, r .size)
-
     words-are : Words after
-    words-are = record { size = length-set (set ws 27 word) 28 0 ∙ size-27; below = each-below }
+    words-are = words-set ws 27 word (omega arith) (r .words) (end .below)
 
     all-joined : joined after 28 ≡ numberOf (start before) 0 whole hash
     all-joined =
         let last : i ≡ 27 = omega (arith, r .within) in
-        joined-set (set ws 27 word) 28 0 28 (omega arith)
-        ∙ joined-more ws 27 word (omega (arith, r .size))
+        joined-more ws 27 word (omega (arith, r .words .size))
         ∙ ap₂ (λ (k n : ℕ). joined ws k * 70368744177664 + n) (sym last) (end .number)
         ∙ flat (joined ws i * 70368744177664) (x / 32) (ending (x % 32) hash / 2)
         ∙ ap₂ (λ (n t : ℕ). n + ending t hash / 2) (r .number ∙ ap (λ (n : ℕ). numberAfter (start before) 0 (groupsAt (bitsOf bytes) at n)) all-read) state-is
@@ -188,7 +168,7 @@ module _ {bytes : List ℕ} {at : ℕ} (before hash : Bool) (inside : Inside byt
             let s = sound before whole hash (sym answer-is ∙ accepted) in
             let long : length (s .ds) ≡ 634 =
             sym (size before (s .ds)) ∙ ap (λ (f : Modulated). length (f .groups)) (s .gives) ∙ length-groupsAt (bitsOf bytes) at 634 in
-            let back : s .ds ≡ pairs (bitsIn after) = sym (pairs-dataBits (s .ds)) ∙ ap pairs (words-bits after (s .ds) each-below long (s .number ∙ sym all-joined)) in
+            let back : s .ds ≡ pairs (bitsIn after) = sym (pairs-dataBits (s .ds)) ∙ ap pairs (words-bits after (s .ds) (words-are .below) long (s .number ∙ sym all-joined)) in
             subst (λ (ds : List Two). Gives before ds there hash) back (gives-there (s .ds) (s .gives))
 
         none : found ≡ false → (ds : List Two) → Gives before ds there hash → ⊥

@@ -9,7 +9,7 @@ ghost use lib.ListN.{length, take, drop};
 ghost use Rattle.bits.specs.Bits.{bitsOf};
 ghost use Rattle.demodulator.specs.Groups.{Inside, groupsAt};
 ghost use Rattle.demodulator.specs.Automaton.{reads, start, ending};
-ghost use Rattle.demodulator.specs.Words.{WordsRead};
+ghost use Rattle.demodulator.specs.Words.{Words, WordsRead};
 ghost use Rattle.demodulator.specs.Table.{twoGroups, threeGroups, more, tableEntry, table, Twos, After, Held, NextWord, LastWord};
 
 // Two groups at each state, then three.
@@ -207,7 +207,7 @@ pub fn read_words(
     hash: bool,
     words: &mut [u64; 29],
 ) -> bool
-    requires { ⌜ (now made ≡ table) × ((length (now words) ≡ 29) × Inside (now bytes) at 634) ⌝ }
+    requires { ⌜ (now made ≡ table) × (Words (now words) × Inside (now bytes) at 634) ⌝ }
     ensures { λ r. ⌜ WordsRead before (take 1902 (drop at (bitsOf (now (bytes .entry))))) hash r (now (words .exit)) ⌝ }
 {
     let mut x = begin(made, bytes, at, before);
@@ -220,7 +220,6 @@ pub fn read_words(
     }
     let last = last_word(x, hash);
     words[27] = last.word;
-    words[28] = 0;
     last.found
 }
 
@@ -243,7 +242,7 @@ pub fn read_two(
     words: &mut [u64; 29],
     more: &mut [u64; 29],
 ) -> Found
-    requires { ⌜ (now made ≡ table) × (((length (now words) ≡ 29) × (length (now more) ≡ 29)) × (Inside (now bytes) at 634 × Inside (now bytes) also 634)) ⌝ }
+    requires { ⌜ (now made ≡ table) × ((Words (now words) × Words (now more)) × (Inside (now bytes) at 634 × Inside (now bytes) also 634)) ⌝ }
     ensures { λ r. ⌜ WordsRead before (take 1902 (drop at (bitsOf (now (bytes .entry))))) hash (r .first) (now (words .exit)) × WordsRead prior (take 1902 (drop also (bitsOf (now (bytes .entry))))) sign (r .second) (now (more .exit)) ⌝ }
 {
     let mut x = begin(made, bytes, at, before);
@@ -261,9 +260,7 @@ pub fn read_two(
     let one = last_word(x, hash);
     let two = last_word(y, sign);
     words[27] = one.word;
-    words[28] = 0;
     more[27] = two.word;
-    more[28] = 0;
     Found {
         first: one.found,
         second: two.found,

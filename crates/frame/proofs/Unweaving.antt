@@ -1,4 +1,5 @@
 -- The row, five bytes a step, and the dc word, bit by bit, out of a frame's words. Assumes nothing.
+use mathlib.Core.Bool.{Bool, true}
 use mathlib.Core.Path.{_≡_, refl, sym, ap, ap₂, subst, _∙_}
 use mathlib.Core.List.{List, [], _∷_, _++_}
 use Prim.Native.Nat.{ℕ, zero, suc, _+_, _*_, _-_, _/_, _%_, _^_, _<_, _≤_}
@@ -6,10 +7,12 @@ use native.Mathlib.Nat.{add-comm, mul-assoc, pow-suc, mod-lt, zero-lt-suc, mul-m
 use native.Mathlib.Decide.{decLt}
 use native.Mathlib.Numerals.{add-one}
 use native.Mathlib.Omega.{arith}
+use lib.Dec.{T, ltb, ltb→lt}
 use lib.ListN.{length, getD, set, take, drop, length-append, length-drop, List·getD-eq-default}
 use lib.Seq.{getD-take, getD-drop, length-take-le}
 use lib.Pow.{pow-pos, pow-mono, pow-add, shr-lt, shl-shr, shr-shr, split, high, low, mod-pow-add, mod-mod-pow}
 use Rattle.laws.specs.Tabulate.{tabulate}
+use Rattle.laws.proofs.Finite.{both, both-left, both-right}
 use Rattle.laws.proofs.Tabulate.{length-tabulate, getD-tabulate, is-tabulate}
 use Rattle.laws.proofs.Fill.{Upto, upto-more, upto-all}
 use Rattle.bits.specs.Bits.{Bits, number, bitsOfNumber}
@@ -122,6 +125,19 @@ dc-of-word ws i h =
   where
     whole : (n : ℕ) → n / 1 % 2 ≡ n % 2
     whole n = omega arith
+
+abbrev fit : List ℕ → Bool
+fit [] = true
+fit (x ∷ l) = both (ltb x 70368744177664) (fit l)
+
+-- words that a test finds fit
+pub small-words : {l : List ℕ} → length l ≡ 29 → T (fit l) → words.Words l
+small-words {l} size t = record { size = size; below = below l t }
+  where
+    below : (l : List ℕ) → T (fit l) → (i : ℕ) → getD l i 0 < 70368744177664
+    below [] t i = omega arith
+    below (x ∷ l) t zero = ltb→lt x 70368744177664 (both-left (ltb x 70368744177664) (fit l) t)
+    below (x ∷ l) t (suc i) = below l (both-right (ltb x 70368744177664) (fit l) t) i
 
 -- ---- five bytes of the row through two words
 

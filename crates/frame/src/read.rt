@@ -20,7 +20,7 @@ pub enum FrameRead {
 
 // 29 words, all 0.
 fn no_words() -> [u64; 29]
-    ensures { λ r. ⌜ length r ≡ 29 ⌝ }
+    ensures { λ r. ⌜ Words r ⌝ }
 {
     [0u64; 29]
 }

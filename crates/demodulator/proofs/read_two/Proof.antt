@@ -57,14 +57,8 @@ last-word-requires-2 c κs = search needs
 element-write-words-2 : tie.Need-element-write-words-2 Inv-loop μ-loop
 element-write-words-2 c = search needs
 
-element-write-words-3 : tie.Need-element-write-words-3 Inv-loop μ-loop
-element-write-words-3 c = search needs
-
 element-write-more-2 : tie.Need-element-write-more-2 Inv-loop μ-loop
 element-write-more-2 c = search needs
-
-element-write-more-3 : tie.Need-element-write-more-3 Inv-loop μ-loop
-element-write-more-3 c = search needs
 
 returns : tie.Need-returns Inv-loop μ-loop
 returns c = search (reading-all)
@@ -90,7 +84,5 @@ read-two-spec =
     last-word-requires
     last-word-requires-2
     element-write-words-2
-    element-write-words-3
     element-write-more-2
-    element-write-more-3
     returns)

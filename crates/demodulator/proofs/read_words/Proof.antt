@@ -42,9 +42,6 @@ last-word-requires c κs = search needs
 element-write-words-2 : tie.Need-element-write-words-2 Inv-loop μ-loop
 element-write-words-2 c = search needs
 
-element-write-words-3 : tie.Need-element-write-words-3 Inv-loop μ-loop
-element-write-words-3 c = search needs
-
 returns : tie.Need-returns Inv-loop μ-loop
 returns c = search (reading-all)
 
@@ -64,5 +61,4 @@ read-words-spec =
     loop-again
     last-word-requires
     element-write-words-2
-    element-write-words-3
     returns)

@@ -23,7 +23,11 @@ sync-end-requires-2 : tie.Need-sync-end-requires-2
 sync-end-requires-2 c κs = search needs
 
 read-two-requires : tie.Need-read-two-requires
-read-two-requires c κs = search needs
+read-two-requires c κs =
+    let second = c .before .before .before .before in
+    let first = second .before in
+    let start = first .before .before .before in
+    (start .pre .0, ((first .no-words .ensures, second .no-words2 .ensures), (search needs, search needs)))
 
 take-two-requires : tie.Need-take-two-requires
 take-two-requires c κs = search needs
