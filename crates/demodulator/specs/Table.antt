@@ -50,13 +50,13 @@ pub record After (gs : List Three) (x r : ℕ) : Type 0 where
 abbrev pub limit : ℕ → ℕ
 limit s = getD (1 ∷ 1 ∷ 1 ∷ 1 ∷ 2 ∷ 2 ∷ 1 ∷ 4 ∷ 2 ∷ 8 ∷ 8 ∷ 4 ∷ 2 ∷ 8 ∷ 2 ∷ 32 ∷ 16 ∷ 1 ∷ []) s 1
 
--- x is a state and a number of 46 bits whose pending bits are zeros
+-- x is a state and a number of 46 bits whose pending bits are zeros; 2251799813685248 is 2^51
 pub record Held (x : ℕ) : Type 0 where
   pub state : x % 32 < 18
   pub below : x < 2251799813685248
   pub pending : x / 32 % 32 % limit (x % 32) ≡ 0
 
--- with the groups gs read, x is a word of 46 bits and what is held of the next
+-- with the groups gs read, x is a word of 46 bits and what is held of the next; 70368744177664 is 2^46
 pub record NextWord (gs : List Three) (x word held : ℕ) : Type 0 where
   pub number : word * 70368744177664 + held / 32 ≡ numberAfter (x % 32) (x / 32) gs
   pub state : held % 32 ≡ stateAfter (x % 32) gs

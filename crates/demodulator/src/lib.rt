@@ -137,6 +137,7 @@ fn segment(made: &Table, bytes: &[u8], at: usize, s: u64) -> u64
     two_on(made, x, six(bytes, at + 63))
 }
 
+// 1 for true.
 fn flag(b: bool) -> u64
     ensures { λ r. ⌜ (r ≡ cond b 1 0) × (r < 2) ⌝ }
 {
@@ -162,6 +163,9 @@ fn begin(made: &Table, bytes: &[u8], at: usize, before: bool) -> u64
     two_on(made, y, six(bytes, at + 33))
 }
 
+// 2 to the power of 51: 46 data bits and, below them, a state.
+const FULL: u64 = 2251799813685248;
+
 // A word of 46 data bits, and what is held of the next.
 struct Next {
     word: u64,
@@ -175,8 +179,8 @@ fn next_word(made: &Table, bytes: &[u8], at: usize, i: usize, x: u64) -> Next
 {
     let y = segment(made, bytes, at + 39 + 69 * i, x % 32);
     Next {
-        word: x / 32 + y / 2251799813685248,
-        held: y % 2251799813685248,
+        word: x / 32 + y / FULL,
+        held: y % FULL,
     }
 }
 

@@ -40,7 +40,7 @@ pub fn frame_pairs(row: &[u8], dc: u32, pairs: &mut [u8])
 
 // ---- and back, out of the words of a frame
 
-// The five bytes of its row at 5 m, as a number: 40 of the 45 data bits from 40 m on.
+// The five bytes of its row at 5 m, as a number: 40 of the 45 data bits from 40 m on, out of two words. 35184372088832 is 2^45.
 fn five_in(words: &[u64; 29], m: usize) -> u64
     requires { ⌜ Words (now words) × (m < 31) ⌝ }
     ensures { λ r. ⌜ FiveBytes (rowOf (bitsIn (now (words .entry)))) m r ⌝ }
