@@ -1,21 +1,22 @@
 -- The table's entries, by tests over states and groups; several groups read at once. Assumes nothing.
-use mathlib.Core.Bool.{true, false, cond}
+use mathlib.Core.Bool.{Bool, true, false}
 use mathlib.Core.List.{List, [], _∷_, _++_}
 use mathlib.Core.Path.{_≡_, refl, sym, ap, ap₂, subst, _∙_}
-use Prim.Native.Nat.{ℕ, zero, suc, _+_, _*_, _-_, _/_, _%_, _^_, _<_, _≤_}
+use Prim.Native.Nat.{ℕ, _+_, _*_, _-_, _/_, _%_, _^_, _<_, _≤_}
 use native.Mathlib.Nat.{add-mul, mul-assoc, mul-comm, pow-suc, mul-le-mul-left, mul-le-mul-right, pow-le-pow-right}
 use native.Mathlib.Omega.{arith}
 use borrow.Author.Tests.{lt-ltb, le-ltb}
-use lib.Arith.{digits-div, digits-mod}
 use lib.Dec.{T, eqb, eqb→eq, ltb, ltb→lt, leb, leb→le}
 use lib.ListN.{length, getD}
 use Rattle.laws.proofs.Finite.{both, both-left, both-right, all, all-at, all₂, all₂-at}
+use Rattle.laws.proofs.Fill.{Upto}
 use Rattle.laws.proofs.Tabulate.{getD-tabulate}
-use Rattle.modulation.specs.Modulation.{Three, m000, m001, m010, m011, m100, m101, m110, m111, threeNumber}
+use Rattle.modulation.specs.Modulation.{Three, threeNumber}
 use Rattle.modulation.proofs.Fronts.{three-below}
-use Rattle.demodulator.specs.Automaton.{reads, next, added, stateAfter, numberAfter}
-use Rattle.demodulator.specs.Table.{group, twoGroups, threeGroups, readFrom, tableEntry, table, After}
+use Rattle.demodulator.specs.Automaton.{reads, start, next, added, stateAfter, numberAfter}
+use Rattle.demodulator.specs.Table.{twoGroups, threeGroups, readFrom, more, tableEntry, table, Twos, After, limit}
 use Rattle.demodulator.proofs.Complete.{after-append}
+use Rattle.demodulator.proofs.Sound.{shifted, plain}
 
 -- ---- one group
 
@@ -32,76 +33,112 @@ entry-bound s g hs hg = ltb→lt (entry s g) 2950 (both-left (ltb (entry s g) 29
 pub entry-state : (s g : ℕ) → s < 18 → g < 8 → entry s g % 32 < 18
 entry-state s g hs hg = ltb→lt (entry s g % 32) 18 (both-right (ltb (entry s g) 2950) _ (entry-small s g hs hg))
 
+pub more-bound : (s g : ℕ) → s < 18 → g < 8 → more s g < 2950
+more-bound s g hs hg =
+    let none : s / 32 ≡ 0 = omega arith in
+    let state : s % 32 < 18 = omega arith in
+    omega (arith, none, entry-bound (s % 32) g state hg)
+
+pub more-state : (a g : ℕ) → a % 32 < 18 → g < 8 → more a g % 32 < 18
+more-state a g h hg =
+    let whole : more a g % 32 ≡ entry (a % 32) g % 32 = low (a / 32) (entry (a % 32) g) in
+    subst (λ (n : ℕ). n < 18) (sym whole) (entry-state (a % 32) g h hg)
+  where
+    low : (n e : ℕ) → (n * 128 + e) % 32 ≡ e % 32
+    low n e = omega arith
+
 -- ---- two and three groups
 
-abbrev then : ℕ → ℕ → ℕ
-then a g = a / 32 * 128 + entry (a % 32) g
-
 two-test : (s v : ℕ) → s < 18 → v < 64
-    → T (both (eqb (then (entry s (v / 8)) (v % 8)) (readFrom s (twoGroups v))) (both (ltb (readFrom s (twoGroups v)) 14752) (ltb (readFrom s (twoGroups v) % 32) 18)))
+    → T (both (eqb (more (more s (v / 8)) (v % 8)) (readFrom s (twoGroups v))) (both (ltb (readFrom s (twoGroups v)) 14752) (ltb (readFrom s (twoGroups v) % 32) 18)))
 unfolding all all₂ reads readFrom numberAfter stateAfter
 two-test =
     all₂-at 18 64
-    (λ s v. both (eqb (then (entry s (v / 8)) (v % 8)) (readFrom s (twoGroups v))) (both (ltb (readFrom s (twoGroups v)) 14752) (ltb (readFrom s (twoGroups v) % 32) 18))) tt
+    (λ s v. both (eqb (more (more s (v / 8)) (v % 8)) (readFrom s (twoGroups v))) (both (ltb (readFrom s (twoGroups v)) 14752) (ltb (readFrom s (twoGroups v) % 32) 18))) tt
 
 module _ (s v : ℕ) (hs : s < 18) (hv : v < 64) where
-  pub two-is : then (entry s (v / 8)) (v % 8) ≡ readFrom s (twoGroups v)
-  two-is = eqb→eq _ _ (both-left (eqb (then (entry s (v / 8)) (v % 8)) (readFrom s (twoGroups v))) _ (two-test s v hs hv))
+  two-is : more (more s (v / 8)) (v % 8) ≡ readFrom s (twoGroups v)
+  two-is = eqb→eq _ _ (both-left (eqb (more (more s (v / 8)) (v % 8)) (readFrom s (twoGroups v))) _ (two-test s v hs hv))
 
-  pub two-bound : readFrom s (twoGroups v) < 14752
+  two-bound : readFrom s (twoGroups v) < 14752
   two-bound =
       ltb→lt (readFrom s (twoGroups v)) 14752
-      (both-left (ltb (readFrom s (twoGroups v)) 14752) _ (both-right (eqb (then (entry s (v / 8)) (v % 8)) (readFrom s (twoGroups v))) _ (two-test s v hs hv)))
+      (both-left (ltb (readFrom s (twoGroups v)) 14752) _ (both-right (eqb (more (more s (v / 8)) (v % 8)) (readFrom s (twoGroups v))) _ (two-test s v hs hv)))
 
-  pub two-state : readFrom s (twoGroups v) % 32 < 18
+  two-state : readFrom s (twoGroups v) % 32 < 18
   two-state =
       ltb→lt (readFrom s (twoGroups v) % 32) 18
-      (both-right (ltb (readFrom s (twoGroups v)) 14752) _ (both-right (eqb (then (entry s (v / 8)) (v % 8)) (readFrom s (twoGroups v))) _ (two-test s v hs hv)))
+      (both-right (ltb (readFrom s (twoGroups v)) 14752) _ (both-right (eqb (more (more s (v / 8)) (v % 8)) (readFrom s (twoGroups v))) _ (two-test s v hs hv)))
 
-three-test : (s v : ℕ) → s < 18 → v < 512
-    → T (both (eqb (then (readFrom s (twoGroups (v / 8))) (v % 8)) (readFrom s (threeGroups v))) (ltb (readFrom s (threeGroups v) % 32) 18))
+three-test : (s v : ℕ) → s < 18 → v < 512 → T (eqb (more (readFrom s (twoGroups (v / 8))) (v % 8)) (readFrom s (threeGroups v)))
 unfolding all all₂ reads readFrom numberAfter stateAfter
-three-test =
-    all₂-at 18 512 (λ s v. both (eqb (then (readFrom s (twoGroups (v / 8))) (v % 8)) (readFrom s (threeGroups v))) (ltb (readFrom s (threeGroups v) % 32) 18)) tt
+three-test = all₂-at 18 512 (λ s v. eqb (more (readFrom s (twoGroups (v / 8))) (v % 8)) (readFrom s (threeGroups v))) tt
 
-module _ (s v : ℕ) (hs : s < 18) (hv : v < 512) where
-  pub three-is : then (readFrom s (twoGroups (v / 8))) (v % 8) ≡ readFrom s (threeGroups v)
-  three-is = eqb→eq _ _ (both-left (eqb (then (readFrom s (twoGroups (v / 8))) (v % 8)) (readFrom s (threeGroups v))) _ (three-test s v hs hv))
-
-  pub three-state : readFrom s (threeGroups v) % 32 < 18
-  three-state =
-      ltb→lt (readFrom s (threeGroups v) % 32) 18
-      (both-right (eqb (then (readFrom s (twoGroups (v / 8))) (v % 8)) (readFrom s (threeGroups v))) _ (three-test s v hs hv))
+three-is : (s v : ℕ) → s < 18 → v < 512 → more (readFrom s (twoGroups (v / 8))) (v % 8) ≡ readFrom s (threeGroups v)
+three-is s v hs hv = eqb→eq _ _ (three-test s v hs hv)
 
 -- ---- the table's places
 
-pub entry-three : (k : ℕ) → k < 9216 → readFrom (k % 18) (threeGroups (k / 18)) ≡ tableEntry k
+entry-two : (k : ℕ) → k < 1152 → readFrom (k % 18) (twoGroups (k / 18)) ≡ tableEntry k
 unfolding tableEntry
-entry-three k h = rw (lt-ltb k 9216 h)
+entry-two k h = rw (lt-ltb k 1152 h)
 
-pub entry-two : (k : ℕ) → 9216 ≤ k → readFrom ((k - 9216) % 18) (twoGroups ((k - 9216) / 18)) ≡ tableEntry k
+entry-three : (k : ℕ) → 1152 ≤ k → readFrom ((k - 1152) % 18) (threeGroups ((k - 1152) / 18)) ≡ tableEntry k
 unfolding tableEntry
-entry-two k h = rw (le-ltb k 9216 h)
+entry-three k h = rw (le-ltb k 1152 h)
 
-pub table-three : (v s : ℕ) → v < 512 → s < 18 → getD table (18 * v + s) 0 ≡ readFrom s (threeGroups v)
+pub table-two : (v s : ℕ) → v < 64 → s < 18 → getD table (18 * v + s) 0 ≡ readFrom s (twoGroups v)
 unfolding table
-table-three v s hv hs =
+table-two v s hv hs =
     let k : ℕ = 18 * v + s in
     let quotient : k / 18 ≡ v = omega arith in
     let rest : k % 18 ≡ s = omega arith in
     getD-tabulate 10368 tableEntry k 0 (omega arith)
+    ∙ sym (entry-two k (omega arith))
+    ∙ ap₂ (λ (x y : ℕ). readFrom x (twoGroups y)) rest quotient
+
+pub table-three : (v s : ℕ) → v < 512 → s < 18 → getD table (1152 + 18 * v + s) 0 ≡ readFrom s (threeGroups v)
+unfolding table
+table-three v s hv hs =
+    let k : ℕ = 1152 + 18 * v + s in
+    let quotient : (k - 1152) / 18 ≡ v = omega arith in
+    let rest : (k - 1152) % 18 ≡ s = omega arith in
+    getD-tabulate 10368 tableEntry k 0 (omega arith)
     ∙ sym (entry-three k (omega arith))
     ∙ ap₂ (λ (x y : ℕ). readFrom x (threeGroups y)) rest quotient
 
-pub table-two : (v s : ℕ) → v < 64 → s < 18 → getD table (9216 + 18 * v + s) 0 ≡ readFrom s (twoGroups v)
-unfolding table
-table-two v s hv hs =
-    let k : ℕ = 9216 + 18 * v + s in
-    let quotient : (k - 9216) / 18 ≡ v = omega arith in
-    let rest : (k - 9216) % 18 ≡ s = omega arith in
-    getD-tabulate 10368 tableEntry k 0 (omega arith)
-    ∙ sym (entry-two k (omega arith))
-    ∙ ap₂ (λ (x y : ℕ). readFrom x (twoGroups y)) rest quotient
+-- ---- the table filled
+
+pub two-made : (k : ℕ) → k < 1152 → more (more (k % 18) (k / 144)) (k / 18 % 8) ≡ tableEntry k
+two-made k h =
+    let eighth : k / 144 ≡ k / 18 / 8 = omega arith in
+    ap (λ (g : ℕ). more (more (k % 18) g) (k / 18 % 8)) eighth ∙ two-is (k % 18) (k / 18) (omega arith) (omega arith) ∙ entry-two k h
+
+module _ {l : List ℕ} (twos : Twos l) where
+  two-there : (k : ℕ) → k < 1152 → getD l k 0 ≡ readFrom (k % 18) (twoGroups (k / 18))
+  two-there k h = twos .each k h ∙ sym (entry-two k h)
+
+  pub there-bound : (k : ℕ) → k < 1152 → getD l k 0 < 14752
+  there-bound k h = subst (λ (n : ℕ). n < 14752) (sym (two-there k h)) (two-bound (k % 18) (k / 18) (omega arith) (omega arith))
+
+  pub there-state : (k : ℕ) → k < 1152 → getD l k 0 % 32 < 18
+  there-state k h = subst (λ (n : ℕ). n % 32 < 18) (sym (two-there k h)) (two-state (k % 18) (k / 18) (omega arith) (omega arith))
+
+  pub three-made : (k : ℕ) → 1152 ≤ k → k < 10368 → more (getD l ((k - 1152) / 144 * 18 + (k - 1152) % 18) 0) ((k - 1152) / 18 % 8) ≡ tableEntry k
+  three-made k h below =
+      let j : ℕ = k - 1152 in
+      let at : ℕ = j / 144 * 18 + j % 18 in
+      let state : at % 18 ≡ j % 18 = omega arith in
+      let groups : at / 18 ≡ j / 18 / 8 = omega arith in
+      ap (λ (a : ℕ). more a (j / 18 % 8)) (two-there at (omega arith) ∙ ap₂ (λ (s v : ℕ). readFrom s (twoGroups v)) state groups)
+      ∙ three-is (j % 18) (j / 18) (omega arith) (omega arith)
+      ∙ entry-three k h
+
+pub twos-all : {l : List ℕ} {k : ℕ} → 1152 ≤ k → Upto 0 tableEntry 10368 k l → Twos l
+twos-all h u = record { size = u .size; each = λ j below. u .below j (omega arith) }
+
+pub twos-upto : {l : List ℕ} → Twos l → Upto 0 tableEntry 10368 1152 l
+twos-upto twos = record { within = omega arith; size = twos .size; below = twos .each }
 
 -- ---- several groups behind one another
 
@@ -109,15 +146,6 @@ pub number-append : (s a : ℕ) (x y : List Three) → numberAfter s a (x ++ y) 
 unfolding numberAfter stateAfter
 number-append s a [] y = refl
 number-append s a (g ∷ x) y = number-append (next s (threeNumber g)) (4 * a + added s (threeNumber g)) x y
-
-shifted : (a d p r : ℕ) → (4 * a + d) * p + r ≡ a * (p * 4) + (d * p + r)
-shifted a d p r =
-    let one = add-mul (4 * a) d p in
-    let two : 4 * a * p ≡ a * (p * 4) = ap (λ (x : ℕ). x * p) (mul-comm 4 a) ∙ mul-assoc a 4 p ∙ ap (λ (x : ℕ). a * x) (mul-comm 4 p) in
-    omega (arith, one, two)
-
-plain : (d : ℕ) → 4 * 0 + d ≡ d
-plain d = omega arith
 
 pub number-shift : (s a : ℕ) (gs : List Three) → numberAfter s a gs ≡ a * 4 ^ length gs + numberAfter s 0 gs
 unfolding numberAfter
@@ -135,6 +163,10 @@ pub state-small : (s : ℕ) (gs : List Three) → s < 18 → stateAfter s gs < 1
 unfolding stateAfter
 state-small s [] h = h
 state-small s (g ∷ gs) h = state-small (next s (threeNumber g)) gs (entry-state s (threeNumber g) h (three-below g))
+
+pub start-small : (before : Bool) → start before < 18
+start-small true = omega arith
+start-small false = omega arith
 
 -- x with the groups read whose entry is e
 pub after-entry : (gs : List Three) (x e : ℕ) (w : ℕ) → w ≡ 32 * 4 ^ length gs → x % 32 < 18 → e ≡ readFrom (x % 32) gs → After gs x (x / 32 * w + e)
@@ -168,10 +200,6 @@ after-more {gs} {hs} {x} {y} {r} a b =
     }
 
 -- ---- how large the number grows
-
--- 2 to the power of the bits pending in a state
-abbrev pub limit : ℕ → ℕ
-limit s = getD (1 ∷ 1 ∷ 1 ∷ 1 ∷ 2 ∷ 2 ∷ 1 ∷ 4 ∷ 2 ∷ 8 ∷ 8 ∷ 4 ∷ 2 ∷ 8 ∷ 2 ∷ 32 ∷ 16 ∷ 1 ∷ []) s 1
 
 grows-within : (s g : ℕ) → s < 18 → g < 8 → T (leb (added s g + limit (next s g)) (4 * limit s))
 unfolding all all₂ reads

@@ -25,24 +25,6 @@ unfolding groupsAt
 length-groupsAt b p zero = refl
 length-groupsAt b p (suc n) = ap suc (length-groupsAt b (p + 3) n)
 
-pub groupsAt-drop : (b : List ℕ) (p n j : ℕ) → j ≤ n → drop j (groupsAt b p n) ≡ groupsAt b (p + 3 * j) (n - j)
-unfolding groupsAt
-groupsAt-drop b p n zero h = ap₂ (groupsAt b) (here p) (all n)
-  where
-    here : (p : ℕ) → p ≡ p + 3 * 0
-    here p = omega arith
-
-    all : (n : ℕ) → n ≡ n - 0
-    all n = omega arith
-groupsAt-drop b p zero (suc j) h = absurd (not-suc-le-zero h)
-groupsAt-drop b p (suc n) (suc j) h = groupsAt-drop b (p + 3) n j (le-of-suc-le-suc h) ∙ ap₂ (groupsAt b) (on p j) (less n j)
-  where
-    on : (p j : ℕ) → p + 3 + 3 * j ≡ p + 3 * suc j
-    on p j = omega arith
-
-    less : (n j : ℕ) → n - j ≡ suc n - suc j
-    less n j = omega arith
-
 three-number : (x y z : ℕ) → x < 2 → y < 2 → z < 2 → threeNumber (three x y z) ≡ 4 * x + 2 * y + z
 unfolding all all₂ all₃
 three-number x y z hx hy hz =

@@ -5,6 +5,6 @@ pub mod Sound
 pub mod Entries
 pub mod Windows
 pub mod Running
-pub mod Aligned
+pub mod Held
 pub mod Words
 pub mod Reading

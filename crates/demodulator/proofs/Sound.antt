@@ -19,25 +19,23 @@ use Rattle.demodulator.proofs.Complete.{each, among, each-at}
 
 -- ---- pairs as digits
 
+pub shifted : (a d p r : ℕ) → (4 * a + d) * p + r ≡ a * (p * 4) + (d * p + r)
+shifted a d p r =
+    let one = add-mul (4 * a) d p in
+    let two : 4 * a * p ≡ a * (p * 4) = ap (λ (x : ℕ). x * p) (mul-comm 4 a) ∙ mul-assoc a 4 p ∙ ap (λ (x : ℕ). a * x) (mul-comm 4 p) in
+    omega (arith, one, two)
+
+pub plain : (d : ℕ) → 4 * 0 + d ≡ d
+plain d = omega arith
+
 pub onto-shift : (a : ℕ) (ds : List Two) → onto a ds ≡ a * 4 ^ length ds + onto 0 ds
 unfolding onto
 onto-shift a [] = omega arith
 onto-shift a (d ∷ ds) =
     onto-shift (4 * a + twoNumber d) ds
     ∙ shifted a (twoNumber d) (4 ^ length ds) (onto 0 ds)
-    ∙ ap₂ (λ (x y : ℕ). a * x + y) (sym (pow-suc 4 (length ds))) (sym (onto-shift (4 * 0 + twoNumber d) ds ∙ zeroed (twoNumber d) (4 ^ length ds) (onto 0 ds)))
-  where
-    shifted : (a d p r : ℕ) → (4 * a + d) * p + r ≡ a * (p * 4) + (d * p + r)
-    shifted a d p r =
-        let one = add-mul (4 * a) d p in
-        let two : 4 * a * p ≡ a * (p * 4) = ap (λ (x : ℕ). x * p) (mul-comm 4 a) ∙ mul-assoc a 4 p ∙ ap (λ (x : ℕ). a * x) (mul-comm 4 p) in
-        omega (arith, one, two)
-
-    zeroed : (d p r : ℕ) → (4 * 0 + d) * p + r ≡ d * p + r
-    zeroed d p r = ap (λ (x : ℕ). x * p + r) (plain d)
-      where
-        plain : (d : ℕ) → 4 * 0 + d ≡ d
-        plain d = omega arith
+    ∙ ap₂ (λ (x y : ℕ). a * x + y) (sym (pow-suc 4 (length ds)))
+    (sym (onto-shift (4 * 0 + twoNumber d) ds ∙ ap (λ (x : ℕ). x * 4 ^ length ds + onto 0 ds) (plain (twoNumber d))))
 
 onto-append : (a : ℕ) (x y : List Two) → onto a (x ++ y) ≡ onto (onto a x) y
 unfolding onto
@@ -359,9 +357,9 @@ record Back (m : Met) (n : ℕ) (gs : List Three) (hash : Bool) : Type 0 where
   gives : machine ds (m .wait) (m .bit) ≡ record { groups = m .lag ++ gs; terminated = hash }
   number : onto n ds ≡ numberOf (m .state) (n * 4 ^ unfed (m .state) + m .base) gs hash
 
--- f of weight a at weight b, with c below, behind n
-numbers-meet : (n p b c out f x q r : ℕ) → f * q + r ≡ 4 * c + out → x * q ≡ 4 * p → 4 * (n * p + c) + out ≡ (n * x + f) * q + r
-numbers-meet n p b c out f x q r e h =
+-- the number grows by a group as its pairs are decided: n before c at weight p is n, f and r at weight q
+numbers-meet : (n p c out f x q r : ℕ) → f * q + r ≡ 4 * c + out → x * q ≡ 4 * p → 4 * (n * p + c) + out ≡ (n * x + f) * q + r
+numbers-meet n p c out f x q r e h =
     let one = add-mul (n * x) f q in
     let two : n * x * q ≡ 4 * (n * p) = mul-assoc n x q ∙ ap (λ (y : ℕ). n * y) h ∙ sym (mul-assoc n 4 p) ∙ ap (λ (y : ℕ). y * p) (mul-comm n 4) ∙ mul-assoc 4 n p in
     omega (arith, one, two)
@@ -388,7 +386,7 @@ step-back m n g gs hash t back =
     grows : 4 * (n * 4 ^ unfed (m .state) + m .base) + added (m .state) (threeNumber g)
         ≡ onto n (decided m g) * 4 ^ unfed (to m g) + grown m g % 4 ^ unfed (to m g)
     grows =
-        numbers-meet n (4 ^ unfed (m .state)) 0 (m .base) (added (m .state) (threeNumber g)) (onto 0 (decided m g)) (4 ^ length (decided m g)) (4 ^ unfed (to m g))
+        numbers-meet n (4 ^ unfed (m .state)) (m .base) (added (m .state) (threeNumber g)) (onto 0 (decided m g)) (4 ^ length (decided m g)) (4 ^ unfed (to m g))
         (grown m g % 4 ^ unfed (to m g))
         (eqb→eq _ _ (both-left (sum-right m g) _ (both-right (front-right m g) _ t)))
         (eqb→eq _ _ (both-left (weight-right m g) _ (both-right (sum-right m g) _ (both-right (front-right m g) _ t))))

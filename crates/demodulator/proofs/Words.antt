@@ -1,21 +1,22 @@
 -- Words of 46 bits, one behind the other, as one number, and its bits. Assumes nothing.
-use mathlib.Core.List.{List, [], _∷_, _++_}
-use mathlib.Core.Path.{_≡_, refl, sym, ap, ap₂, subst, _∙_}
+use mathlib.Core.List.{List, [], _∷_}
+use mathlib.Core.Path.{_≡_, refl, sym, ap, ap₂, _∙_}
 use Prim.Native.Nat.{ℕ, zero, suc, _+_, _*_, _-_, _/_, _%_, _^_, _<_, _≤_}
-use native.Mathlib.Nat.{add-mul, mod-eq-of-lt, pow-suc, mul-assoc, mul-comm}
+use native.Mathlib.Nat.{add-mul, pow-suc, mul-assoc, mul-comm}
 use native.Mathlib.Omega.{arith}
 use lib.ListN.{length, getD, set}
-use lib.Pow.{shr-shr, high, field, mod-mod-pow, low}
+use lib.Pow.{shr-shr, high}
 use lib.Seq.{ext-getD, getD-set-same, getD-set-other}
 use Rattle.laws.proofs.Tabulate.{length-tabulate, getD-tabulate}
-use Rattle.bits.specs.Bits.{Bits, number}
-use Rattle.bits.proofs.Number.{number-bit}
-use Rattle.modulation.specs.Modulation.{Two, d00, d01, d10, d11, twoNumber}
+use Rattle.bits.specs.Bits.{number}
+use Rattle.bits.proofs.Number.{below-block, number-bit}
+use Rattle.modulation.specs.Modulation.{Two, twoNumber}
 use Rattle.modulation.specs.Bits.{dataBits}
 use Rattle.modulation.proofs.Bits.{length-dataBits}
+use Rattle.modulation.proofs.Fronts.{bits-dataBits}
 use Rattle.demodulator.specs.Automaton.{onto}
-use Rattle.demodulator.specs.Words.{bitsIn, Words}
-use Rattle.demodulator.proofs.Sound.{onto-shift}
+use Rattle.demodulator.specs.Words.{bitsIn}
+use Rattle.demodulator.proofs.Sound.{plain, onto-shift}
 
 -- ---- the first n words as a number
 
@@ -40,16 +41,6 @@ joined-more ws i v h =
     ap (joined (set ws i v)) next ∙ ap₂ (λ (x y : ℕ). x * 70368744177664 + y) (joined-set ws i v i (omega arith)) (getD-set-same ws i v 0 h)
 
 -- ---- its bits
-
--- a bit below 2^n is not touched by what stands above
-pub bit-below : (a n r t : ℕ) → r < 2 ^ n → t < n → (a * 2 ^ n + r) / 2 ^ t % 2 ≡ r / 2 ^ t % 2
-bit-below a n r t hr h =
-    let sum : n ≡ (n - 1 - t) + (1 + t) = omega arith in
-    let cut : (m : ℕ) → m % 2 ^ n % 2 ^ (1 + t) ≡ m % 2 ^ (1 + t) = λ m. ap (λ (k : ℕ). m % 2 ^ k % 2 ^ (1 + t)) sum ∙ mod-mod-pow m (n - 1 - t) (1 + t) in
-    let same : (a * 2 ^ n + r) % 2 ^ n ≡ r % 2 ^ n = low a n hr ∙ sym (mod-eq-of-lt hr) in
-    sym (field (a * 2 ^ n + r) 1 t)
-    ∙ ap (λ (m : ℕ). m / 2 ^ t) (sym (cut (a * 2 ^ n + r)) ∙ ap (λ (m : ℕ). m % 2 ^ (1 + t)) same ∙ cut r)
-    ∙ field r 1 t
 
 module _ (ws : List ℕ) (h : (i : ℕ) → getD ws i 0 < 70368744177664) where
   -- without the last m words
@@ -85,7 +76,7 @@ module _ (ws : List ℕ) (h : (i : ℕ) → getD ws i 0 < 70368744177664) where
       ∙ ap (λ (x : ℕ). x % 2) (sym (shr-shr (joined ws 28) (46 * (27 - i)) t))
       ∙ ap (λ (n : ℕ). joined ws n / 2 ^ (46 * (27 - i)) / 2 ^ t % 2) (sym all)
       ∙ ap (λ (x : ℕ). x / 2 ^ t % 2) (joined-high (suc i) (27 - i))
-      ∙ bit-below (joined ws i) 46 (getD ws i 0) t (h i) (omega arith)
+      ∙ below-block 46 (joined ws i) (getD ws i 0) t (omega arith)
 
 -- ---- the number of data bits
 
@@ -107,27 +98,12 @@ number-bits (d ∷ ds) =
     ∙ ap (λ (x : ℕ). x * 4 ^ length ds + onto 0 ds) (sym (plain (twoNumber d)))
     ∙ sym (onto-shift (4 * 0 + twoNumber d) ds)
   where
-    plain : (d : ℕ) → 4 * 0 + d ≡ d
-    plain d = omega arith
-
     halves : (d p r : ℕ) → d / 2 * (p * 2) + (d % 2 * p + r) ≡ d * p + r
     halves d p r =
         let one : d / 2 * (p * 2) ≡ 2 * (d / 2) * p = ap (λ (x : ℕ). d / 2 * x) (mul-comm p 2) ∙ sym (mul-assoc (d / 2) 2 p) ∙ ap (λ (x : ℕ). x * p) (mul-comm (d / 2) 2) in
         let two : 2 * (d / 2) + d % 2 ≡ d = omega arith in
         let three = sym (add-mul (2 * (d / 2)) (d % 2) p) ∙ ap (λ (x : ℕ). x * p) two in
         omega (arith, one, three)
-
-data-bits : (ds : List Two) → Bits (dataBits ds)
-data-bits [] i = omega arith
-data-bits (d00 ∷ ds) zero = omega arith
-data-bits (d01 ∷ ds) zero = omega arith
-data-bits (d10 ∷ ds) zero = omega arith
-data-bits (d11 ∷ ds) zero = omega arith
-data-bits (d00 ∷ ds) (suc zero) = omega arith
-data-bits (d01 ∷ ds) (suc zero) = omega arith
-data-bits (d10 ∷ ds) (suc zero) = omega arith
-data-bits (d11 ∷ ds) (suc zero) = omega arith
-data-bits (d ∷ ds) (suc (suc i)) = data-bits ds i
 
 -- the words of a number hold its data bits
 pub words-bits : (ws : List ℕ) (ds : List Two) → ((i : ℕ) → getD ws i 0 < 70368744177664) → length ds ≡ 634 → onto 0 ds ≡ joined ws 28 → dataBits ds ≡ bitsIn ws
@@ -142,7 +118,7 @@ words-bits ws ds h size e = ext-getD 0 (dataBits ds) (bitsIn ws) (long ∙ sym (
 
     at : (j : ℕ) → j < 1268 → getD (dataBits ds) j 0 ≡ getD (bitsIn ws) j 0
     at j l =
-        sym (number-bit (dataBits ds) j (data-bits ds) (omega (arith, long)))
+        sym (number-bit (dataBits ds) j (bits-dataBits ds) (omega (arith, long)))
         ∙ ap₂ (λ (x y : ℕ). x / 2 ^ (y - 1 - j) % 2) (number-bits ds ∙ e) long
         ∙ joined-bit ws h j l
         ∙ sym (getD-tabulate 1268 f j 0 l)

@@ -1,7 +1,7 @@
 -- A strict automaton over groups of three modulation bits. A state says which words may stand here and how many data bits are pending; a
 -- group leads to the next state and adds to the number of the data bits, which grows by two bits a group. Pending bits count as zeros until
--- a later group adds them. It accepts what some data bits give, and no more (proofs/Statements).
-use mathlib.Core.Bool.{Bool, true, false, cond}
+-- a later group adds them. It accepts what some data bits give, and no more (proofs/Complete, proofs/Sound).
+use mathlib.Core.Bool.{Bool, cond}
 use mathlib.Core.List.{List, [], _∷_}
 use Prim.Native.Nat.{ℕ, _+_, _*_, _/_, _%_}
 use lib.Dec.{eqb}

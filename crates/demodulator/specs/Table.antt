@@ -1,14 +1,15 @@
 -- Two and three groups at once: a table by state and groups. A number x stands for a state and the number of the data bits so far: 32 times
 -- the latter, and the state.
-use mathlib.Core.Bool.{cond}
+use mathlib.Core.Bool.{Bool, cond}
 use mathlib.Core.List.{List, [], _∷_}
 use mathlib.Core.Path.{_≡_}
 use Prim.Native.Nat.{ℕ, _+_, _*_, _-_, _/_, _%_, _<_}
-use lib.Dec.{ltb}
+use lib.Dec.{eqb, ltb}
+use lib.ListN.{length, getD}
 use Rattle.laws.specs.Tabulate.{tabulate}
 use Rattle.modulation.specs.Modulation.{Three}
 use Rattle.modulation.specs.Bits.{three}
-use Rattle.demodulator.specs.Automaton.{stateAfter, numberAfter}
+use Rattle.demodulator.specs.Automaton.{reads, ending, stateAfter, numberAfter}
 
 abbrev pub group : ℕ → Three
 group g = three (g / 4 % 2) (g / 2 % 2) (g % 2)
@@ -23,15 +24,47 @@ threeGroups v = group (v / 64) ∷ group (v / 8 % 8) ∷ group (v % 8) ∷ []
 unfoldable pub readFrom : ℕ → List Three → ℕ
 readFrom s gs = 32 * numberAfter s 0 gs + stateAfter s gs
 
--- three groups v from state s stand at 18 v + s, and behind these two groups likewise
+-- such a number with group g read
+abbrev pub more : ℕ → ℕ → ℕ
+more a g = a / 32 * 128 + getD reads (8 * (a % 32) + g) 0
+
+-- two groups v from state s stand at 18 v + s, and behind these three groups likewise
 unfoldable pub tableEntry : ℕ → ℕ
-tableEntry k = cond (ltb k 9216) (readFrom (k % 18) (threeGroups (k / 18))) (readFrom ((k - 9216) % 18) (twoGroups ((k - 9216) / 18)))
+tableEntry k = cond (ltb k 1152) (readFrom (k % 18) (twoGroups (k / 18))) (readFrom ((k - 1152) % 18) (threeGroups ((k - 1152) / 18)))
 
 unfoldable pub table : List ℕ
 table = tabulate 10368 tableEntry
+
+-- the part for two groups stands in l
+pub record Twos (l : List ℕ) : Type 0 where
+  pub size : length l ≡ 10368
+  pub each : (k : ℕ) → k < 1152 → getD l k 0 ≡ tableEntry k
 
 -- r is x with the groups gs read
 pub record After (gs : List Three) (x r : ℕ) : Type 0 where
   pub number : r / 32 ≡ numberAfter (x % 32) (x / 32) gs
   pub state : r % 32 ≡ stateAfter (x % 32) gs
   pub small : r % 32 < 18
+
+-- 2 to the power of the bits pending in a state
+abbrev pub limit : ℕ → ℕ
+limit s = getD (1 ∷ 1 ∷ 1 ∷ 1 ∷ 2 ∷ 2 ∷ 1 ∷ 4 ∷ 2 ∷ 8 ∷ 8 ∷ 4 ∷ 2 ∷ 8 ∷ 2 ∷ 32 ∷ 16 ∷ 1 ∷ []) s 1
+
+-- x is a state and a number of 46 bits whose pending bits are zeros; 2251799813685248 is 2^51
+pub record Held (x : ℕ) : Type 0 where
+  pub state : x % 32 < 18
+  pub below : x < 2251799813685248
+  pub pending : x / 32 % 32 % limit (x % 32) ≡ 0
+
+-- with the groups gs read, x is a word of 46 bits and what is held of the next; 70368744177664 is 2^46
+pub record NextWord (gs : List Three) (x word held : ℕ) : Type 0 where
+  pub number : word * 70368744177664 + held / 32 ≡ numberAfter (x % 32) (x / 32) gs
+  pub state : held % 32 ≡ stateAfter (x % 32) gs
+  pub below : word < 70368744177664
+  pub holds : Held held
+
+-- at the frame's end x is a last word, and it is found whether a frame may end so
+pub record LastWord (x : ℕ) (hash : Bool) (word : ℕ) (found : Bool) : Type 0 where
+  pub number : word ≡ x / 32 + ending (x % 32) hash / 2
+  pub answer : found ≡ eqb (ending (x % 32) hash % 2) 0
+  pub below : word < 70368744177664

@@ -12,6 +12,7 @@ use Rattle.modulation.specs.Bits.{pairs, Gives}
 unfoldable pub bitsIn : List ℕ → List ℕ
 bitsIn ws = tabulate 1268 (λ j. getD ws ((j + 20) / 46) 0 / 2 ^ (45 - (j + 20) % 46) % 2)
 
+-- 29 numbers of 46 bits; 70368744177664 is 2^46
 pub record Words (ws : List ℕ) : Type 0 where
   pub size : length ws ≡ 29
   pub below : (i : ℕ) → getD ws i 0 < 70368744177664

@@ -5,23 +5,21 @@ use mathlib.Core.Path.{_≡_, sym, ap, ap₂, _∙_}
 use Prim.Native.Nat.{ℕ, _+_, _^_, _<_}
 use native.Mathlib.Omega.{arith}
 use lib.ListN.{length, take, drop, length-append}
-use lib.Seq.{take-at, drop-at, take-all, take-add, take-take, drop-drop}
+use lib.Seq.{take-at, take-add, take-take, drop-drop}
 use Rattle.laws.specs.Bytes.{Bytes}
-use Rattle.bits.specs.Bits.{Bits}
 use Rattle.modulation.specs.Modulation.{lastBit}
 use Rattle.modulation.specs.Bits.{bits}
 use Rattle.modulation.specs.Sync.{FS, sync, syncId}
 use Rattle.modulation.specs.Stream.{modulated}
 use Rattle.modulation.proofs.Bits.{bits-append}
-use Rattle.modulation.proofs.Fronts.{bits-groups}
 use Rattle.modulation.proofs.Theorems.{size-of-a-frame}
 use Rattle.frame.specs.FrameBits.{frameBits}
 use Rattle.frame.specs.Sync.{hashAt, syncRight}
-use Rattle.frame.specs.Frame.{framePairs, frameGroups, frame, nextHash}
+use Rattle.frame.specs.Frame.{framePairs, frame, nextHash}
 use Rattle.frame.specs.Reading.{RowGives}
 use Rattle.frame.proofs.FrameBits.{length-frame-bits}
 use Rattle.frame.proofs.SyncTables.{length-sync-bits}
-use Rattle.frame.proofs.SyncRight.{sync-as-read, hash-as-read, sync-is-right}
+use Rattle.frame.proofs.SyncRight.{sync-as-read}
 use Rattle.frame.proofs.Reading.{row-gives}
 
 pub length-modulated : (n : FS) (row : List ℕ) (dc : ℕ) → length (bits (modulated n (framePairs row dc) .groups)) ≡ 1902
@@ -38,10 +36,6 @@ length-frame hash n row dc =
       length-modulated n row dc,
     )
 
-pub frame-bits : (hash : Bool) (n : FS) (row : List ℕ) (dc : ℕ) → Bits (frame hash n row dc)
-unfolding frame
-frame-bits hash n row dc = bits-groups (frameGroups hash n row dc)
-
 -- ---- the parts of a frame, in itself and among other bits
 
 module _ (hash : Bool) (n : FS) (row : List ℕ) (dc : ℕ) where
@@ -54,12 +48,6 @@ module _ (hash : Bool) (n : FS) (row : List ℕ) (dc : ℕ) where
 
   pub frame-sync : take 30 (frame hash n row dc) ≡ bits (sync hash n)
   frame-sync = ap (take 30) frame-parts ∙ take-at (bits (sync hash n)) body 30 (length-sync-bits hash n)
-
-  pub frame-body : take 1902 (drop 30 (frame hash n row dc)) ≡ body
-  frame-body =
-      ap (λ (l : List ℕ). take 1902 (drop 30 l)) frame-parts
-      ∙ ap (take 1902) (drop-at (bits (sync hash n)) body 30 (length-sync-bits hash n))
-      ∙ take-all 1902 body (omega (arith, length-modulated n row dc))
 
 module _ (n : FS) (b : List ℕ) (at : ℕ) (row : List ℕ) (dc : ℕ) where
   -- where sync n is right and row and dc word give what stands behind it, there stands their frame
@@ -74,9 +62,6 @@ module _ (n : FS) (b : List ℕ) (at : ℕ) (row : List ℕ) (dc : ℕ) where
   module _ (hash : Bool) (e : take 1932 (drop at b) ≡ frame hash n row dc) where
     sync-there : take 30 (drop at b) ≡ bits (sync hash n)
     sync-there = sym (take-take 30 1932 (drop at b) (omega arith)) ∙ ap (take 30) e ∙ frame-sync hash n row dc
-
-    pub read-sync : (syncRight n b at ≡ true) × (hashAt b at ≡ hash)
-    read-sync = (sync-is-right n b at hash sync-there, hash-as-read n b at hash sync-there)
 
     body-there : take 1902 (drop (at + 30) b) ≡ body hash n row dc
     body-there =

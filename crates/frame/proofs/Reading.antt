@@ -1,13 +1,14 @@
 -- What reads as a frame: existence, uniqueness, and the test that decides it. Assumes nothing.
 use mathlib.Core.Bool.{Bool, true, false, _&&_, Bool·beq, cond, true≢false}
-use mathlib.Core.List.{List}
+use mathlib.Core.List.{List, _++_, append-nil}
 use mathlib.Core.Logic.{_↔_}
 use mathlib.Core.Path.{_≡_, refl, sym, ap, subst, _∙_}
 use Prim.Native.Nat.{ℕ, _*_, _^_, _<_}
 use native.Mathlib.Omega.{arith}
 use borrow.Author.Tests.{eq-eqb, eqb-true}
 use lib.Dec.{eqb}
-use lib.ListN.{length}
+use lib.ListN.{length, take, drop, length-drop, drop-of-length-le}
+use lib.Seq.{take-all, take-at, drop-at, length-take-le}
 use Rattle.laws.specs.Bytes.{Bytes}
 use Rattle.modulation.specs.Modulation.{Two, lastBit, Modulated, modulate}
 use Rattle.modulation.specs.Bits.{pairs, dataBits, groups, bits, Gives}
@@ -16,18 +17,19 @@ use Rattle.modulation.specs.Stream.{modulated}
 use Rattle.modulation.specs.Demodulator.{demodulate}
 use Rattle.demodulator.specs.Words.{bitsIn, WordsRead}
 use Rattle.modulation.proofs.Bits.{length-bits, groups-bits, length-pairs, length-dataBits, pairs-dataBits}
+use Rattle.modulation.proofs.Fronts.{bits-dataBits}
 use Rattle.modulation.proofs.Size.{size}
 use Rattle.modulation.proofs.Tests.{and-left, and-right, and-true, true-T, beq-same, beq-refl}
 use Rattle.modulation.proofs.Theorems.{comes-back, injective}
 use Rattle.frame.specs.FrameBits.{frameBits, rowOf, dcOf}
 use Rattle.frame.specs.Frame.{framePairs, nextHash}
 use Rattle.frame.specs.Same.{same}
-use Rattle.frame.specs.declared.FrameRead.{FrameRead}
-use Rattle.frame.specs.declared.FrameRead.the-variants.{Found, NoFrame}
-use Rattle.frame.specs.Reading.{BitsGive, RowGives, StrictlyRead, FrameWords, Taken, bitsRead, readable, frameRead, rowRead}
+use Rattle.frame.specs.declared.read.FrameRead.{FrameRead}
+use Rattle.frame.specs.declared.read.FrameRead.the-variants.{Found, NoFrame}
+use Rattle.frame.specs.Reading.{BitsGive, RowGives, StrictlyRead, Taken, bitsRead, readable, frameRead, rowRead}
 use Rattle.frame.proofs.Same.{same-true, same-refl}
 use Rattle.frame.proofs.FrameBits.{length-frame-bits, frame-bits-bits, frame-bits-back, frame-bits-inj, length-row, bytes-row, dc-word-lt}
-use Rattle.frame.proofs.Unweaving.{data-bits, length-words-bits, words-bits-bits}
+use Rattle.frame.proofs.Unweaving.{length-words-bits, words-bits-bits}
 
 -- ---- bits, and row and dc word
 
@@ -106,7 +108,7 @@ module _ (n : FS) (m : List ℕ) (hash : Bool) where
 
   pub readable-gives : readable n m hash ≡ true → BitsGive n (bitsRead n m hash) m hash
   unfolding readable bitsRead
-  readable-gives e = record { size = long; are-bits = data-bits ds; gives = subst (λ (l : List Two). Gives (lastBit false (syncId n)) l m hash) (sym (pairs-dataBits ds)) given }
+  readable-gives e = record { size = long; are-bits = bits-dataBits ds; gives = subst (λ (l : List Two). Gives (lastBit false (syncId n)) l m hash) (sym (pairs-dataBits ds)) given }
     where
       ds : List Two
       ds = demodulate (lastBit false (syncId n)) (record { groups = groups m; terminated = hash })
@@ -166,39 +168,85 @@ found-is x y e = cc
 no-found : {dc : ℕ} → Found dc ≡ NoFrame → ⊥
 no-found e = let z : _≡_ {A = ℕ} 0 1 = cc in omega arith
 
--- the frame taken out of the words
-module _ (n : FS) {m ws : List ℕ} {hash : Bool} where
-  -- the data bits of the words found
-  found-bits : {x : Bool} → FrameWords n m hash x ws → x ≡ true → BitsGive n (bitsIn ws) m hash
-  found-bits d e = record { size = length-words-bits ws; are-bits = words-bits-bits ws; gives = d .found e }
-
-  pub taken : {x : Bool} {before after : List ℕ} {answer : FrameRead} → FrameWords n m hash x ws → Taken ws x before answer after → StrictlyRead n m hash before answer after
-  taken {x} {before} {after} {answer} d t = by x refl
-    where
-      by : (y : Bool) → x ≡ y → StrictlyRead n m hash before answer after
-      by true e =
-          let is = t .there e in
-          record {
-            found = λ v f. let same : v ≡ dcOf (bitsIn ws) = found-is v (dcOf (bitsIn ws)) (sym f ∙ is .0) in rw (is .1, same) (bits-row (found-bits d e));
-            none = λ f. absurd (no-found (sym (is .0) ∙ f));
-          }
-      by false e =
-          let is = t .none e in
-          record {
-            found = λ dc f. absurd (no-found (sym f ∙ is .0));
-            none = λ _. (is .1, λ c g. d .none e (pairs c) (g .gives));
-          }
-
--- as the code hands it over: b is the sync's last bit
+-- the frame taken out of the words that were read; b is the sync's last bit
 pub reads : (n : FS) {b hash x : Bool} {m ws before after : List ℕ} {answer : FrameRead} → b ≡ lastBit false (syncId n) → WordsRead b m hash x ws
     → Taken ws x before answer after → StrictlyRead n m hash before answer after
-reads n {b} {hash} {x} {m} {ws} eb d t = taken n (subst (λ (y : Bool). WordsRead y m hash x ws) eb d) t
+reads n {b} {hash} {x} {m} {ws} {before} {after} {answer} eb d t = by x refl
+  where
+    words-give : x ≡ true → BitsGive n (bitsIn ws) m hash
+    words-give e =
+        record {
+          size = length-words-bits ws;
+          are-bits = words-bits-bits ws;
+          gives = subst (λ (y : Bool). Gives y (pairs (bitsIn ws)) m hash) eb (d .found e);
+        }
 
-pub frame-words : (n : FS) {b hash x : Bool} {m ws : List ℕ} → b ≡ lastBit false (syncId n) → WordsRead b m hash x ws → FrameWords n m hash x ws
-frame-words n {b} {hash} {x} {m} {ws} eb d = subst (λ (y : Bool). WordsRead y m hash x ws) eb d
+    by : (y : Bool) → x ≡ y → StrictlyRead n m hash before answer after
+    by true e =
+        let is = t .there e in
+        record {
+          found = λ v f. let same : v ≡ dcOf (bitsIn ws) = found-is v (dcOf (bitsIn ws)) (sym f ∙ is .0) in rw (is .1, same) (bits-row (words-give e));
+          none = λ f. absurd (no-found (sym (is .0) ∙ f));
+        }
+    by false e =
+        let is = t .none e in
+        record {
+          found = λ dc f. absurd (no-found (sym f ∙ is .0));
+          none = λ _. (is .1, λ c g. d .none e (pairs c) (subst (λ (y : Bool). Gives y (pairs c) m hash) (sym eb) (g .gives)));
+        }
 
 pub taken-there : {ws before after : List ℕ} {x : Bool} {dc : ℕ} → x ≡ true → after ≡ rowOf (bitsIn ws) → dc ≡ dcOf (bitsIn ws) → Taken ws x before (Found dc) after
 taken-there e er ed = record { there = λ _. (ap Found ed, er); none = λ f. absurd (true≢false (sym e ∙ f)) }
 
 pub taken-none : {ws before : List ℕ} {x : Bool} → x ≡ false → Taken ws x before NoFrame before
 taken-none e = record { there = λ t. absurd (true≢false (sym t ∙ e)); none = λ _. (refl, refl) }
+
+-- ---- two rows in one slice
+
+-- a row has 155 bytes, taken or not
+taken-size : {ws before after : List ℕ} {x : Bool} {answer : FrameRead} → Taken ws x before answer after → length before ≡ 155 → length after ≡ 155
+taken-size {ws} {before} {after} {x} t size = by x refl
+  where
+    by : (y : Bool) → x ≡ y → length after ≡ 155
+    by true e = ap length (t .there e .1) ∙ length-row (bitsIn ws) (words-bits-bits ws)
+    by false e = ap length (t .none e .1) ∙ size
+
+-- p is left in the first half of rows, and then q in the second half
+pub two-taken : (rows p q : List ℕ) {ws vs : List ℕ} {x y : Bool} {first second : FrameRead} → length rows ≡ 310
+    → Taken ws x (take 155 rows) first p → Taken vs y (take 155 (drop 155 (p ++ drop 155 rows))) second q
+    → Taken ws x (take 155 rows) first (take 155 (take 155 (p ++ drop 155 rows) ++ (q ++ drop 155 (drop 155 (p ++ drop 155 rows)))))
+    × Taken vs y (drop 155 rows) second (drop 155 (take 155 (p ++ drop 155 rows) ++ (q ++ drop 155 (drop 155 (p ++ drop 155 rows)))))
+two-taken rows p q {ws} {vs} {x} {y} {first} {second} size t u = (
+  subst (λ (l : List ℕ). Taken ws x (take 155 rows) first l) (sym (take-at kept (q ++ drop 155 (drop 155 both)) 155 kept-size ∙ is-p)) t,
+  subst (λ (l : List ℕ). Taken vs y (drop 155 rows) second l) (sym is-q) (subst (λ (l : List ℕ). Taken vs y l second q) is-half u),
+)
+  where
+    both : List ℕ
+    both = p ++ drop 155 rows
+
+    kept : List ℕ
+    kept = take 155 both
+
+    half : length (drop 155 rows) ≡ 155
+    half = omega (arith, length-drop 155 rows)
+
+    p-size : length p ≡ 155
+    p-size = taken-size t (length-take-le 155 rows (omega arith))
+
+    is-p : take 155 both ≡ p
+    is-p = take-at p (drop 155 rows) 155 p-size
+
+    kept-size : length kept ≡ 155
+    kept-size = ap length is-p ∙ p-size
+
+    behind : drop 155 both ≡ drop 155 rows
+    behind = drop-at p (drop 155 rows) 155 p-size
+
+    is-half : take 155 (drop 155 both) ≡ drop 155 rows
+    is-half = ap (take 155) behind ∙ take-all 155 (drop 155 rows) (omega (arith, half))
+
+    is-q : drop 155 (kept ++ (q ++ drop 155 (drop 155 both))) ≡ q
+    is-q =
+        drop-at kept (q ++ drop 155 (drop 155 both)) 155 kept-size
+        ∙ ap (λ (l : List ℕ). q ++ l) (ap (drop 155) behind ∙ drop-of-length-le (drop 155 rows) {i = 155} (omega (arith, half)))
+        ∙ append-nil q

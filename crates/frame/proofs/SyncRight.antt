@@ -1,7 +1,6 @@
 -- A frame sync compared group by group. Assumes nothing.
 use mathlib.Core.Bool.{Bool, true, false}
 use mathlib.Core.List.{List}
-use mathlib.Core.Logic.{_↔_}
 use mathlib.Core.Path.{_≡_, refl, sym, ap, ap₂, _∙_}
 use Prim.Native.Nat.{ℕ, _+_, _*_, _<_, _≤_}
 use native.Mathlib.Nat.{not-suc-le-zero, add-zero}
@@ -47,10 +46,6 @@ module _ (n : FS) (b : List ℕ) (at : ℕ) where
   pub sync-is-right : (hash : Bool) → take 30 (drop at b) ≡ bits (sync hash n) → syncRight n b at ≡ true
   unfolding syncRight
   sync-is-right hash e = ap₂ same e (ap (λ (h : Bool). bits (sync h n)) (hash-as-read hash e)) ∙ same-refl (bits (sync hash n))
-
-  -- some sync of the number, # being either, stands there if and only if the test says so
-  pub sync-right-iff : (syncRight n b at ≡ true) ↔ ((hash : Bool) × (take 30 (drop at b) ≡ bits (sync hash n)))
-  sync-right-iff = (λ e. (hashAt b at, sync-as-read e), λ p. sync-is-right (p .0) (p .1))
 
 -- the same, group by group
 module _ (n : FS) (hash : Bool) (l : List ℕ) (at : ℕ) (h : Inside l at 10) where

@@ -1,59 +1,27 @@
--- The row and the dc word, bit by bit out of a frame's pairs. Assumes nothing.
+-- The row, five bytes a step, and the dc word, bit by bit, out of a frame's words. Assumes nothing.
+use mathlib.Core.Bool.{Bool, true}
 use mathlib.Core.Path.{_≡_, refl, sym, ap, ap₂, subst, _∙_}
 use mathlib.Core.List.{List, [], _∷_, _++_}
 use Prim.Native.Nat.{ℕ, zero, suc, _+_, _*_, _-_, _/_, _%_, _^_, _<_, _≤_}
-use native.Mathlib.Nat.{mul-assoc, pow-suc, mod-lt, zero-lt-suc}
-use native.Mathlib.Decide.{ℕ-discrete, decLt}
+use native.Mathlib.Nat.{add-comm, mul-assoc, pow-suc, mod-lt, zero-lt-suc, mul-mod-left, add-mul-div-right}
+use native.Mathlib.Decide.{decLt}
 use native.Mathlib.Numerals.{add-one}
 use native.Mathlib.Omega.{arith}
+use lib.Dec.{T, ltb, ltb→lt}
 use lib.ListN.{length, getD, set, take, drop, length-append, length-drop, List·getD-eq-default}
 use lib.Seq.{getD-take, getD-drop, length-take-le}
-use lib.Pow.{pow-mono, shr-shr, high}
+use lib.Pow.{pow-pos, pow-mono, pow-add, shr-lt, shl-shr, shr-shr, split, high, low, mod-pow-add, mod-mod-pow}
 use Rattle.laws.specs.Tabulate.{tabulate}
+use Rattle.laws.proofs.Finite.{both, both-left, both-right}
 use Rattle.laws.proofs.Tabulate.{length-tabulate, getD-tabulate, is-tabulate}
-use Rattle.laws.proofs.Fill.{Upto, upto-none, upto-more, upto-all}
+use Rattle.laws.proofs.Fill.{Upto, upto-more, upto-all}
 use Rattle.bits.specs.Bits.{Bits, number, bitsOfNumber}
-use Rattle.bits.proofs.Number.{length-bits-of, getD-bits-of, number-of-bits}
+use Rattle.bits.proofs.Number.{length-bits-of, getD-bits-of, number-of-bits, below-block}
 use Rattle.bits.proofs.Pack.{getD-packed}
-use Rattle.modulation.specs.Bits.{dataBits}
-use Rattle.modulation.specs.Modulation.{Two}
-use Rattle.modulation.specs.Pairs.{Pairs, twos, numbers}
-use Rattle.modulation.proofs.Bits.{length-dataBits}
-use Rattle.modulation.proofs.Pairs.{length-twos, pairs-numbers, twos-numbers, slice-bits}
 use Rattle.demodulator.specs.Words as words
-use Rattle.demodulator.proofs.Words.{bit-below}
 use Rattle.frame.specs.FrameBits.{dataPlace, dcPlace, rowOf, dcOf}
-use Rattle.frame.specs.Slices.{Whole, bitsIn}
+use Rattle.frame.specs.Slices.{FiveBytes}
 use Rattle.frame.proofs.FrameBits.{length-row}
-
--- ---- a bit of the pairs
-
-module _ (l : List ℕ) (h : Pairs l) where
-  pub even-in : (j : ℕ) → j % 2 ≡ 0 → (getD l (j / 2) 0 / 2 ≡ getD (bitsIn l) j 0) × (getD l (j / 2) 0 / 2 < 2)
-  unfolding bitsIn
-  even-in j e =
-      let whole : 2 * (j / 2) ≡ j = omega arith in
-      (sym (slice-bits l (j / 2) h .0) ∙ ap (λ (i : ℕ). getD (dataBits (twos l)) i 0) whole, omega (arith, h (j / 2)))
-
-  pub odd-in : (j : ℕ) → (j % 2 ≡ 0 → ⊥) → (getD l (j / 2) 0 % 2 ≡ getD (bitsIn l) j 0) × (getD l (j / 2) 0 % 2 < 2)
-  unfolding bitsIn
-  odd-in j e =
-      let whole : 2 * (j / 2) + 1 ≡ j = omega arith in
-      (sym (slice-bits l (j / 2) h .1) ∙ ap (λ (i : ℕ). getD (dataBits (twos l)) i 0) whole, omega arith)
-
-  pub bits-in : Bits (bitsIn l)
-  bits-in j =
-      elim (ℕ-discrete (j % 2) 0) [
-        | yes e ↦ omega (arith, even-in j e .0, even-in j e .1)
-        | no e ↦ omega (arith, odd-in j e .0, odd-in j e .1)
-      ]
-
-pub data-bits : (ds : List Two) → Bits (dataBits ds)
-data-bits ds = subst (λ (l : List Two). Bits (dataBits l)) (twos-numbers ds) (unfold bitsIn in bits-in (numbers ds) (pairs-numbers ds))
-
-pub length-bits-in : {l : List ℕ} → Whole l → length (bitsIn l) ≡ 1268
-unfolding bitsIn
-length-bits-in {l} w = omega (arith, length-dataBits (twos l), length-twos l, w .size)
 
 -- ---- numbers made of bits, one by one
 
@@ -129,20 +97,6 @@ pub dc-word : (b : List ℕ) {v : ℕ} → v ≡ number (tabulate 28 (dcBit b)) 
 unfolding dcOf dcBit
 dc-word b e = e
 
--- the first k bytes of the row of b stand
-pub record RowUpto (b : List ℕ) (k : ℕ) (row : List ℕ) : Type 0 where
-  pub upto : Upto 0 (λ k. getD (rowOf b) k 0) 155 k row
-
-module _ {b : List ℕ} where
-  pub row-none : {row : List ℕ} → length row ≡ 155 → RowUpto b 0 row
-  row-none size = record { upto = upto-none size }
-
-  pub row-more : {k v : ℕ} {row : List ℕ} → k < 155 → v ≡ getD (rowOf b) k 0 → RowUpto b k row → RowUpto b (k + 1) (set row k v)
-  row-more h e u = record { upto = upto-more h e (u .upto) }
-
-  pub row-all : Bits b → {k : ℕ} {row : List ℕ} → 155 ≤ k → RowUpto b k row → row ≡ rowOf b
-  row-all bits h u = upto-all h (u .upto) ∙ sym (is-tabulate 0 155 (λ k. getD (rowOf b) k 0) (rowOf b) (length-row b bits) (λ k _. refl))
-
 -- ---- out of words
 
 -- bit j of the words
@@ -172,67 +126,143 @@ dc-of-word ws i h =
     whole : (n : ℕ) → n / 1 % 2 ≡ n % 2
     whole n = omega arith
 
--- byte k of the row through two words
-module _ (ws : List ℕ) (k : ℕ) (hk : k < 155) (h : (i : ℕ) → getD ws i 0 < 70368744177664) where
-  i : ℕ
-  i = (8 * k + 20) / 45
+abbrev fit : List ℕ → Bool
+fit [] = true
+fit (x ∷ l) = both (ltb x 70368744177664) (fit l)
 
-  r : ℕ
-  r = (8 * k + 20) % 45
+-- words that a test finds fit
+pub small-words : {l : List ℕ} → length l ≡ 29 → T (fit l) → words.Words l
+small-words {l} size t = record { size = size; below = below l t }
+  where
+    below : (l : List ℕ) → T (fit l) → (i : ℕ) → getD l i 0 < 70368744177664
+    below [] t i = omega arith
+    below (x ∷ l) t zero = ltb→lt x 70368744177664 (both-left (ltb x 70368744177664) (fit l) t)
+    below (x ∷ l) t (suc i) = below l (both-right (ltb x 70368744177664) (fit l) t) i
 
-  both : ℕ
-  both = getD ws i 0 / 2 * 256 + getD ws (i + 1) 0 / 274877906944
+-- ---- five bytes of the row through two words
 
-  low-small : getD ws (i + 1) 0 / 274877906944 < 256
-  low-small = omega (arith, h (i + 1))
+-- the 45 bits from bit c on of two numbers of 45 bits
+window : (a b c : ℕ) → b < 2 ^ 45 → c ≤ 45 → a * 2 ^ c % 2 ^ 64 % 2 ^ 45 + b / 2 ^ (45 - c) ≡ (a * 2 ^ 45 + b) / 2 ^ (45 - c) % 2 ^ 45
+window a b c hb hc =
+    ap (λ (x : ℕ). x + q) (mod-mod-pow (a * 2 ^ c) 19 45 ∙ cut (a * 2 ^ c) a 0 (shl-shr a c) (mul-mod-left a (2 ^ c)))
+    ∙ plain (a % 2 ^ d * 2 ^ c) q
+    ∙ sym (ap (λ (x : ℕ). x % 2 ^ 45) moved ∙ cut (a * 2 ^ c + q) a q (high a c small) (low a c small))
+  where
+    d : ℕ
+    d = 45 - c
 
-  remainder : r < 45
-  unfolding r
-  remainder = omega arith
+    q : ℕ
+    q = b / 2 ^ d
 
-  -- bit t of the eight
-  row-bit : (t : ℕ) → t < 8 → both / 2 ^ (52 - (r + t)) % 2 ≡ rowBit (words.bitsIn ws) k t
-  unfolding rowBit both i r
-  row-bit t ht =
-      let q : ℕ = 8 * k + t in
-      let j : ℕ = q + (q + 20) / 45 in
+    small : q < 2 ^ c
+    small = let sum : 45 ≡ c + d = omega arith in shr-lt c d (subst (λ (n : ℕ). b < 2 ^ n) sum hb)
+
+    plain : (x y : ℕ) → x + 0 + y ≡ x + y
+    plain x y = omega arith
+
+    cut : (v x r : ℕ) → v / 2 ^ c ≡ x → v % 2 ^ c ≡ r → v % 2 ^ 45 ≡ x % 2 ^ d * 2 ^ c + r
+    cut v x r e f =
+        let sum : 45 ≡ d + c = omega arith in
+        ap (λ (n : ℕ). v % 2 ^ n) sum ∙ mod-pow-add v d c ∙ ap₂ (λ (y z : ℕ). y % 2 ^ d * 2 ^ c + z) e f
+
+    moved : (a * 2 ^ 45 + b) / 2 ^ d ≡ a * 2 ^ c + q
+    moved =
+        let sum : 45 ≡ c + d = omega arith in
+        let parts : a * 2 ^ 45 ≡ a * 2 ^ c * 2 ^ d = ap (λ (n : ℕ). a * 2 ^ n) sum ∙ ap (λ (x : ℕ). a * x) (pow-add 2 c d) ∙ sym (mul-assoc a (2 ^ c) (2 ^ d)) in
+        ap (λ (x : ℕ). x / 2 ^ d) (ap (λ (x : ℕ). x + b) parts ∙ add-comm (a * 2 ^ c * 2 ^ d) b) ∙ add-mul-div-right b (a * 2 ^ c) (pow-pos d) ∙ add-comm q (a * 2 ^ c)
+
+module _ (ws : List ℕ) (m : ℕ) (hm : m < 31) (h : (i : ℕ) → getD ws i 0 < 70368744177664) where
+  abbrev i : ℕ
+  i = (40 * m + 20) / 45
+
+  abbrev off : ℕ
+  off = (40 * m + 20) % 45
+
+  abbrev a : ℕ
+  a = getD ws ((40 * m + 20) / 45) 0 / 2
+
+  abbrev b : ℕ
+  b = getD ws ((40 * m + 20) / 45 + 1) 0 / 2
+
+  small : b < 2 ^ 45
+  small = omega (arith, h (i + 1))
+
+  -- bit u of the two words, from data bit 40 m on
+  row-bit : (u : ℕ) → u < 40 → (a * 2 ^ 45 + b) / 2 ^ (89 - (off + u)) % 2 ≡ getD (words.bitsIn ws) (dataPlace (40 * m + u)) 0
+  row-bit u hu =
+      let q : ℕ = 40 * m + u in
+      let j : ℕ = dataPlace q in
       let word : (j + 20) / 46 ≡ (q + 20) / 45 = omega arith in
       let place : (j + 20) % 46 ≡ (q + 20) % 45 = omega arith in
       let here = word-bit ws j (omega arith) ∙ ap₂ (λ (n m : ℕ). getD ws n 0 / 2 ^ (45 - m) % 2) word place in
-      elim (decLt (r + t) 45) [
+      elim (decLt (off + u) 45) [
         | yes in-first ↦
             let same : (q + 20) / 45 ≡ i = omega arith in
-            let rest : (q + 20) % 45 ≡ r + t = omega arith in
-            let up : 52 - (r + t) ≡ 8 + (44 - (r + t)) = omega arith in
-            let one : 1 + (44 - (r + t)) ≡ 45 - (r + t) = omega arith in
-            ap (λ (n : ℕ). both / 2 ^ n % 2) up
-            ∙ ap (λ (n : ℕ). n % 2) (sym (shr-shr both 8 (44 - (r + t))) ∙ ap (λ (n : ℕ). n / 2 ^ (44 - (r + t))) (high (getD ws i 0 / 2) 8 low-small) ∙ shr-shr (getD ws i 0) 1 (44 - (r + t)) ∙ ap (λ (n : ℕ). getD ws i 0 / 2 ^ n) one)
+            let rest : (q + 20) % 45 ≡ off + u = omega arith in
+            let up : 89 - (off + u) ≡ 45 + (44 - (off + u)) = omega arith in
+            let one : 1 + (44 - (off + u)) ≡ 45 - (off + u) = omega arith in
+            ap (λ (n : ℕ). (a * 2 ^ 45 + b) / 2 ^ n % 2) up
+            ∙ ap (λ (n : ℕ). n % 2)
+            (sym (shr-shr (a * 2 ^ 45 + b) 45 (44 - (off + u))) ∙ ap (λ (n : ℕ). n / 2 ^ (44 - (off + u))) (high a 45 small) ∙ shr-shr (getD ws i 0) 1 (44 - (off + u)) ∙ ap (λ (n : ℕ). getD ws i 0 / 2 ^ n) one)
             ∙ sym (here ∙ ap₂ (λ (n m : ℕ). getD ws n 0 / 2 ^ (45 - m) % 2) same rest)
         | no in-second ↦
             let same : (q + 20) / 45 ≡ i + 1 = omega arith in
-            let rest : (q + 20) % 45 ≡ r + t - 45 = omega arith in
-            let up : 52 - (r + t) ≡ 7 - (r + t - 45) = omega arith in
-            let one : 38 + (7 - (r + t - 45)) ≡ 45 - (r + t - 45) = omega arith in
-            ap (λ (n : ℕ). both / 2 ^ n % 2) up
-            ∙ bit-below (getD ws i 0 / 2) 8 (getD ws (i + 1) 0 / 274877906944) (7 - (r + t - 45)) low-small (omega arith)
-            ∙ ap (λ (n : ℕ). n % 2) (shr-shr (getD ws (i + 1) 0) 38 (7 - (r + t - 45)) ∙ ap (λ (n : ℕ). getD ws (i + 1) 0 / 2 ^ n) one)
+            let rest : (q + 20) % 45 ≡ off + u - 45 = omega arith in
+            let one : 1 + (89 - (off + u)) ≡ 45 - (off + u - 45) = omega arith in
+            below-block 45 a b (89 - (off + u)) (omega arith)
+            ∙ ap (λ (n : ℕ). n % 2) (shr-shr (getD ws (i + 1) 0) 1 (89 - (off + u)) ∙ ap (λ (n : ℕ). getD ws (i + 1) 0 / 2 ^ n) one)
             ∙ sym (here ∙ ap₂ (λ (n m : ℕ). getD ws n 0 / 2 ^ (45 - m) % 2) same rest)
       ]
 
-  pub byte-of-words : (v : ℕ) → v ≡ (getD ws ((8 * k + 20) / 45) 0 / 2 * 256 + getD ws ((8 * k + 20) / 45 + 1) 0 / 274877906944) / 2 ^ (45 - (8 * k + 20) % 45) % 256
-      → v ≡ getD (rowOf (words.bitsIn ws)) k 0
-  unfolding both i r
-  byte-of-words v e = row-byte (words.bitsIn ws) k v hk (e ∙ sym (number-of-bits 8 (both / 2 ^ (45 - r))) ∙ ap number eight)
-    where
-      eight : bitsOfNumber 8 (both / 2 ^ (45 - r)) ≡ tabulate 8 (rowBit (words.bitsIn ws) k)
-      eight = is-tabulate 0 8 (rowBit (words.bitsIn ws) k) (bitsOfNumber 8 (both / 2 ^ (45 - r))) (length-bits-of 8 (both / 2 ^ (45 - r))) at
-        where
-          small-r : r < 45
-          small-r = remainder
+  module _ {v : ℕ} (is : v ≡ (a * 2 ^ off % 2 ^ 64 % 2 ^ 45 + b / 2 ^ (45 - off)) / 32) where
+    -- bit u of the forty
+    five-bit : (u : ℕ) → u < 40 → v / 2 ^ (39 - u) % 2 ≡ getD (words.bitsIn ws) (dataPlace (40 * m + u)) 0
+    five-bit u hu =
+        let x : ℕ = (a * 2 ^ 45 + b) / 2 ^ (45 - off) in
+        let lower : 5 + (39 - u) ≡ 44 - u = omega arith in
+        let within : off < 45 = omega arith in
+        let all : 45 - off + (44 - u) ≡ 89 - (off + u) = omega arith in
+        ap (λ (n : ℕ). n / 2 ^ (39 - u) % 2) (is ∙ ap (λ (n : ℕ). n / 32) (window a b off small (omega arith)))
+        ∙ ap (λ (n : ℕ). n % 2) (shr-shr (x % 2 ^ 45) 5 (39 - u) ∙ ap (λ (n : ℕ). x % 2 ^ 45 / 2 ^ n) lower)
+        ∙ sym (ap (λ (y : ℕ). y / 2 ^ (44 - u) % 2) (sym (split x 45)) ∙ below-block 45 (x / 2 ^ 45) (x % 2 ^ 45) (44 - u) (omega arith))
+        ∙ ap (λ (n : ℕ). n % 2) (shr-shr (a * 2 ^ 45 + b) (45 - off) (44 - u) ∙ ap (λ (n : ℕ). (a * 2 ^ 45 + b) / 2 ^ n) all)
+        ∙ row-bit u hu
 
-          at : (t : ℕ) → t < 8 → getD (bitsOfNumber 8 (both / 2 ^ (45 - r))) t 0 ≡ rowBit (words.bitsIn ws) k t
-          at t ht =
-              let sum : 45 - r + (8 - 1 - t) ≡ 52 - (r + t) = omega (arith, small-r) in
-              getD-bits-of 8 (both / 2 ^ (45 - r)) t ht
-              ∙ ap (λ (n : ℕ). n % 2) (shr-shr both (45 - r) (8 - 1 - t) ∙ ap (λ (n : ℕ). both / 2 ^ n) sum)
-              ∙ row-bit t ht
+    pub five-bytes : FiveBytes (rowOf (words.bitsIn ws)) m v
+    unfolding rowBit
+    five-bytes = record { each = λ t ht. (row-byte (words.bitsIn ws) (5 * m + t) (v / 2 ^ (32 - 8 * t) % 256) (omega arith) (sym (number-of-bits 8 (v / 2 ^ (32 - 8 * t))) ∙ ap number (eight t ht))) }
+      where
+        eight : (t : ℕ) → t < 5 → bitsOfNumber 8 (v / 2 ^ (32 - 8 * t)) ≡ tabulate 8 (rowBit (words.bitsIn ws) (5 * m + t))
+        eight t ht = is-tabulate 0 8 (rowBit (words.bitsIn ws) (5 * m + t)) (bitsOfNumber 8 (v / 2 ^ (32 - 8 * t))) (length-bits-of 8 (v / 2 ^ (32 - 8 * t))) (at t ht)
+          where
+            at : (t : ℕ) → t < 5 → (j : ℕ) → j < 8 → getD (bitsOfNumber 8 (v / 2 ^ (32 - 8 * t))) j 0 ≡ rowBit (words.bitsIn ws) (5 * m + t) j
+            at t ht j hj =
+                let sum : 32 - 8 * t + (8 - 1 - j) ≡ 39 - (8 * t + j) = omega arith in
+                let place : 40 * m + (8 * t + j) ≡ 8 * (5 * m + t) + j = omega arith in
+                getD-bits-of 8 (v / 2 ^ (32 - 8 * t)) j hj
+                ∙ ap (λ (n : ℕ). n % 2) (shr-shr v (32 - 8 * t) (8 - 1 - j) ∙ ap (λ (n : ℕ). v / 2 ^ n) sum)
+                ∙ five-bit (8 * t + j) (omega arith)
+                ∙ ap (λ (p : ℕ). getD (words.bitsIn ws) (dataPlace p) 0) place
+
+-- five bytes more of the row
+pub row-five : {row l : List ℕ} {m v : ℕ} → m < 31 → FiveBytes row m v → Upto 0 (λ k. getD row k 0) 155 (5 * m) l
+    → Upto 0 (λ k. getD row k 0) 155 (5 * (m + 1))
+    (set (set (set (set (set l (5 * m) (v / 4294967296 % 256)) (5 * m + 1) (v / 16777216 % 256)) (5 * m + 2) (v / 65536 % 256)) (5 * m + 3) (v / 256 % 256)) (5 * m + 4) (v % 256))
+row-five {row} {l} {m} {v} h five u =
+    next (5 * m + 4) (5 * (m + 1)) (omega arith) (omega arith) (whole v ∙ five .each 4 (omega arith))
+    (next (5 * m + 3) (5 * m + 4) (omega arith) (omega arith) (five .each 3 (omega arith))
+    (next (5 * m + 2) (5 * m + 3) (omega arith) (omega arith) (five .each 2 (omega arith))
+    (next (5 * m + 1) (5 * m + 2) (omega arith) (omega arith) (five .each 1 (omega arith))
+    (next (5 * m) (5 * m + 1) (omega arith) (omega arith) (five .each 0 (omega arith) ∙ ap (λ (k : ℕ). getD row k 0) (front m)) u))))
+  where
+    next : (i j : ℕ) {l : List ℕ} {x : ℕ} → j ≡ i + 1 → i < 155 → x ≡ getD row i 0 → Upto 0 (λ k. getD row k 0) 155 i l → Upto 0 (λ k. getD row k 0) 155 j (set l i x)
+    next i j {l} {x} e h is u = subst (λ (n : ℕ). Upto 0 (λ k. getD row k 0) 155 n (set l i x)) (sym e) (upto-more h is u)
+
+    whole : (v : ℕ) → v % 256 ≡ v / 1 % 256
+    whole v = omega arith
+
+    front : (m : ℕ) → 5 * m + 0 ≡ 5 * m
+    front m = omega arith
+
+pub row-all : (b : List ℕ) {row : List ℕ} {m : ℕ} → Bits b → 31 ≤ m → Upto 0 (λ k. getD (rowOf b) k 0) 155 (5 * m) row → row ≡ rowOf b
+row-all b bits h u = upto-all (omega arith) u ∙ sym (is-tabulate 0 155 (λ k. getD (rowOf b) k 0) (rowOf b) (length-row b bits) (λ k _. refl))

@@ -12,12 +12,12 @@ use Rattle.modulation.specs.Bits.{pairs, dataBits, groups, bits, Gives}
 use Rattle.modulation.specs.Sync.{FS, syncId}
 use Rattle.modulation.specs.Stream.{modulated}
 use Rattle.modulation.specs.Demodulator.{demodulate}
-use Rattle.demodulator.specs.Words.{bitsIn, WordsRead}
+use Rattle.demodulator.specs.Words.{bitsIn}
 use Rattle.frame.specs.Same.{same}
 use Rattle.frame.specs.FrameBits.{rowOf, dcOf}
 use Rattle.frame.specs.Frame.{framePairs, nextHash}
-use Rattle.frame.specs.declared.FrameRead.{FrameRead}
-use Rattle.frame.specs.declared.FrameRead.the-variants.{Found, NoFrame}
+use Rattle.frame.specs.declared.read.FrameRead.{FrameRead}
+use Rattle.frame.specs.declared.read.FrameRead.the-variants.{Found, NoFrame}
 
 -- the 1,268 bits b give the modulation bits m behind sync n, and # of the next sync
 pub record BitsGive (n : FS) (b m : List ℕ) (hash : Bool) : Type 0 where
@@ -37,10 +37,6 @@ pub record RowGives (n : FS) (row : List ℕ) (dc : ℕ) (m : List ℕ) (hash : 
 pub record StrictlyRead (n : FS) (m : List ℕ) (hash : Bool) (before : List ℕ) (answer : FrameRead) (after : List ℕ) : Type 0 where
   pub found : (dc : ℕ) → answer ≡ Found dc → RowGives n after dc m hash
   pub none : answer ≡ NoFrame → (after ≡ before) × ((b : List ℕ) → BitsGive n b m hash → ⊥)
-
--- the words of a frame, as the demodulator leaves them
-abbrev pub FrameWords : FS → List ℕ → Bool → Bool → List ℕ → Type 0
-FrameWords n m hash found ws = WordsRead (lastBit false (syncId n)) m hash found ws
 
 -- the frame that stands in words, if it was found
 pub record Taken (ws : List ℕ) (found : Bool) (before : List ℕ) (answer : FrameRead) (after : List ℕ) : Type 0 where

@@ -1,16 +1,9 @@
--- The pairs of a frame in a slice, as the functions inside the crate hand them on.
+-- The row of a frame in a slice, five bytes at a time.
 use mathlib.Core.List.{List}
 use mathlib.Core.Path.{_≡_}
-use Prim.Native.Nat.{ℕ}
-use lib.ListN.{length}
-use Rattle.modulation.specs.Bits.{dataBits}
-use Rattle.modulation.specs.Pairs.{Pairs, twos}
+use Prim.Native.Nat.{ℕ, _+_, _*_, _-_, _/_, _%_, _^_, _<_}
+use lib.ListN.{getD}
 
--- 634 pairs as numbers
-pub record Whole (l : List ℕ) : Type 0 where
-  pub size : length l ≡ 634
-  pub are-pairs : Pairs l
-
--- their data bits
-unfoldable pub bitsIn : List ℕ → List ℕ
-bitsIn l = dataBits (twos l)
+-- the bytes of a row from 5 m on, as a number
+pub record FiveBytes (row : List ℕ) (m v : ℕ) : Type 0 where
+  pub each : (t : ℕ) → t < 5 → v / 2 ^ (32 - 8 * t) % 256 ≡ getD row (5 * m + t) 0

@@ -1,19 +1,20 @@
 // The bits of a recording frame taken apart (13.15), out of the words in which they are read.
 ghost use mathlib.Core.Path.{_≡_};
 ghost use Prim.Native.Nat.{_+_, _*_, _<_};
-ghost use lib.ListN.{length, getD};
+ghost use lib.ListN.{length};
 ghost use Rattle.frame.specs.FrameBits.{rowOf, dcOf};
+ghost use Rattle.frame.specs.Slices.{FiveBytes};
 ghost use Rattle.demodulator.specs.Words.{bitsIn, Words};
 
-// Byte k of its row.
-fn row_byte(words: &[u64; 29], k: usize) -> u8
-    requires { ⌜ Words (now words) × (k < 155) ⌝ }
-    ensures { λ r. ⌜ r ≡ getD (rowOf (bitsIn (now (words .entry)))) k 0 ⌝ }
+// The five bytes of its row at 5 m, as a number: 40 of the 45 data bits from 40 m on, out of two words. 35184372088832 is 2^45.
+fn five_in(words: &[u64; 29], m: usize) -> u64
+    requires { ⌜ Words (now words) × (m < 31) ⌝ }
+    ensures { λ r. ⌜ FiveBytes (rowOf (bitsIn (now (words .entry)))) m r ⌝ }
 {
-    let p = 8 * k + 20;
+    let p = 40 * m + 20;
     let i = p / 45;
-    let both = words[i] / 2 * 256 + words[i + 1] / 274877906944;
-    ((both >> (45 - p % 45)) % 256) as u8
+    let off = p % 45;
+    (((words[i] / 2) << off) % 35184372088832 + ((words[i + 1] / 2) >> (45 - off))) / 32
 }
 
 // Its row.
@@ -21,10 +22,15 @@ pub fn row_in(words: &[u64; 29], row: &mut [u8])
     requires { ⌜ Words (now words) × (length (now row) ≡ 155) ⌝ }
     ensures { λ _. ⌜ now (row .exit) ≡ rowOf (bitsIn (now (words .entry))) ⌝ }
 {
-    let mut k = 0;
-    while k < 155 {
-        row[k] = row_byte(words, k);
-        k += 1;
+    let mut m = 0;
+    while m < 31 {
+        let five = five_in(words, m);
+        row[5 * m] = (five / 4294967296 % 256) as u8;
+        row[5 * m + 1] = (five / 16777216 % 256) as u8;
+        row[5 * m + 2] = (five / 65536 % 256) as u8;
+        row[5 * m + 3] = (five / 256 % 256) as u8;
+        row[5 * m + 4] = (five % 256) as u8;
+        m += 1;
     }
 }
 

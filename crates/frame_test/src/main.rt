@@ -1,8 +1,10 @@
 // Frames of a known cluster written, read back and damaged. Standard input holds seven records of 161 bytes: #, sync number, dc word, row.
+use demodulator::Table;
 use frame::FrameRead;
 ghost use mathlib.Core.Path.{_≡_};
 ghost use Prim.Native.Nat.{_<_};
 ghost use lib.ListN.{length};
+ghost use Rattle.demodulator.specs.Table.{table};
 
 // Where a frame is written, in a slice of 245 bytes.
 const AT: usize = 11;
@@ -90,13 +92,12 @@ fn differing(row: &[u8], input: &[u8]) -> u64
 }
 
 // The frame read with # of the next sync: its dc word, and in how many bytes its row differs.
-fn read_line(text: &[u8], image: &[u8], sync: usize, hash: bool, input: &[u8])
-    requires { ⌜ ((length (now image) ≡ 245) × (length (now input) ≡ 161)) × (sync < 7) ⌝ }
+fn read_line(text: &[u8], steps: &Table, image: &[u8], sync: usize, hash: bool, input: &[u8])
+    requires { ⌜ (now steps ≡ table) × (((length (now image) ≡ 245) × (length (now input) ≡ 161)) × (sync < 7)) ⌝ }
 {
     io::write_all(1, text);
     let mut row = no_row();
-    let steps = demodulator::table();
-    let read = frame::read_frame(&steps, image, AT, sync, hash, &mut row);
+    let read = frame::read_frame(steps, image, AT, sync, hash, &mut row);
     match read {
         FrameRead::Found(dc) => {
             io::print_hex(1, dc as u64, 8);
@@ -140,18 +141,18 @@ struct Flips {
 // One bit more flipped and the frame read.
 fn flip_one(
     seen: Flips,
+    steps: &Table,
     image: &mut [u8],
     at: usize,
     sync: usize,
     hash: bool,
     input: &[u8],
 ) -> Flips
-    requires { ⌜ ((length (now image) ≡ 245) × (length (now input) ≡ 161)) × (sync < 7) ⌝ }
+    requires { ⌜ (now steps ≡ table) × (((length (now image) ≡ 245) × (length (now input) ≡ 161)) × (sync < 7)) ⌝ }
 {
     flip(image, at);
     let mut row = no_row();
-    let steps = demodulator::table();
-    let read = frame::read_frame(&steps, image, AT, sync, hash, &mut row);
+    let read = frame::read_frame(steps, image, AT, sync, hash, &mut row);
     flip(image, at);
     match read {
         FrameRead::Found(dc) => Flips {
@@ -168,8 +169,8 @@ fn flip_one(
 }
 
 // Every seventh modulation bit flipped.
-fn flip_all(image: &mut [u8], sync: usize, hash: bool, input: &[u8]) -> Flips
-    requires { ⌜ ((length (now image) ≡ 245) × (length (now input) ≡ 161)) × (sync < 7) ⌝ }
+fn flip_all(steps: &Table, image: &mut [u8], sync: usize, hash: bool, input: &[u8]) -> Flips
+    requires { ⌜ (now steps ≡ table) × (((length (now image) ≡ 245) × (length (now input) ≡ 161)) × (sync < 7)) ⌝ }
 {
     let mut seen = Flips {
         none: 0,
@@ -177,7 +178,7 @@ fn flip_all(image: &mut [u8], sync: usize, hash: bool, input: &[u8]) -> Flips
         bytes: 0,
     };
     for k in 0..271usize {
-        seen = flip_one(seen, image, AT + 30 + 7 * k, sync, hash, input);
+        seen = flip_one(seen, steps, image, AT + 30 + 7 * k, sync, hash, input);
     }
     seen
 }
@@ -190,17 +191,17 @@ fn flips_line(seen: Flips) {
 }
 
 // The frame read as it was written, with the other #, and with bits flipped.
-fn read_lines(image: &mut [u8], sync: usize, next: bool, input: &[u8])
-    requires { ⌜ ((length (now image) ≡ 245) × (length (now input) ≡ 161)) × (sync < 7) ⌝ }
+fn read_lines(steps: &Table, image: &mut [u8], sync: usize, next: bool, input: &[u8])
+    requires { ⌜ (now steps ≡ table) × (((length (now image) ≡ 245) × (length (now input) ≡ 161)) × (sync < 7)) ⌝ }
 {
     sync_line(image, sync);
-    read_line(b"read ", image, sync, next, input);
-    read_line(b"read with the other # ", image, sync, !next, input);
-    flips_line(flip_all(image, sync, next, input));
+    read_line(b"read ", steps, image, sync, next, input);
+    read_line(b"read with the other # ", steps, image, sync, !next, input);
+    flips_line(flip_all(steps, image, sync, next, input));
 }
 
-fn frame_lines(input: &[u8])
-    requires { ⌜ length (now input) ≡ 161 ⌝ }
+fn frame_lines(steps: &Table, input: &[u8])
+    requires { ⌜ (now steps ≡ table) × (length (now input) ≡ 161) ⌝ }
 {
     let head = head_of(input);
     let sync = head.number;
@@ -220,7 +221,7 @@ fn frame_lines(input: &[u8])
     number(b"# ", flag(frame::hash_at(&image, AT)));
     number(b" next # ", flag(next));
     end_line();
-    read_lines(&mut image, sync, next, input);
+    read_lines(steps, &mut image, sync, next, input);
 }
 
 fn read_record(input: &mut [u8]) {
@@ -237,9 +238,11 @@ fn no_record() -> [u8; 161]
 
 fn main() {
     sync_numbers();
+    let mut steps = demodulator::no_table();
+    demodulator::fill_table(&mut steps);
     let mut input = no_record();
     for k in 0..7usize {
         read_record(&mut input);
-        frame_lines(&input);
+        frame_lines(&steps, &input);
     }
 }

@@ -12,9 +12,9 @@ use lib.Seq.{take-append-seam, length-take-le, take-suc}
 use Rattle.bits.specs.Bits.{Bits, number, bitsOfNumber}
 use Rattle.bits.proofs.Number.{bits-of-number}
 use Rattle.modulation.specs.Modulation.{Two, d00, d01, d10, d11, twoNumber, Three, m000, m001, m010, m011, m100, m101, m110, m111, threeNumber, starts}
-use Rattle.modulation.specs.Bits.{two, pairs, dataBits, three, groups, bits}
+use Rattle.modulation.specs.Bits.{two, pairs, dataBits, three, bits}
 use Rattle.modulation.proofs.Tests.{and-left, and-right, and-true, same-tests}
-use Rattle.modulation.proofs.Bits.{bits-append, dataBits-append, pairs-dataBits, groups-bits, length-dataBits, length-bits}
+use Rattle.modulation.proofs.Bits.{dataBits-append, pairs-dataBits, length-dataBits}
 
 -- ---- pairs and groups are determined by their numbers
 
@@ -111,10 +111,7 @@ bits-groups (m ∷ ms) (suc (suc (suc i))) = bits-groups ms i
 pub pairs-start : (xs ds : List Two) → starts twoNumber xs ds ≡ (leb (length xs) (length ds) && eqb (number (dataBits (take (length xs) ds))) (number (dataBits xs)))
 pairs-start = starts-number twoNumber two-injective dataBits 2 pairs pairs-dataBits length-dataBits bits-dataBits
 
-pub groups-start : (xs gs : List Three) → starts threeNumber xs gs ≡ (leb (length xs) (length gs) && eqb (number (bits (take (length xs) gs))) (number (bits xs)))
-groups-start = starts-number threeNumber three-injective bits 3 groups groups-bits length-bits bits-groups
-
--- ---- one pair or group more
+-- ---- one pair more
 
 number-append : (a b : List ℕ) → number (a ++ b) ≡ number a * 2 ^ length b + number b
 unfolding number
@@ -129,17 +126,6 @@ two-alone d01 = refl
 two-alone d10 = refl
 two-alone d11 = refl
 
-three-alone : (m : Three) → number (bits (m ∷ [])) ≡ threeNumber m
-unfolding number
-three-alone m000 = refl
-three-alone m001 = refl
-three-alone m010 = refl
-three-alone m011 = refl
-three-alone m100 = refl
-three-alone m101 = refl
-three-alone m110 = refl
-three-alone m111 = refl
-
 pub pair-more : (n : ℕ) (ds : List Two) → n < length ds → number (dataBits (take (suc n) ds)) ≡ 4 * number (dataBits (take n ds)) + twoNumber (getD ds n d00)
 pair-more n ds h =
     let last = getD ds n d00 ∷ [] in
@@ -147,11 +133,3 @@ pair-more n ds h =
     ∙ ap number (dataBits-append (take n ds) last)
     ∙ number-append (dataBits (take n ds)) (dataBits last)
     ∙ omega (arith, two-alone (getD ds n d00))
-
-pub group-more : (n : ℕ) (gs : List Three) → n < length gs → number (bits (take (suc n) gs)) ≡ 8 * number (bits (take n gs)) + threeNumber (getD gs n m000)
-group-more n gs h =
-    let last = getD gs n m000 ∷ [] in
-    ap (λ (l : List Three). number (bits l)) (take-suc gs n m000 h)
-    ∙ ap number (bits-append (take n gs) last)
-    ∙ number-append (bits (take n gs)) (bits last)
-    ∙ omega (arith, three-alone (getD gs n m000))

@@ -1,7 +1,7 @@
 -- Laws of pairs as numbers. Assumes nothing.
 use mathlib.Core.List.{List, [], _∷_}
 use mathlib.Core.Path.{_≡_, refl, sym, ap, ap₂, _∙_}
-use Prim.Native.Nat.{ℕ, zero, suc, _+_, _*_, _-_, _/_, _%_, _<_, _≤_}
+use Prim.Native.Nat.{ℕ, zero, suc, _+_, _*_, _-_, _<_, _≤_}
 use native.Mathlib.Nat.{not-suc-le-zero}
 use native.Mathlib.Decide.{decLt}
 use native.Mathlib.Omega.{arith}
@@ -9,7 +9,7 @@ use lib.ListN.{length, getD, drop, length-drop, length-map, List·getD-map, List
 use lib.Seq.{getD-drop, ext-getD}
 use Rattle.bits.specs.Bits.{Bits}
 use Rattle.modulation.specs.Modulation.{Two, d00, d01, d10, d11, twoNumber}
-use Rattle.modulation.specs.Bits.{two, pairs, dataBits}
+use Rattle.modulation.specs.Bits.{two, pairs}
 use Rattle.modulation.specs.Pairs.{Pairs, twoOf, twos, numbers}
 use Rattle.modulation.proofs.Bits.{two-number, length-pairs}
 
@@ -74,15 +74,6 @@ getD-pairs (x ∷ y ∷ l) zero h = refl
 getD-pairs (x ∷ y ∷ l) (suc k) h =
     getD-pairs l k (omega arith) ∙ sym (ap₂ (λ (i j : ℕ). two (getD (x ∷ y ∷ l) i 0) (getD (x ∷ y ∷ l) j 0)) (even k) (odd k))
 
-pub getD-dataBits : (ds : List Two) (k : ℕ)
-    → (getD (dataBits ds) (2 * k) 0 ≡ twoNumber (getD ds k d00) / 2) × (getD (dataBits ds) (2 * k + 1) 0 ≡ twoNumber (getD ds k d00) % 2)
-getD-dataBits [] k = (refl, refl)
-getD-dataBits (d ∷ ds) zero = (refl, refl)
-getD-dataBits (d ∷ ds) (suc k) = (
-  ap (λ (i : ℕ). getD (dataBits (d ∷ ds)) i 0) (even k) ∙ getD-dataBits ds k .0,
-  ap (λ (i : ℕ). getD (dataBits (d ∷ ds)) i 0) (odd k) ∙ getD-dataBits ds k .1,
-)
-
 -- a slice that is filled from bits, two by two
 module _ (n : ℕ) (l q : List ℕ) (size-l : length l ≡ 2 * n) (size-q : length q ≡ n) (h : Bits l)
     (filled : (k : ℕ) → k < n → getD q k 0 ≡ 2 * getD l (2 * k) 0 + getD l (2 * k + 1) 0) where
@@ -106,10 +97,3 @@ module _ (n : ℕ) (l q : List ℕ) (size-l : length l ≡ 2 * n) (size-q : leng
           ∙ ap twoOf (filled k below)
           ∙ number-two-of (getD l (2 * k) 0) (getD l (2 * k + 1) 0) (h (2 * k)) (h (2 * k + 1))
           ∙ sym (getD-pairs l k (omega arith))
-
--- the data bits of a slice of pairs
-pub slice-bits : (q : List ℕ) (k : ℕ) → Pairs q
-    → (getD (dataBits (twos q)) (2 * k) 0 ≡ getD q k 0 / 2) × (getD (dataBits (twos q)) (2 * k + 1) 0 ≡ getD q k 0 % 2)
-slice-bits q k h =
-    let number : twoNumber (getD (twos q) k d00) ≡ getD q k 0 = ap twoNumber (List·getD-map twoOf q k 0) ∙ two-of-number (getD q k 0) (h k) in
-    (getD-dataBits (twos q) k .0 ∙ ap (λ (x : ℕ). x / 2) number, getD-dataBits (twos q) k .1 ∙ ap (λ (x : ℕ). x % 2) number)

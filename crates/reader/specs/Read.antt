@@ -1,46 +1,34 @@
 -- What the steps of reading find and leave: `before` at entry, `after` at exit.
 use mathlib.Core.Path.{_≡_}
-use mathlib.Core.Bool.{Bool, true, false}
+use mathlib.Core.Bool.{true, false}
 use mathlib.Core.List.{List, _++_}
-use Prim.Native.Nat.{ℕ, _*_, _≤_}
-use lib.ListN.{length, set, take, drop}
+use Prim.Native.Nat.{ℕ, _+_, _*_, _≤_}
+use lib.ListN.{length, take, drop}
 use Rattle.laws.specs.Tabulate.{tabulate}
-use Rattle.modulation.specs.Sync.{syncNumber}
 use Rattle.frame.specs.FrameBits.{rowOf}
-use Rattle.frame.specs.Reading.{FrameWords}
-use Rattle.frame.specs.declared.FrameRead.{FrameRead}
-use Rattle.frame.specs.declared.FrameRead.the-variants.{Found, NoFrame}
+use Rattle.frame.specs.declared.read.FrameRead.{FrameRead}
+use Rattle.frame.specs.declared.read.FrameRead.the-variants.{Found, NoFrame}
 use Rattle.answer.specs.declared.Answer.the-variants.{Done}
 use Rattle.answer.specs.declared.Answer.{Answer}
 use Rattle.answer.specs.Answer.{isDone}
 use Rattle.sector.specs.Scrambling.{scramblingOf}
 use Rattle.bis.specs.Reading.{psnIn, sideIn}
 use Rattle.cluster.specs.Reading.{userIn}
-use Rattle.reader.specs.Reading.{modulatedAt, hashBehind, noFrame, frameBitsIn, dcWordIn, firstNoFrame, clusterIn, dcIn}
+use Rattle.reader.specs.Reading.{noFrame, frameBitsIn, dcWordIn, firstNoFrame, clusterIn, dcIn}
 use Rattle.reader.specs.Outcome.{framesAnswer, blockAnswer, psnNumber}
 
--- frame n, its row in its place of the cluster
-pub record RowRead (b : List ℕ) (n : ℕ) (before : List ℕ) (answer : FrameRead) (after : List ℕ) : Type 0 where
-  pub found : (dc : ℕ) → answer ≡ Found dc → (noFrame b n ≡ false) × (dc ≡ dcWordIn b n) × (after ≡ take (155 * n) before ++ (rowOf (frameBitsIn b n) ++ drop 155 (drop (155 * n) before)))
+-- the answer on frame n
+pub record FrameAnswer (b : List ℕ) (n : ℕ) (answer : FrameRead) : Type 0 where
+  pub found : (dc : ℕ) → answer ≡ Found dc → (noFrame b n ≡ false) × (dc ≡ dcWordIn b n)
   pub none : answer ≡ NoFrame → noFrame b n ≡ true
+
+-- the answers on frames n and n + 1; where both are found, their rows stand in their places of the cluster
+pub record TwoFrames (b : List ℕ) (n : ℕ) (before : List ℕ) (first second : FrameRead) (after : List ℕ) : Type 0 where
+  pub one : FrameAnswer b n first
+  pub two : FrameAnswer b (n + 1) second
+  pub rows : noFrame b n ≡ false → noFrame b (n + 1) ≡ false
+      → after ≡ take (155 * n) before ++ ((rowOf (frameBitsIn b n) ++ rowOf (frameBitsIn b (n + 1))) ++ drop 310 (drop (155 * n) before))
   pub size : length after ≡ length before
-
--- the words of frame n, as they are read
-abbrev pub WordsAt : List ℕ → ℕ → Bool → List ℕ → Type 0
-WordsAt b n found ws = FrameWords (syncNumber n) (modulatedAt b n) (hashBehind b n) found ws
-
--- frame n out of its words: what holds of them holds of its row
-pub record RowTaken (ws : List ℕ) (found : Bool) (n : ℕ) (before : List ℕ) (answer : FrameRead) (after : List ℕ) : Type 0 where
-  pub read : (b : List ℕ) → WordsAt b n found ws → RowRead b n before answer after
-  pub same-size : length after ≡ length before
-
--- the same with its dc word, or that no bits give it
-pub record FramePut (ws : List ℕ) (found : Bool) (n : ℕ) (dc work : List ℕ) (answer : Bool) (dc′ work′ : List ℕ) : Type 0 where
-  pub there : answer ≡ true → (b : List ℕ) → WordsAt b n found ws
-      → (noFrame b n ≡ false) × (dc′ ≡ set dc n (dcWordIn b n)) × (work′ ≡ take (155 * n) work ++ (rowOf (frameBitsIn b n) ++ drop 155 (drop (155 * n) work)))
-  pub none : answer ≡ false → (b : List ℕ) → WordsAt b n found ws → noFrame b n ≡ true
-  pub dc-size : length dc′ ≡ length dc
-  pub work-size : length work′ ≡ length work
 
 -- the frames up to the first that no bits give; where there is none, the dc words and the cluster
 pub record FramesRead (b : List ℕ) (answer : ℕ) (dc work : List ℕ) : Type 0 where

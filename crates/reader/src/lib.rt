@@ -3,21 +3,20 @@ use address::Psn;
 use answer::Answer;
 use bis::PsnFound;
 use column::Remainders;
-use demodulator::Found;
 use demodulator::Table;
 use frame::FrameRead;
+use frame::TwoRead;
 ghost use mathlib.Core.Path.{_≡_};
 ghost use Prim.Native.Nat.{_+_, _<_, _≤_};
 ghost use lib.ListN.{length};
 ghost use Rattle.bits.specs.Bits.{bitsOf};
 ghost use Rattle.demodulator.specs.Table.{table};
-ghost use Rattle.demodulator.specs.Words.{Words};
 ghost use Rattle.column.specs.Remainders.{AreRemainders};
 ghost use Rattle.sector.specs.Scrambling.{scramblingOf};
 ghost use Rattle.cluster.specs.Multiplex.{bisIn};
 ghost use Rattle.reader.specs.Reading.{lastZero, firstWrongSync};
 ghost use Rattle.reader.specs.Outcome.{dataAnswer, clusterAnswer, psnOf, Lent, Outcome, judgedOutcome, outcome};
-ghost use Rattle.reader.specs.Read.{WordsAt, RowTaken, FramePut, FramesRead, FramesJudged, BlockJudged, Sized, Given, DataRead, WorkLeft};
+ghost use Rattle.reader.specs.Read.{TwoFrames, FramesRead, FramesJudged, BlockJudged, Sized, Given, DataRead, WorkLeft};
 
 // What the reader answers; the PSN is 0 on refusal.
 pub struct Read {
@@ -63,21 +62,17 @@ fn first_wrong_sync(image: &[u8]) -> usize
     sync
 }
 
-// The words of frames n and n + 1.
-fn read_two(
-    steps: &Table,
-    image: &[u8],
-    n: usize,
-    words: &mut [u64; 29],
-    more: &mut [u64; 29],
-) -> Found
-    requires { ⌜ (now steps ≡ table) × ((length (now image) ≡ 119788) × ((n + 1 < 496) × ((length (now words) ≡ 29) × (length (now more) ≡ 29)))) ⌝ }
-    ensures { λ r. ⌜ WordsAt (bitsOf (now (image .entry))) n (r .first) (now (words .exit)) × WordsAt (bitsOf (now (image .entry))) (n + 1) (r .second) (now (more .exit)) ⌝ }
+// Frames n and n + 1, their rows into their places of the cluster.
+fn read_two(steps: &Table, image: &[u8], n: usize, work: &mut [u8]) -> TwoRead
+    requires { ⌜ (now steps ≡ table) × ((length (now image) ≡ 119788) × ((n + 1 < 496) × (length (now work) ≡ 76880))) ⌝ }
+    ensures { λ r. ⌜ TwoFrames (bitsOf (now (image .entry))) n (now (work .entry)) (r .first) (r .second) (now (work .exit)) ⌝ }
 {
     let hash = frame::hash_at(image, 1932 * (n + 1));
     let sign = frame::hash_at(image, 1932 * (n + 2));
     let first = frame::sync_number(n);
     let second = frame::sync_number(n + 1);
+    let start = 155 * n;
+    let end = start + 310;
     frame::read_two(
         steps,
         image,
@@ -86,32 +81,8 @@ fn read_two(
         second,
         hash,
         sign,
-        words,
-        more,
+        &mut work[start..end],
     )
-}
-
-// Frame n out of its words, its row into its place of the cluster.
-fn put_row(words: &[u64; 29], found: bool, n: usize, work: &mut [u8]) -> FrameRead
-    requires { ⌜ Words (now words) × ((n < 496) × (length (now work) ≡ 76880)) ⌝ }
-    ensures { λ r. ⌜ RowTaken (now (words .entry)) found n (now (work .entry)) r (now (work .exit)) ⌝ }
-{
-    let start = 155 * n;
-    let end = start + 155;
-    frame::take_frame(words, found, &mut work[start..end])
-}
-
-// The same, and its dc word; whether there is such a frame.
-fn put_frame(words: &[u64; 29], found: bool, n: usize, dc: &mut [u32], work: &mut [u8]) -> bool
-    requires { ⌜ Words (now words) × ((n < 496) × ((length (now dc) ≡ 496) × (length (now work) ≡ 76880))) ⌝ }
-    ensures { λ r. ⌜ FramePut (now (words .entry)) found n (now (dc .entry)) (now (work .entry)) r (now (dc .exit)) (now (work .exit)) ⌝ }
-{
-    let read = put_row(words, found, n, work);
-    let FrameRead::Found(word) = read else {
-        return false;
-    };
-    dc[n] = word;
-    true
 }
 
 // Test 11: the lowest frame that no 1,268 bits give, or 496; then all rows stand in the cluster and the dc words in dc.
@@ -119,18 +90,21 @@ fn read_frames(image: &[u8], dc: &mut [u32], work: &mut [u8]) -> usize
     requires { ⌜ (length (now image) ≡ 119788) × ((length (now dc) ≡ 496) × (length (now work) ≡ 76880)) ⌝ }
     ensures { λ r. ⌜ FramesRead (bitsOf (now (image .entry))) r (now (dc .exit)) (now (work .exit)) ⌝ }
 {
-    let steps = demodulator::table();
+    let mut steps = demodulator::no_table();
+    demodulator::fill_table(&mut steps);
     let mut n = 0;
     while n < 496 {
-        let mut words = frame::no_words();
-        let mut more = frame::no_words();
-        let found = read_two(&steps, image, n, &mut words, &mut more);
-        if !put_frame(&words, found.first, n, dc, work) {
+        let two = read_two(&steps, image, n, work);
+        let first = two.first;
+        let FrameRead::Found(word) = first else {
             return n;
-        }
-        if !put_frame(&more, found.second, n + 1, dc, work) {
+        };
+        let second = two.second;
+        let FrameRead::Found(next) = second else {
             return n + 1;
-        }
+        };
+        dc[n] = word;
+        dc[n + 1] = next;
         n += 2;
     }
     n

@@ -18,6 +18,9 @@ mul-wide c = search needs
 add-wide : tie.Need-add-wide
 add-wide c = search needs
 
+add-wide-2 : tie.Need-add-wide-2
+add-wide-2 c = search needs
+
 mul-wide-2 : tie.Need-mul-wide-2
 mul-wide-2 c = search needs
 
@@ -34,7 +37,7 @@ returns : tie.Need-returns
 returns c =
     let args = c .before .before .args in
     let pre = c .before .before .pre in
-    let e = c .wide .ensures .0 ∙ ap (λ (l : List ℕ). getD l (18 * args .v + args .x % 32) 0) (pre .0) ∙ table-three (args .v) (args .x % 32) (pre .1 .0) (pre .1 .1 .0) in
+    let e = c .wide .ensures .0 ∙ ap (λ (l : List ℕ). getD l (1152 + 18 * args .v + args .x % 32) 0) (pre .0) ∙ table-three (args .v) (args .x % 32) (pre .1 .0) (pre .1 .1 .0) in
     after-entry (threeGroups (args .v)) (args .x) (c .wide .result) 2048 refl (pre .1 .1 .0) e
 
 pub three-on-spec : {M : Type 1} → statement M
@@ -44,6 +47,7 @@ three-on-spec =
     mul-result
     mul-wide
     add-wide
+    add-wide-2
     mul-wide-2
     element-copy-out-wide
     wide-requires

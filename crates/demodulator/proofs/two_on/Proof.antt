@@ -18,9 +18,6 @@ mul-wide c = search needs
 add-wide : tie.Need-add-wide
 add-wide c = search needs
 
-add-wide-2 : tie.Need-add-wide-2
-add-wide-2 c = search needs
-
 mul-wide-2 : tie.Need-mul-wide-2
 mul-wide-2 c = search needs
 
@@ -37,7 +34,7 @@ returns : tie.Need-returns
 returns c =
     let args = c .before .before .args in
     let pre = c .before .before .pre in
-    let e = c .wide .ensures .0 ∙ ap (λ (l : List ℕ). getD l (9216 + 18 * args .v + args .x % 32) 0) (pre .0) ∙ table-two (args .v) (args .x % 32) (pre .1 .0) (pre .1 .1 .0) in
+    let e = c .wide .ensures .0 ∙ ap (λ (l : List ℕ). getD l (18 * args .v + args .x % 32) 0) (pre .0) ∙ table-two (args .v) (args .x % 32) (pre .1 .0) (pre .1 .1 .0) in
     after-entry (twoGroups (args .v)) (args .x) (c .wide .result) 512 refl (pre .1 .1 .0) e
 
 pub two-on-spec : {M : Type 1} → statement M
@@ -47,7 +44,6 @@ two-on-spec =
     mul-result
     mul-wide
     add-wide
-    add-wide-2
     mul-wide-2
     element-copy-out-wide
     wide-requires

@@ -1,19 +1,26 @@
--- `main` keeps the length of its input over its turns.
+-- `main` keeps the table and the length of its input over its turns.
 use Prim.Native.Nat.{_-_, _≤_}
 use mathlib.Core.Path.{_≡_}
 use borrow.Author.Needs.{needs}
 use lib.ListN.{length}
+use Rattle.demodulator.specs.Table.{table}
 use Rattle.frame_test.proofs.main.Statement.{statement}
 use Rattle.frame_test.proofs.main.Tie as tie
 
 abbrev Inv-loop : tie.InvT-loop
-Inv-loop input₀ k₀ input k = (k ≤ 7) × (length input ≡ 161)
+Inv-loop steps input₀ k₀ input k = (steps ≡ table) × ((k ≤ 7) × (length input ≡ 161))
 
 abbrev μ-loop : tie.MeasureT-loop
-μ-loop input₀ k₀ input k = 7 - k
+μ-loop steps input₀ k₀ input k = 7 - k
 
 sync-numbers-requires : tie.Need-sync-numbers-requires Inv-loop μ-loop
 sync-numbers-requires c κs = search needs
+
+no-table-requires : tie.Need-no-table-requires Inv-loop μ-loop
+no-table-requires c κs = search needs
+
+fill-table-requires : tie.Need-fill-table-requires Inv-loop μ-loop
+fill-table-requires c κs = search needs
 
 no-record-requires : tie.Need-no-record-requires Inv-loop μ-loop
 no-record-requires c κs = search needs
@@ -52,6 +59,8 @@ main-spec =
     Inv-loop
     μ-loop
     sync-numbers-requires
+    no-table-requires
+    fill-table-requires
     no-record-requires
     loop-holds
     slice-aggregate-read-record

@@ -1,38 +1,38 @@
 -- `read_frames` meets its contract: each turn reads two frames behind those before them (Frames). Assumes nothing.
-use mathlib.Core.Path.{_≡_, refl, subst}
-use Prim.Native.Nat.{ℕ, _+_, _-_, _%_, _≤_}
+use mathlib.Core.Path.{_≡_}
+use Prim.Native.Nat.{_-_}
 use native.Mathlib.Omega.{arith}
 use borrow.Author.Needs.{needs}
-use borrow.Author.Tests.{not-true, not-false}
+use lib.ListN.{length-set}
 use Rattle.bits.specs.Bits.{bitsOf}
 use Rattle.demodulator.specs.Table.{table}
-use Rattle.reader.proofs.Frames.{Below, below-none, put-more, put-stop, below-all}
+use Rattle.reader.proofs.Frames.{Below, below-none, below-more, below-stop, below-stop-next, below-all}
 use Rattle.reader.proofs.read_frames.Statement.{statement}
 use Rattle.reader.proofs.read_frames.Tie as tie
 
 abbrev Inv-loop : tie.InvT-loop
-Inv-loop image dc₀ work₀ steps n₀ dc work n = ((n ≤ 496) × (n % 2 ≡ 0)) × ((steps ≡ table) × Below (bitsOf image) n dc work)
+Inv-loop image dc₀ work₀ steps n₀ dc work n = (steps ≡ table) × Below (bitsOf image) n dc work
 
 abbrev μ-loop : tie.MeasureT-loop
 μ-loop image dc₀ work₀ steps n₀ dc work n = 496 - n
 
-table-requires : tie.Need-table-requires Inv-loop μ-loop
-table-requires c κs = search needs
+no-table-requires : tie.Need-no-table-requires Inv-loop μ-loop
+no-table-requires c κs = search needs
+
+fill-table-requires : tie.Need-fill-table-requires Inv-loop μ-loop
+fill-table-requires c κs = search needs
 
 loop-holds : tie.Need-loop-holds Inv-loop μ-loop
-loop-holds c = ((omega arith, refl), (c .table .ensures, search (below-none)))
-
-no-words-requires : tie.Need-no-words-requires Inv-loop μ-loop
-no-words-requires c κs = search needs
-
-no-words-requires-2 : tie.Need-no-words-requires-2 Inv-loop μ-loop
-no-words-requires-2 c κs = search needs
+loop-holds c = (c .fill-table .ensures, search (below-none))
 
 read-two-requires : tie.Need-read-two-requires Inv-loop μ-loop
 read-two-requires c κs = search needs
 
-put-frame-requires : tie.Need-put-frame-requires Inv-loop μ-loop
-put-frame-requires c κs = search needs
+enum-known-first : tie.Need-enum-known-first Inv-loop μ-loop
+enum-known-first c = search needs
+
+enum-told : tie.Need-enum-told Inv-loop μ-loop
+enum-told c = search needs
 
 same-length : tie.Need-same-length Inv-loop μ-loop
 same-length c = search needs
@@ -41,54 +41,40 @@ same-length-2 : tie.Need-same-length-2 Inv-loop μ-loop
 same-length-2 c = search needs
 
 returns : tie.Need-returns Inv-loop μ-loop
-returns c =
-    let put1 = c .before .before .before .before .before in
-    let two = put1 .before .before .before .before in
-    let inside = two .before .before .before .before .before .before in
-    let turn = inside .before in
-    let inv = turn .loop .inv in
-    put-stop (inv .1 .1) (inside .loop-test .taken) (two .read-two .ensures .0) (put1 .put-frame .ensures) (not-true _ (c .if1 .taken))
+returns c = search (below-stop)
 
-add-put-frame : tie.Need-add-put-frame Inv-loop μ-loop
-add-put-frame c = search needs
+enum-known-second : tie.Need-enum-known-second Inv-loop μ-loop
+enum-known-second c = search needs
 
-put-frame-requires-2 : tie.Need-put-frame-requires-2 Inv-loop μ-loop
-put-frame-requires-2 c κs = search needs
+enum-told-2 : tie.Need-enum-told-2 Inv-loop μ-loop
+enum-told-2 c = search needs
 
 add-result : tie.Need-add-result Inv-loop μ-loop
 add-result c = search needs
 
 same-length-3 : tie.Need-same-length-3 Inv-loop μ-loop
-same-length-3 c =
-    let put2 = c .before .before .before .before .before in
-    let put1 = put2 .before .before .before .before .before .before .before .before .before in
-    let two = put1 .before .before .before .before in
-    let inside = two .before .before .before .before .before .before in
-    let turn = inside .before in
-    let start = turn .before .before .before .before .before in
-    omega (arith, put2 .put-frame2 .ensures .dc-size, put1 .put-frame .ensures .dc-size, turn .loop .inv .1 .1 .words .size, start .pre .1 .0)
+same-length-3 c = search needs
 
 same-length-4 : tie.Need-same-length-4 Inv-loop μ-loop
-same-length-4 c =
-    let put2 = c .before .before .before .before .before in
-    let put1 = put2 .before .before .before .before .before .before .before .before .before in
-    let two = put1 .before .before .before .before in
-    let inside = two .before .before .before .before .before .before in
-    let turn = inside .before in
-    let start = turn .before .before .before .before .before in
-    omega (arith, put2 .put-frame2 .ensures .work-size, put1 .put-frame .ensures .work-size, turn .loop .inv .1 .1 .rows .size, start .pre .1 .1)
+same-length-4 c = search needs
 
 returns-2 : tie.Need-returns-2 Inv-loop μ-loop
-returns-2 c =
-    let put2 = c .before .before .before .before .before in
-    let put1 = put2 .before .before .before .before .before .before .before .before .before in
-    let two = put1 .before .before .before .before in
-    let inside = two .before .before .before .before .before .before in
-    let turn = inside .before in
-    let start = turn .before .before .before .before .before in
-    let inv = turn .loop .inv in
-    let more = put-more (inv .1 .1) (inside .loop-test .taken) (two .read-two .ensures .0) (put1 .put-frame .ensures) (not-false _ (put2 .before .before .before .before .if1 .left)) in
-    put-stop more (omega (arith, inv .0 .1, inside .loop-test .taken)) (two .read-two .ensures .1) (put2 .put-frame2 .ensures) (not-true _ (c .if2 .taken))
+returns-2 c = search (below-stop-next)
+
+mul-dc : tie.Need-mul-dc Inv-loop μ-loop
+mul-dc c = search needs
+
+slice-write-dc : tie.Need-slice-write-dc Inv-loop μ-loop
+slice-write-dc c = search needs
+
+add-dc : tie.Need-add-dc Inv-loop μ-loop
+add-dc c = search needs
+
+mul-dc-2 : tie.Need-mul-dc-2 Inv-loop μ-loop
+mul-dc-2 c = search needs
+
+slice-write-dc-2 : tie.Need-slice-write-dc-2 Inv-loop μ-loop
+slice-write-dc-2 c = simp length-set (omega arith)
 
 add-n : tie.Need-add-n Inv-loop μ-loop
 add-n c = search needs
@@ -97,19 +83,7 @@ loop-less : tie.Need-loop-less Inv-loop μ-loop
 loop-less c = search needs
 
 loop-again : tie.Need-loop-again Inv-loop μ-loop
-loop-again c =
-    let put2 = c .before .before .before .before .before in
-    let put1 = put2 .before .before .before .before .before .before .before .before .before in
-    let two = put1 .before .before .before .before in
-    let inside = two .before .before .before .before .before .before in
-    let turn = inside .before in
-    let start = turn .before .before .before .before .before in
-    let inv = turn .loop .inv in
-    let n = turn .loop .n in
-    let further : n + 1 + 1 ≡ n + 2 = omega arith in
-    let more = put-more (inv .1 .1) (inside .loop-test .taken) (two .read-two .ensures .0) (put1 .put-frame .ensures) (not-false _ (put2 .before .before .before .before .if1 .left)) in
-    let last = put-more more (omega (arith, inv .0 .1, inside .loop-test .taken)) (two .read-two .ensures .1) (put2 .put-frame2 .ensures) (not-false _ (c .if2 .left)) in
-    ((omega (arith, inv .0 .1, inside .loop-test .taken), omega (arith, inv .0 .1)), (inv .1 .0, subst (λ (k : ℕ). Below (bitsOf (start .args .image .now)) k (put2 .put-frame2 .last .1 .1 .1 .0) (put2 .put-frame2 .last .1 .1 .1 .1 .0)) further last))
+loop-again c = search (below-more)
 
 same-length-5 : tie.Need-same-length-5 Inv-loop μ-loop
 same-length-5 c = search needs
@@ -118,7 +92,7 @@ same-length-6 : tie.Need-same-length-6 Inv-loop μ-loop
 same-length-6 c = search needs
 
 returns-3 : tie.Need-returns-3 Inv-loop μ-loop
-returns-3 c = search (below-all, arith)
+returns-3 c = search (below-all)
 
 pub read-frames-spec : {M : Type 1} → statement M
 read-frames-spec =
@@ -126,21 +100,26 @@ read-frames-spec =
     (tie.spec
     Inv-loop
     μ-loop
-    table-requires
+    no-table-requires
+    fill-table-requires
     loop-holds
-    no-words-requires
-    no-words-requires-2
     read-two-requires
-    put-frame-requires
+    enum-known-first
+    enum-told
     same-length
     same-length-2
     returns
-    add-put-frame
-    put-frame-requires-2
+    enum-known-second
+    enum-told-2
     add-result
     same-length-3
     same-length-4
     returns-2
+    mul-dc
+    slice-write-dc
+    add-dc
+    mul-dc-2
+    slice-write-dc-2
     add-n
     loop-less
     loop-again
