@@ -1,6 +1,6 @@
 -- Eighths of the LDC block: where their code words stand, a turn of each loop on them, and what the steps on all eight make. Assumes nothing.
 use mathlib.Core.Path.{_≡_, refl, sym, ap, ap₂, subst, _∙_}
-use mathlib.Core.Bool.{Bool, true, false, not}
+use mathlib.Core.Bool.{Bool, not}
 use mathlib.Core.List.{List, _++_}
 use Prim.Native.Nat.{ℕ, _+_, _*_, _-_, _/_, _%_, _<_, _≤_}
 use native.Mathlib.Nat.{not-suc-le-zero}
@@ -24,7 +24,7 @@ use Rattle.ldc.specs.declared.Place.{Place}
 use Rattle.ldc.specs.LdcBlock.{dataByte, information, codeWord}
 use Rattle.ldc.specs.Places.{placeOf, wordIn, dataIn, frameIn}
 use Rattle.ldc.proofs.CodeWords.{length-frame-in}
-use Rattle.ldc.proofs.Interleaving.{place-row-lt, place-column-lt}
+use Rattle.ldc.proofs.Interleaving.{place-column-lt}
 use Rattle.cluster.specs.Multiplex.{ldcIndex, wordIndex, ldcIn}
 use Rattle.cluster.specs.Reading.{wrongWord, dataFrameIn, wrongSector, userByteIn}
 use Rattle.cluster.specs.Eighth.{RunOf, BytesTaken, BytesPut, WordsTaken, WordsPut, LdcPut, wordAt, frameAt, informationOf, completed, completedWords, framesOf, wrongOf, wrongFrame, userOf}

@@ -28,8 +28,3 @@ is-tabulate d n f l size at =
 -- two functions that agree below n tabulate to one list
 pub tabulate-ext : {A : Type 0} (d : A) (n : ℕ) (f g : ℕ → A) → ((k : ℕ) → k < n → f k ≡ g k) → tabulate n f ≡ tabulate n g
 tabulate-ext d n f g agree = is-tabulate d n g (tabulate n f) (length-tabulate n f) (λ k below. getD-tabulate n f k d below ∙ agree k below)
-
--- equal tabulations agree below n
-pub tabulate-inj : {A : Type 0} (d : A) (n : ℕ) (f g : ℕ → A) → tabulate n f ≡ tabulate n g → (k : ℕ) → k < n → f k ≡ g k
-tabulate-inj {A} d n f g e k below =
-    sym (getD-tabulate n f k d below) ∙ ap (λ (l : List A). getD l k d) e ∙ getD-tabulate n g k d below

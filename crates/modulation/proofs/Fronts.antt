@@ -6,15 +6,15 @@ use Prim.Native.Nat.{ℕ, zero, suc, _+_, _*_, _/_, _%_, _^_, _<_}
 use native.Mathlib.Omega.{arith}
 use borrow.Author.Tests.{eqb-true, eq-eqb, leb-true, le-leb}
 use lib.Dec.{eqb, leb}
-use lib.ListN.{length, getD, take, drop, length-append, take-append-drop}
+use lib.ListN.{length, take, drop, length-append, take-append-drop}
 use lib.Pow.{pow-add}
-use lib.Seq.{take-append-seam, length-take-le, take-suc}
+use lib.Seq.{take-append-seam, length-take-le}
 use Rattle.bits.specs.Bits.{Bits, number, bitsOfNumber}
 use Rattle.bits.proofs.Number.{bits-of-number}
 use Rattle.modulation.specs.Modulation.{Two, d00, d01, d10, d11, twoNumber, Three, m000, m001, m010, m011, m100, m101, m110, m111, threeNumber, starts}
 use Rattle.modulation.specs.Bits.{two, pairs, dataBits, three, bits}
 use Rattle.modulation.proofs.Tests.{and-left, and-right, and-true, same-tests}
-use Rattle.modulation.proofs.Bits.{dataBits-append, pairs-dataBits, length-dataBits}
+use Rattle.modulation.proofs.Bits.{pairs-dataBits, length-dataBits}
 
 -- ---- pairs and groups are determined by their numbers
 
@@ -118,18 +118,3 @@ unfolding number
 number-append [] b = omega arith
 number-append (x ∷ a) b =
     omega (arith, number-append a b, ap (λ (k : ℕ). x * 2 ^ k) (length-append a b) ∙ ap (λ (k : ℕ). x * k) (pow-add 2 (length a) (length b)))
-
-two-alone : (d : Two) → number (dataBits (d ∷ [])) ≡ twoNumber d
-unfolding number
-two-alone d00 = refl
-two-alone d01 = refl
-two-alone d10 = refl
-two-alone d11 = refl
-
-pub pair-more : (n : ℕ) (ds : List Two) → n < length ds → number (dataBits (take (suc n) ds)) ≡ 4 * number (dataBits (take n ds)) + twoNumber (getD ds n d00)
-pair-more n ds h =
-    let last = getD ds n d00 ∷ [] in
-    ap (λ (l : List Two). number (dataBits l)) (take-suc ds n d00 h)
-    ∙ ap number (dataBits-append (take n ds) last)
-    ∙ number-append (dataBits (take n ds)) (dataBits last)
-    ∙ omega (arith, two-alone (getD ds n d00))

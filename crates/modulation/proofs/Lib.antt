@@ -1,7 +1,6 @@
 -- The theorems are in Theorems; the other files lead there, and to the proofs of the functions.
 pub mod Tests
 pub mod Bits
-pub mod Pairs
 pub mod Fronts
 pub mod Words
 pub mod Size
