@@ -3,9 +3,9 @@ use mathlib.Core.List.{List}
 use mathlib.Core.Path.{ap}
 use Prim.Native.Nat.{ℕ, _+_, _*_, _/_, _%_}
 use native.Mathlib.Omega.{arith}
+use borrow.Author.Needs.{needs}
 use lib.ListN.{getD}
 use Rattle.demodulator.proofs.Entries.{entry-bound}
-use borrow.Author.Needs.{needs}
 use Rattle.demodulator.proofs.one_more.Statement.{statement}
 use Rattle.demodulator.proofs.one_more.Tie as tie
 

@@ -2,8 +2,8 @@
 use mathlib.Core.Path.{_∙_}
 use Prim.Native.Nat.{_+_, _*_, _-_, _/_, _%_}
 use native.Mathlib.Omega.{arith}
-use Rattle.demodulator.proofs.Entries.{there-bound, there-state, three-made}
 use borrow.Author.Needs.{needs}
+use Rattle.demodulator.proofs.Entries.{there-bound, there-state, three-made}
 use Rattle.demodulator.proofs.three_at.Statement.{statement}
 use Rattle.demodulator.proofs.three_at.Tie as tie
 

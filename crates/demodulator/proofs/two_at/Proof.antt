@@ -2,9 +2,9 @@
 use mathlib.Core.Path.{sym, ap, subst, _∙_}
 use Prim.Native.Nat.{ℕ, _/_, _%_, _<_}
 use native.Mathlib.Omega.{arith}
+use borrow.Author.Needs.{needs}
 use Rattle.demodulator.specs.Table.{more}
 use Rattle.demodulator.proofs.Entries.{more-bound, more-state, two-made}
-use borrow.Author.Needs.{needs}
 use Rattle.demodulator.proofs.two_at.Statement.{statement}
 use Rattle.demodulator.proofs.two_at.Tie as tie
 

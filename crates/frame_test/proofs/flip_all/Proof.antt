@@ -1,6 +1,6 @@
 -- `flip_all` keeps the image's length over its turns.
-use Prim.Native.Nat.{_-_, _≤_}
 use mathlib.Core.Path.{_≡_}
+use Prim.Native.Nat.{_-_, _≤_}
 use borrow.Author.Needs.{needs}
 use lib.ListN.{length}
 use Rattle.frame_test.proofs.flip_all.Statement.{statement}

@@ -1,6 +1,6 @@
 -- `main` keeps the table and the length of its input over its turns.
-use Prim.Native.Nat.{_-_, _≤_}
 use mathlib.Core.Path.{_≡_}
+use Prim.Native.Nat.{_-_, _≤_}
 use borrow.Author.Needs.{needs}
 use lib.ListN.{length}
 use Rattle.demodulator.specs.Table.{table}

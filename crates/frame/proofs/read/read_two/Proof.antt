@@ -1,6 +1,6 @@
 -- `read_two` meets its contract: the words of two frames, taken apart (Reading). Assumes nothing.
-use Rattle.frame.proofs.Reading.{reads}
 use borrow.Author.Needs.{needs}
+use Rattle.frame.proofs.Reading.{reads}
 use Rattle.frame.proofs.read.read_two.Statement.{statement}
 use Rattle.frame.proofs.read.read_two.Tie as tie
 

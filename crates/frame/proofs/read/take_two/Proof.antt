@@ -1,6 +1,6 @@
 -- `take_two` meets its contract: a row in each half of the slice (Reading). Assumes nothing.
-use Rattle.frame.proofs.Reading.{two-taken}
 use borrow.Author.Needs.{needs}
+use Rattle.frame.proofs.Reading.{two-taken}
 use Rattle.frame.proofs.read.take_two.Statement.{statement}
 use Rattle.frame.proofs.read.take_two.Tie as tie
 

@@ -2,10 +2,10 @@
 use mathlib.Core.Path.{refl}
 use Prim.Native.Nat.{_+_, _*_, _-_, _/_, _%_}
 use native.Mathlib.Omega.{arith}
+use borrow.Author.Needs.{needs}
 use lib.ListN.{getD}
 use lib.Pow.{shr-le}
 use Rattle.frame.proofs.Unweaving.{five-bytes}
-use borrow.Author.Needs.{needs}
 use Rattle.frame.proofs.weave.five_in.Statement.{statement}
 use Rattle.frame.proofs.weave.five_in.Tie as tie
 
