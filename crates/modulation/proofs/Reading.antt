@@ -14,7 +14,8 @@ use Rattle.modulation.specs.Modulation.{Two, d00, d01, d10, d11, twoNumb
 use Rattle.modulation.specs.Demodulator.{agrees, rowRead}
 use Rattle.modulation.proofs.Tests.{and-right, implies, given}
 use Rattle.modulation.proofs.Words.{nextBit, Word, modulate-none}
-use Rattle.modulation.proofs.Machine.{put, plain, followed, not-followed}
+use Rattle.modulation.specs.Machine.{put, plain}
+use Rattle.modulation.proofs.Machine.{followed, not-followed}
 
 -- ---- how the modulation of any pairs starts, after the bit b
 

@@ -13,7 +13,8 @@ use Rattle.modulation.specs.Sync.{FS, FS0, FS1, FS2, FS3, FS4, FS5, FS6,
 use Rattle.modulation.specs.Stream.{modulated}
 use Rattle.modulation.proofs.Tests.{implies, T-true, given}
 use Rattle.modulation.proofs.Bits.{bits-append}
-use Rattle.modulation.proofs.Machine.{Wait, w, w00, w0000, w000000, w000010, w11, w1101, w110111, w11011100, w1101110000, step, stop, machine, machine-is}
+use Rattle.modulation.specs.Machine.{Wait, w, w00, w0000, w000000, w000010, w11, w1101, w110111, w11011100, w1101110000, step, stop, machine}
+use Rattle.modulation.proofs.Machine.{machine-is}
 use Rattle.modulation.proofs.Scan.{fine, after, fine-append}
 
 -- ---- where the test can stand while the machine waits

@@ -2,6 +2,7 @@
 pub mod Modulation
 pub mod Bits
 pub mod Pairs
+pub mod Machine
 pub mod Sync
 pub mod Stream
 pub mod Gaps

@@ -17,7 +17,8 @@ use Rattle.modulation.specs.Bits.{dataBits, bits}
 use Rattle.modulation.specs.Pairs.{twoOf}
 use Rattle.modulation.proofs.Bits.{bits-append, length-bits}
 use Rattle.modulation.proofs.Fronts.{bits-groups}
-use Rattle.modulation.proofs.Machine.{waiting, stop, put, machine-is}
+use Rattle.modulation.specs.Machine.{waiting, stop, put}
+use Rattle.modulation.proofs.Machine.{machine-is}
 use Rattle.modulator.specs.Few.{fewPairs, Given}
 use Rattle.modulator.specs.Table.{waitOf, bitOf, waits, WaitingNumber, stepEntry, stopEntry}
 use Rattle.modulator.proofs.FewPairs.{few-back}

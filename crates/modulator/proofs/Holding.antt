@@ -18,7 +18,7 @@ use Rattle.modulation.specs.Modulation.{Two, Modulated}
 use Rattle.modulation.specs.Bits.{bits}
 use Rattle.modulation.proofs.Bits.{bits-append, length-bits}
 use Rattle.modulation.proofs.Fronts.{bits-groups}
-use Rattle.modulation.proofs.Machine.{stop, put}
+use Rattle.modulation.specs.Machine.{stop, put}
 use Rattle.modulator.specs.Table.{waitOf, bitOf, waits, stopEntry, nibbleEntry, lastEntry, nibblePairs}
 use Rattle.modulator.proofs.Runs.{shifted, from, Moves, moves-on, nibble-moves}
 
