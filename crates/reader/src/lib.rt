@@ -235,24 +235,24 @@ fn read_cluster(
     refused(judged)
 }
 
-// The same; where it is refused, zeros in work.
+// The same; where it is refused, zeros in its place.
 fn read_or_clear(
-    work: &mut [u8],
+    cluster: &mut [u8],
     words: &[u32; 496],
     user: &mut [u8],
     side: &mut [u8],
     dc: &mut [u32],
 ) -> Read
-    requires { ⌜ ((length (now work) ≡ 76880) × (length (now user) ≡ 65536)) × ((length (now side) ≡ 592) × ((length (now words) ≡ 496) × (length (now dc) ≡ 496))) ⌝ }
-    ensures { λ r. ⌜ DataRead (clusterAnswer (now (work .entry))) (psnOf (now (work .entry))) (bisIn (now (work .entry))) (now (work .entry)) (now (words .entry)) (now (user .entry)) (now (side .entry)) (now (dc .entry)) (r .answer) (r .psn .0) (now (user .exit)) (now (side .exit)) (now (dc .exit)) ⌝ }
-    ensures { λ r. ⌜ WorkLeft (r .answer) (now (work .entry)) (now (work .exit)) ⌝ }
+    requires { ⌜ ((length (now cluster) ≡ 76880) × (length (now user) ≡ 65536)) × ((length (now side) ≡ 592) × ((length (now words) ≡ 496) × (length (now dc) ≡ 496))) ⌝ }
+    ensures { λ r. ⌜ DataRead (clusterAnswer (now (cluster .entry))) (psnOf (now (cluster .entry))) (bisIn (now (cluster .entry))) (now (cluster .entry)) (now (words .entry)) (now (user .entry)) (now (side .entry)) (now (dc .entry)) (r .answer) (r .psn .0) (now (user .exit)) (now (side .exit)) (now (dc .exit)) ⌝ }
+    ensures { λ r. ⌜ WorkLeft (r .answer) (now (cluster .entry)) (now (cluster .exit)) ⌝ }
 {
-    let read = read_cluster(work, words, user, side, dc);
+    let read = read_cluster(cluster, words, user, side, dc);
     let answer = read.answer;
     if answer.is_done() {
         return read;
     }
-    slices::clear(work);
+    slices::clear(cluster);
     read
 }
 

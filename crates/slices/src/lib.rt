@@ -31,9 +31,9 @@ pub fn copy_bytes(from: &[u8], to: &mut [u8])
     requires { ⌜ length (now from) ≡ length (now to) ⌝ }
     ensures { λ _. ⌜ now (to .exit) ≡ now (from .entry) ⌝ }
 {
-    let mut i = 0;
-    while i < to.len() {
-        to[i] = from[i];
-        i += 1;
+    let mut k = 0;
+    while k < to.len() {
+        to[k] = from[k];
+        k += 1;
     }
 }

@@ -8,10 +8,10 @@ use Rattle.slices.proofs.copy_bytes.Statement.{statement}
 use Rattle.slices.proofs.copy_bytes.Tie as tie
 
 abbrev Inv-loop : tie.InvT-loop
-Inv-loop from to₀ i₀ to i = Upto 0 (λ k. getD from k 0) (length to₀) i to
+Inv-loop from to₀ k₀ to k = Upto 0 (λ n. getD from n 0) (length to₀) k to
 
 abbrev μ-loop : tie.MeasureT-loop
-μ-loop from to₀ i₀ to i = length to₀ - i
+μ-loop from to₀ k₀ to k = length to₀ - k
 
 loop-holds : tie.Need-loop-holds Inv-loop μ-loop
 loop-holds c = upto-none refl
@@ -22,8 +22,8 @@ shared-slice-read-to c = search needs
 slice-write-to : tie.Need-slice-write-to Inv-loop μ-loop
 slice-write-to c = search needs
 
-add-i : tie.Need-add-i Inv-loop μ-loop
-add-i c = search needs
+add-k : tie.Need-add-k Inv-loop μ-loop
+add-k c = search needs
 
 loop-less : tie.Need-loop-less Inv-loop μ-loop
 loop-less c = search needs
@@ -46,7 +46,7 @@ copy-bytes-spec =
     loop-holds
     shared-slice-read-to
     slice-write-to
-    add-i
+    add-k
     loop-less
     loop-again
     same-length
