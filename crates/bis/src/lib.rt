@@ -195,8 +195,8 @@ fn is_code_word(table: &Remainders, column: &[u8; 62]) -> bool
     column::is_code_word(table, column)
 }
 
-// The lowest BIS column, 0 to 23, without its 32 roots, or 24. For the crates of this repository.
-pub fn first_wrong_column(table: &Remainders, block: Block) -> usize
+// The lowest BIS column, 0 to 23, without its 32 roots, or 24, by the lent remainders. For the crates of this repository.
+pub fn first_wrong_column_by(table: &Remainders, block: Block) -> usize
     requires { ⌜ AreRemainders (now table) ⌝ }
     ensures { λ r. ⌜ r ≡ firstWrongColumn block ⌝ }
 {
@@ -208,6 +208,15 @@ pub fn first_wrong_column(table: &Remainders, block: Block) -> usize
         column += 1;
     }
     24
+}
+
+// The same, by remainders of its own.
+pub fn first_wrong_column(block: Block) -> usize
+    ensures { λ r. ⌜ r ≡ firstWrongColumn block ⌝ }
+{
+    let mut table = column::no_remainders();
+    column::fill_remainders(&mut table);
+    first_wrong_column_by(&table, block)
 }
 
 // Address field y as it stands in the block.

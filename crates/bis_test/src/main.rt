@@ -105,14 +105,8 @@ fn cluster_hash(block: Block) -> u64 {
     hash_of(&cluster)
 }
 
-fn first_wrong_column(block: Block) -> usize {
-    let mut table = column::no_remainders();
-    column::fill_remainders(&mut table);
-    bis::first_wrong_column(&table, block)
-}
-
 fn print_reading(block: Block) {
-    print_number(b"first wrong column: ", first_wrong_column(block));
+    print_number(b"first wrong column: ", bis::first_wrong_column(block));
     print_number(
         b"first wrong address field: ",
         bis::first_wrong_field(block),

@@ -134,7 +134,7 @@ fn judge_block(table: &Remainders, block: bis::Block) -> Read
     requires { ⌜ AreRemainders (now table) ⌝ }
     ensures { λ r. ⌜ BlockJudged block (r .answer) (r .psn .0) ⌝ }
 {
-    let column = bis::first_wrong_column(table, block);
+    let column = bis::first_wrong_column_by(table, block);
     if column < 24 {
         return refused(Answer::BisColumn(column));
     }

@@ -4,8 +4,8 @@ use Rattle.reader.proofs.Judging.{wrong-column, wrong-unit, a-psn, no-p
 use Rattle.reader.proofs.judge_block.Statement.{statement}
 use Rattle.reader.proofs.judge_block.Tie as tie
 
-first-wrong-column-requires : tie.Need-first-wrong-column-requires
-first-wrong-column-requires c κs = search needs
+first-wrong-column-by-requires : tie.Need-first-wrong-column-by-requires
+first-wrong-column-by-requires c κs = search needs
 
 refused-requires : tie.Need-refused-requires
 refused-requires c κs = search needs
@@ -44,7 +44,7 @@ pub judge-block-spec : {M : Type 1} → statement M
 judge-block-spec =
     tie.close
     (tie.spec
-    first-wrong-column-requires
+    first-wrong-column-by-requires
     refused-requires
     returns
     first-wrong-field-requires

@@ -1,11 +1,11 @@
--- `first_wrong_column` meets its contract: the columns passed have their roots (Search, Reading).
+-- `first_wrong_column_by` meets its contract: the columns passed have their roots (Search, Reading).
 use borrow.Author.Needs.{needs}
 use Prim.Native.Nat.{_-_}
 use Rattle.laws.proofs.First.{Passed, passed-none, passed-more, first-here, first-past}
 use Rattle.bis.specs.Reading.{wrongColumn, firstWrongColumn}
 use Rattle.bis.proofs.Reading.{column-judged}
-use Rattle.bis.proofs.first_wrong_column.Statement.{statement}
-use Rattle.bis.proofs.first_wrong_column.Tie as tie
+use Rattle.bis.proofs.first_wrong_column_by.Statement.{statement}
+use Rattle.bis.proofs.first_wrong_column_by.Tie as tie
 
 abbrev Inv-loop : tie.InvT-loop
 Inv-loop table block column₀ column = Passed (wrongColumn block) column
@@ -42,8 +42,8 @@ returns-2 : tie.Need-returns-2 Inv-loop μ-loop
 unfolding firstWrongColumn
 returns-2 c = search (first-past)
 
-pub first-wrong-column-spec : {M : Type 1} → statement M
-first-wrong-column-spec =
+pub first-wrong-column-by-spec : {M : Type 1} → statement M
+first-wrong-column-by-spec =
     tie.close
     (tie.spec
     Inv-loop
