@@ -1,13 +1,11 @@
-// Frames of a known cluster written, read back and damaged. Standard input holds seven records of 161 bytes: #, sync number, dc word, row.
+// Frames of a known cluster written into slices of 245 bytes, from bit 8 on and then a bit later each, read back and damaged. Standard input
+// holds seven records of 161 bytes: #, sync number, dc word, row.
 use demodulator::Table;
 use frame::FrameRead;
 ghost use mathlib.Core.Path.{_≡_};
 ghost use Prim.Native.Nat.{_<_};
 ghost use lib.ListN.{length};
 ghost use Rattle.demodulator.specs.Table.{table};
-
-// Where a frame is written, in a slice of 245 bytes.
-const AT: usize = 11;
 
 fn wide(byte: u8) -> u64 {
     byte as u64
@@ -92,12 +90,20 @@ fn differing(row: &[u8], input: &[u8]) -> u64
 }
 
 // The frame read with # of the next sync: its dc word, and in how many bytes its row differs.
-fn read_line(text: &[u8], steps: &Table, image: &[u8], sync: usize, hash: bool, input: &[u8])
-    requires { ⌜ (now steps ≡ table) × (((length (now image) ≡ 245) × (length (now input) ≡ 161)) × (sync < 7)) ⌝ }
+fn read_line(
+    text: &[u8],
+    steps: &Table,
+    image: &[u8],
+    at: usize,
+    sync: usize,
+    hash: bool,
+    input: &[u8],
+)
+    requires { ⌜ (now steps ≡ table) × (((length (now image) ≡ 245) × (length (now input) ≡ 161)) × ((at < 16) × (sync < 7))) ⌝ }
 {
     io::write_all(1, text);
     let mut row = no_row();
-    let read = frame::read_frame(steps, image, AT, sync, hash, &mut row);
+    let read = frame::read_frame(steps, image, at, sync, hash, &mut row);
     match read {
         FrameRead::Found(dc) => {
             io::print_hex(1, dc as u64, 8);
@@ -119,14 +125,14 @@ fn flip(image: &mut [u8], at: usize) {
 }
 
 // Each bit of the sync flipped: whether it still is that sync.
-fn sync_line(image: &mut [u8], sync: usize)
-    requires { ⌜ (length (now image) ≡ 245) × (sync < 7) ⌝ }
+fn sync_line(image: &mut [u8], at: usize, sync: usize)
+    requires { ⌜ (length (now image) ≡ 245) × ((at < 16) × (sync < 7)) ⌝ }
 {
     io::write_all(1, b"sync with a bit flipped ");
     for k in 0..30usize {
-        flip(image, AT + k);
-        io::print_decimal(1, flag(frame::sync_right(image, AT, sync)));
-        flip(image, AT + k);
+        flip(image, at + k);
+        io::print_decimal(1, flag(frame::sync_right(image, at, sync)));
+        flip(image, at + k);
     }
     end_line();
 }
@@ -144,16 +150,17 @@ fn flip_one(
     steps: &Table,
     image: &mut [u8],
     at: usize,
+    bit: usize,
     sync: usize,
     hash: bool,
     input: &[u8],
 ) -> Flips
-    requires { ⌜ (now steps ≡ table) × (((length (now image) ≡ 245) × (length (now input) ≡ 161)) × (sync < 7)) ⌝ }
+    requires { ⌜ (now steps ≡ table) × (((length (now image) ≡ 245) × (length (now input) ≡ 161)) × ((at < 16) × (sync < 7))) ⌝ }
 {
-    flip(image, at);
+    flip(image, bit);
     let mut row = no_row();
-    let read = frame::read_frame(steps, image, AT, sync, hash, &mut row);
-    flip(image, at);
+    let read = frame::read_frame(steps, image, at, sync, hash, &mut row);
+    flip(image, bit);
     match read {
         FrameRead::Found(dc) => Flips {
             none: seen.none,
@@ -169,8 +176,15 @@ fn flip_one(
 }
 
 // Every seventh modulation bit flipped.
-fn flip_all(steps: &Table, image: &mut [u8], sync: usize, hash: bool, input: &[u8]) -> Flips
-    requires { ⌜ (now steps ≡ table) × (((length (now image) ≡ 245) × (length (now input) ≡ 161)) × (sync < 7)) ⌝ }
+fn flip_all(
+    steps: &Table,
+    image: &mut [u8],
+    at: usize,
+    sync: usize,
+    hash: bool,
+    input: &[u8],
+) -> Flips
+    requires { ⌜ (now steps ≡ table) × (((length (now image) ≡ 245) × (length (now input) ≡ 161)) × ((at < 16) × (sync < 7))) ⌝ }
 {
     let mut seen = Flips {
         none: 0,
@@ -178,7 +192,7 @@ fn flip_all(steps: &Table, image: &mut [u8], sync: usize, hash: bool, input: &[u
         bytes: 0,
     };
     for k in 0..271usize {
-        seen = flip_one(seen, steps, image, AT + 30 + 7 * k, sync, hash, input);
+        seen = flip_one(seen, steps, image, at, at + 30 + 7 * k, sync, hash, input);
     }
     seen
 }
@@ -191,37 +205,53 @@ fn flips_line(seen: Flips) {
 }
 
 // The frame read as it was written, with the other #, and with bits flipped.
-fn read_lines(steps: &Table, image: &mut [u8], sync: usize, next: bool, input: &[u8])
-    requires { ⌜ (now steps ≡ table) × (((length (now image) ≡ 245) × (length (now input) ≡ 161)) × (sync < 7)) ⌝ }
+fn read_lines(steps: &Table, image: &mut [u8], at: usize, sync: usize, next: bool, input: &[u8])
+    requires { ⌜ (now steps ≡ table) × (((length (now image) ≡ 245) × (length (now input) ≡ 161)) × ((at < 16) × (sync < 7))) ⌝ }
 {
-    sync_line(image, sync);
-    read_line(b"read ", steps, image, sync, next, input);
-    read_line(b"read with the other # ", steps, image, sync, !next, input);
-    flips_line(flip_all(steps, image, sync, next, input));
+    sync_line(image, at, sync);
+    read_line(b"read ", steps, image, at, sync, next, input);
+    read_line(
+        b"read with the other # ",
+        steps,
+        image,
+        at,
+        sync,
+        !next,
+        input,
+    );
+    flips_line(flip_all(steps, image, at, sync, next, input));
 }
 
-fn frame_lines(steps: &Table, input: &[u8])
-    requires { ⌜ (now steps ≡ table) × (length (now input) ≡ 161) ⌝ }
+// The frame of the record written from bit `at` of the image on; # of the next sync.
+fn written(input: &[u8], at: usize, image: &mut [u8]) -> bool
+    requires { ⌜ (length (now input) ≡ 161) × (at < 16) ⌝ }
 {
     let head = head_of(input);
-    let sync = head.number;
     let mut table = modulator::no_table();
     modulator::fill_table(&mut table);
-    let mut image = blank();
-    let next = frame::write_frame(
+    frame::write_frame(
         &table,
         &input[6..161],
         head.dc,
-        sync,
+        head.number,
         head.hash,
-        &mut image,
-        AT,
-    );
+        image,
+        at,
+    )
+}
+
+fn frame_lines(steps: &Table, input: &[u8], at: usize)
+    requires { ⌜ (now steps ≡ table) × ((length (now input) ≡ 161) × (at < 16)) ⌝ }
+{
+    let head = head_of(input);
+    let sync = head.number;
+    let mut image = blank();
+    let next = written(input, at, &mut image);
     bytes_line(b"image ", &image);
-    number(b"# ", flag(frame::hash_at(&image, AT)));
+    number(b"# ", flag(frame::hash_at(&image, at)));
     number(b" next # ", flag(next));
     end_line();
-    read_lines(steps, &mut image, sync, next, input);
+    read_lines(steps, &mut image, at, sync, next, input);
 }
 
 fn read_record(input: &mut [u8]) {
@@ -243,6 +273,6 @@ fn main() {
     let mut input = no_record();
     for k in 0..7usize {
         read_record(&mut input);
-        frame_lines(&steps, &input);
+        frame_lines(&steps, &input, 8 + k);
     }
 }

@@ -7,10 +7,10 @@ use Rattle.frame_test.proofs.flip_all.Statement.{statement}
 use Rattle.frame_test.proofs.flip_all.Tie as tie
 
 abbrev Inv-loop : tie.InvT-loop
-Inv-loop steps image₀ sync hash input seen₀ k₀ image seen k = (k ≤ 271) × (length image ≡ 245)
+Inv-loop steps image₀ at sync hash input seen₀ k₀ image seen k = (k ≤ 271) × (length image ≡ 245)
 
 abbrev μ-loop : tie.MeasureT-loop
-μ-loop steps image₀ sync hash input seen₀ k₀ image seen k = 271 - k
+μ-loop steps image₀ at sync hash input seen₀ k₀ image seen k = 271 - k
 
 loop-holds : tie.Need-loop-holds Inv-loop μ-loop
 loop-holds c = search needs

@@ -37,6 +37,9 @@ read-record-requires c κs = search needs
 slice-aggregate-frame-lines : tie.Need-slice-aggregate-frame-lines Inv-loop μ-loop
 slice-aggregate-frame-lines c = search needs
 
+add-frame-lines : tie.Need-add-frame-lines Inv-loop μ-loop
+add-frame-lines c = search needs
+
 frame-lines-requires : tie.Need-frame-lines-requires Inv-loop μ-loop
 frame-lines-requires c κs = search needs
 
@@ -66,6 +69,7 @@ main-spec =
     slice-aggregate-read-record
     read-record-requires
     slice-aggregate-frame-lines
+    add-frame-lines
     frame-lines-requires
     add-k
     loop-less

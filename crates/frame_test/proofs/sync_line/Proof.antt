@@ -7,10 +7,10 @@ use Rattle.frame_test.proofs.sync_line.Statement.{statement}
 use Rattle.frame_test.proofs.sync_line.Tie as tie
 
 abbrev Inv-loop : tie.InvT-loop
-Inv-loop image₀ sync k₀ image k = (k ≤ 30) × (length image ≡ 245)
+Inv-loop image₀ at sync k₀ image k = (k ≤ 30) × (length image ≡ 245)
 
 abbrev μ-loop : tie.MeasureT-loop
-μ-loop image₀ sync k₀ image k = 30 - k
+μ-loop image₀ at sync k₀ image k = 30 - k
 
 slice-aggregate-write-all : tie.Need-slice-aggregate-write-all Inv-loop μ-loop
 slice-aggregate-write-all c = search needs
