@@ -1,4 +1,4 @@
--- The multiplexing both ways.
+-- The multiplexing both ways, and the LDC block by eighths.
 pub mod Multiplex
 pub mod Places
 pub mod Loops

@@ -1,4 +1,4 @@
-// The automaton's steps and ends, as the definition has them. A constant is copied where it is read, so that a loop takes it once.
+// The automaton's steps and ends, as the definition has them. A constant is copied where it is read.
 ghost use mathlib.Core.Path.{_≡_};
 ghost use Rattle.demodulator.specs.Automaton.{reads, ends};
 

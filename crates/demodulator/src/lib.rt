@@ -69,8 +69,8 @@ pub fn fill_table(made: &mut Table)
     }
 }
 
-// A table of zeros, for its caller to hold.
-pub fn no_table() -> [u16; 10368]
+// Room for the table, for its caller to hold.
+pub fn no_table() -> Table
     ensures { λ r. ⌜ length r ≡ 10368 ⌝ }
 {
     [0u16; 10368]

@@ -7,7 +7,7 @@ use native.Mathlib.Decide.{decLt}
 use native.Mathlib.Omega.{arith}
 use borrow.Author.Count.{below-more}
 use lib.ListN.{length, getD, set, take, drop, length-set, length-append, length-drop, List·getD-append}
-use lib.Seq.{getD-set-same, getD-set-other, length-take-le, getD-take, getD-append-add}
+use lib.Seq.{sets, sets-eq, take-at, getD-set-same, getD-set-other, length-take-le, getD-take, getD-append-add}
 use Rattle.laws.specs.Tabulate.{tabulate}
 use Rattle.laws.proofs.Tabulate.{is-tabulate}
 
@@ -73,3 +73,9 @@ module _ {A : Type 0} {d : A} {f : ℕ → A} {n : ℕ} where
 -- a fill with the elements of another list, to its end
 pub upto-same : {A : Type 0} {d : A} {n i : ℕ} {l m : List A} → n ≤ i → length m ≡ n → Upto d (λ k. getD m k d) n i l → l ≡ m
 upto-same {d = d} {n = n} {m = m} h size u = upto-all h u ∙ sym (is-tabulate d n (λ k. getD m k d) m size (λ k _. refl))
+
+-- what is written behind i elements stands behind them
+pub sets-front : (l vs : List ℕ) (i n : ℕ) → n ≡ i + length vs → n ≤ length l → take n (sets l i vs) ≡ take i l ++ vs
+sets-front l vs i n e h =
+    ap (take n) (sets-eq vs l i (omega arith))
+    ∙ take-at (take i l ++ vs) (drop (i + length vs) l) n (length-append (take i l) vs ∙ omega (arith, length-take-le i l (omega arith)))

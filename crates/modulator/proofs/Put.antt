@@ -5,20 +5,15 @@ use Prim.Native.Nat.{ℕ, suc, _+_, _*_, _-_, _/_, _%_, _^_, _<_, _≤_}
 use native.Mathlib.Nat.{mod-lt, mod-eq-of-lt, zero-lt-suc}
 use native.Mathlib.Decide.{decLt}
 use native.Mathlib.Omega.{arith}
-use lib.ListN.{length, set, take, drop, length-append, List·getD-eq-default}
-use lib.Seq.{sets, sets-eq, length-sets, take-at, length-take-le}
+use lib.ListN.{length, set, take, length-append, List·getD-eq-default}
+use lib.Seq.{sets, length-sets}
 use lib.Pow.{mod-pow-add}
+use Rattle.laws.proofs.Fill.{sets-front}
 use Rattle.bits.specs.Bits.{Bits, bitsOf, number, bitsOfNumber}
 use Rattle.bits.proofs.Bits.{length-bits, bits-bits, bits-then}
 use Rattle.bits.proofs.Number.{length-bits-of, getD-bits-of, number-of-bits, bits-of-number}
 use Rattle.bits.proofs.Concat.{bits-append, number-append, number-bytes, number-byte}
 use Rattle.modulator.specs.Put.{Put}
-
--- what is written behind i elements stands behind them
-sets-front : (l vs : List ℕ) (i n : ℕ) → n ≡ i + length vs → n ≤ length l → take n (sets l i vs) ≡ take i l ++ vs
-sets-front l vs i n e h =
-    ap (take n) (sets-eq vs l i (omega arith))
-    ∙ take-at (take i l ++ vs) (drop (i + length vs) l) n (length-append (take i l) vs ∙ omega (arith, length-take-le i l (omega arith)))
 
 pub number-bits : (n v : ℕ) → Bits (bitsOfNumber n v)
 number-bits n v i =

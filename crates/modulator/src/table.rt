@@ -247,7 +247,7 @@ pub fn no_table() -> Table
     [0u32; 5440]
 }
 
-// The table, filled where it is held.
+// The table, filled where it is held. For the crates of this repository.
 pub fn fill_table(table: &mut Table)
     requires { ⌜ length (now table) ≡ 5440 ⌝ }
     ensures { λ _. ⌜ now (table .exit) ≡ lentTable ⌝ }

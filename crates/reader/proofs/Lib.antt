@@ -1,4 +1,4 @@
--- The reader's tests, the frames read one after the other, and what is promised (Statements).
+-- The reader's tests, the frames read two by two, and what is promised (Statements).
 pub mod Judging
 pub mod Frames
 pub mod Reading

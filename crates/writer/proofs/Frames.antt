@@ -6,8 +6,9 @@ use Prim.Native.Nat.{ℕ, suc, _+_, _*_, _%_, _<_, _≤_}
 use native.Mathlib.Numerals.{add-one}
 use native.Mathlib.Omega.{arith}
 use borrow.Author.Tests.{eq-eqb, le-leb}
-use lib.ListN.{length, getD, set, take, drop, length-append, drop-of-length-le}
-use lib.Seq.{sets, sets-eq, length-sets, take-at, length-take-le}
+use lib.ListN.{length, getD, set, take, drop-of-length-le}
+use lib.Seq.{sets-eq, length-sets}
+use Rattle.laws.proofs.Fill.{sets-front}
 use Rattle.laws.specs.Bytes.{Bytes}
 use Rattle.bits.specs.Bits.{bitsOf, packed}
 use Rattle.bits.proofs.Bits as B
@@ -27,12 +28,6 @@ use Rattle.image.proofs.Recordings.{length-row, full-of}
 use Rattle.writer.specs.Written.{FramesWritten, ImageWritten, Filled}
 
 -- ---- lists
-
--- what is written behind i elements stands behind them
-sets-front : (l vs : List ℕ) (i n : ℕ) → n ≡ i + length vs → n ≤ length l → take n (sets l i vs) ≡ take i l ++ vs
-sets-front l vs i n e h =
-    ap (take n) (sets-eq vs l i (omega arith))
-    ∙ take-at (take i l ++ vs) (drop (i + length vs) l) n (length-append (take i l) vs ∙ omega (arith, length-take-le i l (omega arith)))
 
 -- the last two elements
 set-last : (l : List ℕ) (p : ℕ) → length l ≡ p + 2 → set (set l p 0) (suc p) 0 ≡ take p l ++ (0 ∷ 0 ∷ [])

@@ -1,4 +1,4 @@
--- `entry` meets its contract: the table say so. Assumes nothing.
+-- `entry` meets its contract: that is what the table holds. Assumes nothing.
 use borrow.Author.Needs.{needs}
 use Rattle.column.proofs.remainders.entry.Statement.{statement}
 use Rattle.column.proofs.remainders.entry.Tie as tie
