@@ -1,5 +1,6 @@
 -- Laws of recording frames.
 pub mod FrameBits
+pub mod Window
 pub mod Unweaving
 pub mod Same
 pub mod Reading
@@ -7,8 +8,7 @@ pub mod SyncRight
 pub mod Frame
 pub mod SyncTables
 pub mod Writing
-pub mod Bits
-pub mod Words
+pub mod Weaving
 pub mod Pairs
 pub mod Image
 pub mod Copy

@@ -3,25 +3,26 @@ use mathlib.Core.Bool.{Bool, true}
 use mathlib.Core.Path.{_≡_, refl, sym, ap, ap₂, subst, _∙_}
 use mathlib.Core.List.{List, [], _∷_, _++_}
 use Prim.Native.Nat.{ℕ, zero, suc, _+_, _*_, _-_, _/_, _%_, _^_, _<_, _≤_}
-use native.Mathlib.Nat.{add-comm, mul-assoc, pow-suc, mod-lt, zero-lt-suc, mul-mod-left, add-mul-div-right}
+use native.Mathlib.Nat.{mul-assoc, pow-suc, mod-lt, zero-lt-suc}
 use native.Mathlib.Decide.{decLt}
 use native.Mathlib.Numerals.{add-one}
 use native.Mathlib.Omega.{arith}
 use lib.Dec.{T, ltb, ltb→lt}
 use lib.ListN.{length, getD, set, take, drop, length-append, length-drop, List·getD-eq-default}
 use lib.Seq.{getD-take, getD-drop, length-take-le}
-use lib.Pow.{pow-pos, pow-mono, pow-add, shr-lt, shl-shr, shr-shr, split, high, low, mod-pow-add, mod-mod-pow}
+use lib.Pow.{pow-mono, shr-shr}
 use Rattle.laws.specs.Tabulate.{tabulate}
 use Rattle.laws.proofs.Finite.{both, both-left, both-right}
 use Rattle.laws.proofs.Tabulate.{length-tabulate, getD-tabulate, is-tabulate}
 use Rattle.laws.proofs.Fill.{Upto, upto-more, upto-all}
 use Rattle.bits.specs.Bits.{Bits, number, bitsOfNumber}
-use Rattle.bits.proofs.Number.{length-bits-of, getD-bits-of, number-of-bits, below-block}
+use Rattle.bits.proofs.Number.{length-bits-of, getD-bits-of, number-of-bits}
 use Rattle.bits.proofs.Pack.{getD-packed}
 use Rattle.demodulator.specs.Words as words
 use Rattle.frame.specs.FrameBits.{dataPlace, dcPlace, rowOf, dcOf}
 use Rattle.frame.specs.Slices.{FiveBytes}
 use Rattle.frame.proofs.FrameBits.{length-row}
+use Rattle.frame.proofs.Window.{in-first, in-second}
 
 -- ---- numbers made of bits, one by one
 
@@ -100,7 +101,7 @@ dc-word b e = e
 -- ---- out of words
 
 -- bit j of the words
-word-bit : (ws : List ℕ) (j : ℕ) → j < 1268 → getD (words.bitsIn ws) j 0 ≡ getD ws ((j + 20) / 46) 0 / 2 ^ (45 - (j + 20) % 46) % 2
+pub word-bit : (ws : List ℕ) (j : ℕ) → j < 1268 → getD (words.bitsIn ws) j 0 ≡ getD ws ((j + 20) / 46) 0 / 2 ^ (45 - (j + 20) % 46) % 2
 unfolding words.bitsIn
 word-bit ws j h = getD-tabulate 1268 (λ j. getD ws ((j + 20) / 46) 0 / 2 ^ (45 - (j + 20) % 46) % 2) j 0 h
 
@@ -141,36 +142,6 @@ small-words {l} size t = record { size = size; below = below l t }
 
 -- ---- five bytes of the row through two words
 
--- the 45 bits from bit c on of two numbers of 45 bits
-window : (a b c : ℕ) → b < 2 ^ 45 → c ≤ 45 → a * 2 ^ c % 2 ^ 64 % 2 ^ 45 + b / 2 ^ (45 - c) ≡ (a * 2 ^ 45 + b) / 2 ^ (45 - c) % 2 ^ 45
-window a b c hb hc =
-    ap (λ (x : ℕ). x + q) (mod-mod-pow (a * 2 ^ c) 19 45 ∙ cut (a * 2 ^ c) a 0 (shl-shr a c) (mul-mod-left a (2 ^ c)))
-    ∙ plain (a % 2 ^ d * 2 ^ c) q
-    ∙ sym (ap (λ (x : ℕ). x % 2 ^ 45) moved ∙ cut (a * 2 ^ c + q) a q (high a c small) (low a c small))
-  where
-    d : ℕ
-    d = 45 - c
-
-    q : ℕ
-    q = b / 2 ^ d
-
-    small : q < 2 ^ c
-    small = let sum : 45 ≡ c + d = omega arith in shr-lt c d (subst (λ (n : ℕ). b < 2 ^ n) sum hb)
-
-    plain : (x y : ℕ) → x + 0 + y ≡ x + y
-    plain x y = omega arith
-
-    cut : (v x r : ℕ) → v / 2 ^ c ≡ x → v % 2 ^ c ≡ r → v % 2 ^ 45 ≡ x % 2 ^ d * 2 ^ c + r
-    cut v x r e f =
-        let sum : 45 ≡ d + c = omega arith in
-        ap (λ (n : ℕ). v % 2 ^ n) sum ∙ mod-pow-add v d c ∙ ap₂ (λ (y z : ℕ). y % 2 ^ d * 2 ^ c + z) e f
-
-    moved : (a * 2 ^ 45 + b) / 2 ^ d ≡ a * 2 ^ c + q
-    moved =
-        let sum : 45 ≡ c + d = omega arith in
-        let parts : a * 2 ^ 45 ≡ a * 2 ^ c * 2 ^ d = ap (λ (n : ℕ). a * 2 ^ n) sum ∙ ap (λ (x : ℕ). a * x) (pow-add 2 c d) ∙ sym (mul-assoc a (2 ^ c) (2 ^ d)) in
-        ap (λ (x : ℕ). x / 2 ^ d) (ap (λ (x : ℕ). x + b) parts ∙ add-comm (a * 2 ^ c * 2 ^ d) b) ∙ add-mul-div-right b (a * 2 ^ c) (pow-pos d) ∙ add-comm q (a * 2 ^ c)
-
 module _ (ws : List ℕ) (m : ℕ) (hm : m < 31) (h : (i : ℕ) → getD ws i 0 < 70368744177664) where
   abbrev i : ℕ
   i = (40 * m + 20) / 45
@@ -187,46 +158,25 @@ module _ (ws : List ℕ) (m : ℕ) (hm : m < 31) (h : (i : ℕ) → getD ws i 0 
   small : b < 2 ^ 45
   small = omega (arith, h (i + 1))
 
-  -- bit u of the two words, from data bit 40 m on
-  row-bit : (u : ℕ) → u < 40 → (a * 2 ^ 45 + b) / 2 ^ (89 - (off + u)) % 2 ≡ getD (words.bitsIn ws) (dataPlace (40 * m + u)) 0
-  row-bit u hu =
-      let q : ℕ = 40 * m + u in
-      let j : ℕ = dataPlace q in
-      let word : (j + 20) / 46 ≡ (q + 20) / 45 = omega arith in
-      let place : (j + 20) % 46 ≡ (q + 20) % 45 = omega arith in
-      let here = word-bit ws j (omega arith) ∙ ap₂ (λ (n m : ℕ). getD ws n 0 / 2 ^ (45 - m) % 2) word place in
-      elim (decLt (off + u) 45) [
-        | yes in-first ↦
-            let same : (q + 20) / 45 ≡ i = omega arith in
-            let rest : (q + 20) % 45 ≡ off + u = omega arith in
-            let up : 89 - (off + u) ≡ 45 + (44 - (off + u)) = omega arith in
-            let one : 1 + (44 - (off + u)) ≡ 45 - (off + u) = omega arith in
-            ap (λ (n : ℕ). (a * 2 ^ 45 + b) / 2 ^ n % 2) up
-            ∙ ap (λ (n : ℕ). n % 2)
-            (sym (shr-shr (a * 2 ^ 45 + b) 45 (44 - (off + u))) ∙ ap (λ (n : ℕ). n / 2 ^ (44 - (off + u))) (high a 45 small) ∙ shr-shr (getD ws i 0) 1 (44 - (off + u)) ∙ ap (λ (n : ℕ). getD ws i 0 / 2 ^ n) one)
-            ∙ sym (here ∙ ap₂ (λ (n m : ℕ). getD ws n 0 / 2 ^ (45 - m) % 2) same rest)
-        | no in-second ↦
-            let same : (q + 20) / 45 ≡ i + 1 = omega arith in
-            let rest : (q + 20) % 45 ≡ off + u - 45 = omega arith in
-            let one : 1 + (89 - (off + u)) ≡ 45 - (off + u - 45) = omega arith in
-            below-block 45 a b (89 - (off + u)) (omega arith)
-            ∙ ap (λ (n : ℕ). n % 2) (shr-shr (getD ws (i + 1) 0) 1 (89 - (off + u)) ∙ ap (λ (n : ℕ). getD ws (i + 1) 0 / 2 ^ n) one)
-            ∙ sym (here ∙ ap₂ (λ (n m : ℕ). getD ws n 0 / 2 ^ (45 - m) % 2) same rest)
-      ]
+  -- bit t of word k, without its dc-control bit
+  row-bit : (u k t : ℕ) → u < 40 → (40 * m + u + 20) / 45 ≡ k → (40 * m + u + 20) % 45 ≡ t → getD ws k 0 / 2 / 2 ^ (44 - t) % 2 ≡ getD (words.bitsIn ws) (dataPlace (40 * m + u)) 0
+  row-bit u k t hu ek et =
+      let j : ℕ = dataPlace (40 * m + u) in
+      let word : (j + 20) / 46 ≡ k = omega arith in
+      let place : (j + 20) % 46 ≡ t = omega arith in
+      let one : 1 + (44 - t) ≡ 45 - t = omega arith in
+      ap (λ (n : ℕ). n % 2) (shr-shr (getD ws k 0) 1 (44 - t) ∙ ap (λ (n : ℕ). getD ws k 0 / 2 ^ n) one)
+      ∙ sym (word-bit ws j (omega arith) ∙ ap₂ (λ (n m : ℕ). getD ws n 0 / 2 ^ (45 - m) % 2) word place)
 
   module _ {v : ℕ} (is : v ≡ (a * 2 ^ off % 2 ^ 64 % 2 ^ 45 + b / 2 ^ (45 - off)) / 32) where
     -- bit u of the forty
     five-bit : (u : ℕ) → u < 40 → v / 2 ^ (39 - u) % 2 ≡ getD (words.bitsIn ws) (dataPlace (40 * m + u)) 0
     five-bit u hu =
-        let x : ℕ = (a * 2 ^ 45 + b) / 2 ^ (45 - off) in
-        let lower : 5 + (39 - u) ≡ 44 - u = omega arith in
         let within : off < 45 = omega arith in
-        let all : 45 - off + (44 - u) ≡ 89 - (off + u) = omega arith in
-        ap (λ (n : ℕ). n / 2 ^ (39 - u) % 2) (is ∙ ap (λ (n : ℕ). n / 32) (window a b off small (omega arith)))
-        ∙ ap (λ (n : ℕ). n % 2) (shr-shr (x % 2 ^ 45) 5 (39 - u) ∙ ap (λ (n : ℕ). x % 2 ^ 45 / 2 ^ n) lower)
-        ∙ sym (ap (λ (y : ℕ). y / 2 ^ (44 - u) % 2) (sym (split x 45)) ∙ below-block 45 (x / 2 ^ 45) (x % 2 ^ 45) (44 - u) (omega arith))
-        ∙ ap (λ (n : ℕ). n % 2) (shr-shr (a * 2 ^ 45 + b) (45 - off) (44 - u) ∙ ap (λ (n : ℕ). (a * 2 ^ 45 + b) / 2 ^ n) all)
-        ∙ row-bit u hu
+        elim (decLt (off + u) 45) [
+          | yes h ↦ in-first 45 a b off small within (omega arith) 40 (omega arith) is u hu h ∙ row-bit u i (off + u) hu (omega arith) (omega arith)
+          | no h ↦ in-second 45 a b off small within (omega arith) 40 (omega arith) is u hu (omega arith) ∙ row-bit u (i + 1) (off + u - 45) hu (omega arith) (omega arith)
+        ]
 
     pub five-bytes : FiveBytes (rowOf (words.bitsIn ws)) m v
     unfolding rowBit

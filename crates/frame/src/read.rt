@@ -18,13 +18,6 @@ pub enum FrameRead {
     NoFrame,
 }
 
-// 29 words, all 0.
-fn no_words() -> [u64; 29]
-    ensures { λ r. ⌜ Words r ⌝ }
-{
-    [0u64; 29]
-}
-
 // The frame of the words, if it was found: then its row is left in the slice.
 fn take_frame(words: &[u64; 29], found: bool, row: &mut [u8]) -> FrameRead
     requires { ⌜ Words (now words) × (length (now row) ≡ 155) ⌝ }
@@ -50,7 +43,7 @@ pub fn read_frame(
     requires { ⌜ (now steps ≡ table) × (((number < 7) × (length (now row) ≡ 155)) × ((at + 1932 ≤ 8 * length (now image)) × (at + 1932 < 18446744073709551616))) ⌝ }
     ensures { λ r. ⌜ StrictlyRead (fs number) (take 1902 (drop (at + 30) (bitsOf (now (image .entry))))) hash (now (row .entry)) r (now (row .exit)) ⌝ }
 {
-    let mut words = no_words();
+    let mut words = weave::no_words();
     let found = demodulator::read_words(steps, image, at + 30, sync_end(number), hash, &mut words);
     take_frame(&words, found, row)
 }
@@ -90,8 +83,8 @@ pub fn read_two(
     ensures { λ r. ⌜ StrictlyRead (fs first) (take 1902 (drop (at + 30) (bitsOf (now (image .entry))))) hash (take 155 (now (rows .entry))) (r .first) (take 155 (now (rows .exit)))
         × StrictlyRead (fs second) (take 1902 (drop (at + 1962) (bitsOf (now (image .entry))))) sign (drop 155 (now (rows .entry))) (r .second) (drop 155 (now (rows .exit))) ⌝ }
 {
-    let mut words = no_words();
-    let mut more = no_words();
+    let mut words = weave::no_words();
+    let mut more = weave::no_words();
     let found = demodulator::read_two(
         steps,
         image,

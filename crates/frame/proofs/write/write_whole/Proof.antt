@@ -47,11 +47,11 @@ returns c =
     written-even (args .number) (start .pre .1 .0) (args .hash) (args .row .now) (args .dc) (args .image .now) _ (args .at) (word .result) (made .modulate .result)
     (word .ensures .0) (start .pre .1 .1 .1) (branch .if1 .taken) (made .modulate .ensures)
 
-slice-read-wider : tie.Need-slice-read-wider
-slice-read-wider c = search needs
+slice-read-wide : tie.Need-slice-read-wide
+slice-read-wide c = search needs
 
-wider-requires : tie.Need-wider-requires
-wider-requires c κs = search needs
+wide-requires : tie.Need-wide-requires
+wide-requires c κs = search needs
 
 mul-first : tie.Need-mul-first
 mul-first c = search needs
@@ -77,7 +77,7 @@ modulate-requires-2 c κs =
       record {
         some = omega arith;
         most = omega arith;
-        front = omega (arith, c .before .wider .ensures .1, word .sync-word .ensures .1);
+        front = omega (arith, c .before .wide .ensures .1, word .sync-word .ensures .1);
         back = omega arith;
       },
     )
@@ -94,7 +94,7 @@ returns-2 c =
     let args = start .args in
     let word = branch .before .sync-word in
     written-odd (args .number) (start .pre .1 .0) (args .hash) (args .row .now) (args .dc) (args .image .now) _ (args .at) (word .result) (made .modulate2 .result)
-    (word .ensures .0) (start .pre .1 .1 .1) (omega arith) (read .wider .ensures .0) (read .wider .ensures .1) refl (made .modulate2 .ensures)
+    (word .ensures .0) (start .pre .1 .1 .1) (omega arith) (read .wide .ensures .0) (read .wide .ensures .1) refl (made .modulate2 .ensures)
 
 pub write-whole-spec : {M : Type 1} → statement M
 write-whole-spec =
@@ -110,8 +110,8 @@ write-whole-spec =
     modulate-requires
     same-length
     returns
-    slice-read-wider
-    wider-requires
+    slice-read-wide
+    wide-requires
     mul-first
     add-first
     sub-modulate-2
