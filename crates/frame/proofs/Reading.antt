@@ -162,10 +162,10 @@ module _ {n : FS} {m : List ℕ} {hash : Bool} {before after : List ℕ} {answer
 
 -- ---- what the automaton answers
 
-found-is : (x y : ℕ) → _≡_ {A = FrameRead} (Found x) (Found y) → x ≡ y
+pub found-is : (x y : ℕ) → _≡_ {A = FrameRead} (Found x) (Found y) → x ≡ y
 found-is x y e = cc
 
-no-found : {dc : ℕ} → Found dc ≡ NoFrame → ⊥
+pub no-found : {dc : ℕ} → Found dc ≡ NoFrame → ⊥
 no-found e = let z : _≡_ {A = ℕ} 0 1 = cc in omega arith
 
 -- the frame taken out of the words that were read; b is the sync's last bit

@@ -57,9 +57,6 @@ module _ {first lag : ℕ} {ds : List Two} where
         → Holding (bitsOfNumber lag first) (first % 2) (take (8 * k) ds ++ bytePairs x) (bitsOf (take (3 * k) out)) (lag + 12) (acc * 4096 + byteEntry t x / 32) (byteEntry t x % 32)
     one x hx = hold-more (u .holding) (byte-moves t x (u .holding .moves .below) hx)
 
-    pub turning-below : t < 20
-    turning-below = u .holding .moves .below
-
     pub turning-small : lag ≤ 34 → acc < 70368744177664
     turning-small h = omega (arith, hold-lt (u .holding), pow-mono {i = lag} {j = 34} h)
 

@@ -18,15 +18,9 @@ use Rattle.frame.specs.declared.read.FrameRead.the-variants.{Found, NoFrame}
 use Rattle.frame.specs.Reading.{StrictlyRead, readable, frameRead, rowRead}
 use Rattle.frame.proofs.SyncTables.{fs-number}
 use Rattle.frame.proofs.FrameBits.{length-row}
-use Rattle.frame.proofs.Reading.{readable-gives, read-is}
+use Rattle.frame.proofs.Reading.{readable-gives, read-is, found-is, no-found}
 use Rattle.reader.specs.Reading.{modulatedAt, hashBehind, noFrame, firstNoFrame, frameBitsIn, clusterByte, clusterIn, dcWordIn, dcIn}
 use Rattle.reader.specs.Read.{FrameAnswer, TwoFrames, FramesRead}
-
-found-inj : (x y : ℕ) → _≡_ {A = FrameRead} (Found x) (Found y) → x ≡ y
-found-inj x y e = cc
-
-found-none : (x : ℕ) → Found x ≡ NoFrame → ⊥
-found-none x e = let z : _≡_ {A = ℕ} 0 1 = cc in omega arith
 
 -- ---- a frame
 
@@ -54,10 +48,10 @@ module _ (b : List ℕ) (n number q : ℕ) {before p : List ℕ} {hash : Bool} {
       by : (t : Bool) → readable (syncNumber n) (modulatedAt b n) (hashBehind b n) ≡ t → FrameAnswer b n r
       by true e =
           let answered : r ≡ Found (dcWordIn b n) = read-is strictly .0 ∙ rw e in
-          record { found = λ dc f. (ap not e, found-inj dc (dcWordIn b n) (sym f ∙ answered)); none = λ f. absurd (found-none (dcWordIn b n) (sym answered ∙ f)) }
+          record { found = λ dc f. (ap not e, found-is dc (dcWordIn b n) (sym f ∙ answered)); none = λ f. absurd (no-found (sym answered ∙ f)) }
       by false e =
           let answered : r ≡ NoFrame = read-is strictly .0 ∙ rw e in
-          record { found = λ dc f. absurd (found-none dc (sym f ∙ answered)); none = λ f. ap not e }
+          record { found = λ dc f. absurd (no-found (sym f ∙ answered)); none = λ f. ap not e }
 
   pub row-is : noFrame b n ≡ false → p ≡ rowOf (frameBitsIn b n)
   unfolding rowRead
