@@ -52,9 +52,11 @@ loop-less c = search needs
 
 loop-again : tie.Need-loop-again Inv-loop μ-loop
 loop-again c =
-    let copied = c .before .before .copy-user in
-    let made = c .before .before .before .before .before .data-frame in
-    let head = c .before .before .before .before .before .before .before in
+    let given = c .before .before in
+    let framed = given .before .before .before in
+    let head = framed .before .before in
+    let copied = given .copy-user in
+    let made = framed .data-frame in
     let args = head .before .before .before .before .args in
     let f = head .loop .f in
     (omega arith, user-turn (args .stream .now) (args .frames .now) (made .result) (copied .last .1 .0) (head .loop .user) f (2048 * f + 2048 - 2048 * f) (2048 * (f + 1)) (omega arith) (omega arith) refl (made .ensures) (copied .ensures) (head .loop .inv .1))

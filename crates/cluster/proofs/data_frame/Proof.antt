@@ -38,9 +38,12 @@ scramble-requires c κs = search needs
 
 returns : tie.Need-returns
 returns c =
-    let copied = c .before .before .before .before .copy-bytes in
-    let args = c .before .before .before .before .before .before .before .before .before .before .args in
-    frame-made (args .stream .now) (args .frames .now) (copied .last .1 .0) (c .before .scramble .last .0) (args .f) (2052 * args .f + 2052 - 2052 * args .f) (omega arith) (copied .ensures) (c .before .scramble .ensures)
+    let scrambled = c .before in
+    let filled = scrambled .before .before .before in
+    let start = filled .before .before .before .before .before .before in
+    let copied = filled .copy-bytes in
+    let args = start .args in
+    frame-made (args .stream .now) (args .frames .now) (copied .last .1 .0) (scrambled .scramble .last .0) (args .f) (2052 * args .f + 2052 - 2052 * args .f) (omega arith) (copied .ensures) (scrambled .scramble .ensures)
 
 pub data-frame-spec : {M : Type 1} → statement M
 data-frame-spec =

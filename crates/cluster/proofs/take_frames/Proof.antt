@@ -26,9 +26,12 @@ same-length c = search needs
 
 returns : tie.Need-returns
 returns c =
-    let taken = c .before .before .before .before .before .before .take-words in
-    let args = c .before .before .before .before .before .before .before .before .before .before .before .args in
-    c .before .before .take-information .ensures ∙ frames-taken (args .work .now) (taken .last .1 .1 .1 .0) (args .e) (omega arith) (taken .ensures)
+    let copied = c .before .before in
+    let words = copied .before .before .before .before in
+    let start = words .before .before .before .before .before in
+    let taken = words .take-words in
+    let args = start .args in
+    copied .take-information .ensures ∙ frames-taken (args .work .now) (taken .last .1 .1 .1 .0) (args .e) (omega arith) (taken .ensures)
 
 pub take-frames-spec : {M : Type 1} → statement M
 take-frames-spec =

@@ -57,10 +57,14 @@ loop-less c = search needs
 
 loop-again : tie.Need-loop-again Inv-loop μ-loop
 loop-again c =
-    let copied = c .before .before .copy-users in
-    let taken = c .before .before .before .before .before .before .take-frames in
-    let head = c .before .before .before .before .before .before .before .before .before in
-    let args = head .before .before .before .before .before .args in let e = head .loop .e in
+    let given = c .before .before in
+    let read = given .before .before .before .before in
+    let head = read .before .before .before in
+    let start = head .before .before .before .before .before in
+    let copied = given .copy-users in
+    let taken = read .take-frames in
+    let args = start .args in
+    let e = head .loop .e in
     (search needs, (omega arith, users-turn (args .stream .now) (args .work .now) (taken .last .1 .1 .0) e (taken .ensures) (copied .last .1 .1 .0) (head .loop .user) (8192 * e + 8192 - 8192 * e) (8192 * (e + 1)) (omega arith) (omega arith) refl (copied .ensures) (head .loop .inv .1 .1)))
 
 same-length : tie.Need-same-length Inv-loop μ-loop
