@@ -1,0 +1,48 @@
+# bdre: its own usage, the paths by which it finds one file under two names, and what it says where it cannot build.
+usage=$(sed -n "/^    cat <<'END'$/,/^END$/p" "$root/bdre" | sed '1d;$d')
+begin "bdre: usage"
+for words in '' 'enkode' 'tally more' 'demo more'; do
+    bdre_ends 2 "$usage" '' $words
+done
+
+one_file() {
+    begin "bdre $1: one file under two names"
+    all_but none
+    ln -s user "$room/before/link"
+    ln -s user "$room/after/link"
+    mkdir "$room/before/folder" "$room/after/folder"
+    behind=$1
+    shift
+    bdre_ends 1 '' "$behind" "$@"
+}
+one_file './user: it is read and is to be written' encode "$psn" user side dc ./user
+one_file 'folder/../side: it is read and is to be written' encode "$psn" user side dc folder/../side
+one_file 'user: it is read and is to be written' encode "$psn" link side dc user
+one_file './image: it is read and is to be written' decode image ./image s d
+one_file 'folder/../u: it is to be written twice' decode image u folder/../u d
+
+begin "bdre: no toolchain"
+rm "$room/home/target/bdre.built"
+mkdir "$room/tools"
+for tool in dirname readlink find head mkdir mv; do ln -s "$(command -v "$tool")" "$room/tools/$tool"; done
+: >"$room/say"
+lines 'bdre: the Rattle toolchain (rt) is not on the path' >"$room/complain"
+run_once "bdre tally" 1 env PATH="$room/tools" "$room/home/bdre" tally
+begin "bdre: a program is not proved"
+printf '#!/bin/sh\nexit 1\n' >"$room/tools/rt"
+chmod +x "$room/tools/rt"
+lines "bdre: proving and building the programs; this takes some minutes, once
+bdre: they were not built; see $room/home/target/bdre.log" >"$room/complain"
+run_once "bdre tally" 1 env PATH="$room/tools" "$room/home/bdre" tally
+
+begin "bdre: the programs are proved"
+printf '#!/bin/sh\nexit 0\n' >"$room/tools/rt"
+lines refused >"$room/say"
+lines "bdre: proving and building the programs; this takes some minutes, once" >"$room/complain"
+run_once "bdre tally" 1 env PATH="$room/tools" "$room/home/bdre" tally
+: >"$room/complain"
+run_once "bdre tally" 1 env PATH="$room/tools" "$room/home/bdre" tally
+
+begin "bdre: the demonstration"
+cp demo.txt "$room/say"
+run_once "bdre demo" 0 "$room/home/bdre" demo

@@ -1,0 +1,57 @@
+# encode: images of outside clusters, and refusals 6, 7 and 8.
+for name in zero ones zone0 zone1 zone2; do
+    begin "encode $name"
+    given_cluster "$name"
+    left image "$vectors/$name.image"
+    ends 0 '0 0' '' encode "$(psn_of "$name")" user side dc image
+done
+
+begin "encode, side data and dc words zero"
+given user "$vectors/zero.user"
+left image "$vectors/zero.image"
+ends 0 '0 0' '' encode "$(psn_of zero)" user - - image
+
+begin "encode, side data zero alone"
+given user "$vectors/zero.user"
+given dc "$vectors/zero.dc"
+left image "$vectors/zero.image"
+ends 0 '0 0' '' encode "$(psn_of zero)" user - dc image
+
+begin "encode, an image is there already"
+given_cluster zone1
+cp "$vectors/zone0.image" "$room/before/image"
+left image "$vectors/zone1.image"
+ends 0 '0 0' '' encode "$(psn_of zone1)" user side dc image
+
+refused_psn() {
+    begin "encode $1"
+    given_cluster zone1
+    ends 1 "$2" '' encode "$1" user side dc image
+}
+refused_psn 00100010 '6 0
+the PSN is no multiple of 32'
+refused_psn 06000001 '6 0
+the PSN is no multiple of 32'
+for psn in 000fffe0 01089C00 06000000 00000000 ffffffe0; do
+    refused_psn "$psn" '7 0
+the PSN lies in no data zone'
+done
+
+refused_word() {
+    begin "encode, dc word $1"
+    given user "$vectors/zone1.user"
+    given side "$vectors/zone1.side"
+    changed "$vectors/zone1.dc" "$room/dc" $((4 * $1)) 16
+    [ -z "${2-}" ] || poke "$room/dc" $((4 * $2)) 255
+    given dc "$room/dc"
+    ends 1 "8 $1
+dc word $1 is above 0FFFFFFF" '' encode "$(psn_of zone1)" user side dc image
+}
+refused_word 0
+refused_word 495
+refused_word 7 8
+
+begin "encode, dc word 0FFFFFFF is refused by none"
+given_cluster ones
+left image "$vectors/ones.image"
+ends 0 '0 0' '' encode "$(psn_of ones)" user side dc image
