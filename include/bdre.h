@@ -28,6 +28,8 @@
 extern "C" {
 #endif
 
+#define BDRE_VERSION "1.2.0"
+
 #define BDRE_USER 65536   /* user data: 32 sectors of 2,048 bytes */
 #define BDRE_SIDE 592     /* side data: 16 flag bytes, then 32 x 18 bytes of user control data */
 #define BDRE_DC 496       /* dc words, one for each frame; bit 27 is the frame's first dc-control bit, bit 0 its last */

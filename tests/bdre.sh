@@ -1,6 +1,8 @@
 # bdre: its own usage, the paths by which it finds one file under two names, and what it says where it cannot build.
 usage=$(sed -n "/^    cat <<'END'$/,/^END$/p" "$root/bdre" | sed '1d;$d')
-begin "bdre: usage"
+begin "bdre: help, version, usage"
+bdre_ends 0 "$usage" '' --help
+bdre_ends 0 "bdre $(sed -n 's/^#define BDRE_VERSION "\(.*\)".*/\1/p' "$root/include/bdre.h")" '' --version
 for words in '' 'enkode' 'tally more' 'demo more'; do
     bdre_ends 2 "$usage" '' $words
 done
@@ -24,7 +26,7 @@ one_file 'folder/../u: it is to be written twice' decode image u folder/../u d
 begin "bdre: no toolchain"
 rm "$room/home/target/bdre.built"
 mkdir "$room/tools"
-for tool in dirname readlink find head mkdir mv; do ln -s "$(command -v "$tool")" "$room/tools/$tool"; done
+for tool in awk dirname find head mkdir mv readlink tail; do ln -s "$(command -v "$tool")" "$room/tools/$tool"; done
 : >"$room/say"
 lines 'bdre: the Rattle toolchain (rt) is not on the path' >"$room/complain"
 run_once "bdre tally" 1 env PATH="$room/tools" "$room/home/bdre" tally
