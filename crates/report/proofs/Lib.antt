@@ -1,0 +1,4 @@
+-- Laws of texts and of printed numbers.
+pub mod Texts
+pub mod Numbers
+pub mod Words
