@@ -7,9 +7,8 @@ use native.Mathlib.Numerals.{add-one}
 use native.Mathlib.Omega.{arith}
 use borrow.Author.Tests.{le-ltb, lt-ltb}
 use lib.Dec.{ltb}
-use lib.ListN.{length, set, getD, drop, take, length-append}
-use lib.Seq.{drop-cons, drop-length, take-at}
-use Rattle.laws.specs.Tabulate.{tabulate}
+use lib.ListN.{length, set, getD, drop, length-append}
+use lib.Seq.{drop-cons, drop-length}
 use Rattle.report.specs.declared.Text.{Text}
 use Rattle.report.specs.Text.{zeros, textOf, blankText, pushed, added}
 
@@ -62,7 +61,7 @@ behind-all {text} {more} {done} {i} b h =
 -- ---- a text whose bytes have room
 
 set-behind : (a : List ℕ) (b : ℕ) (n : ℕ) → set (a ++ zeros (suc n)) (length a) b ≡ (a ++ (b ∷ [])) ++ zeros n
-unfolding zeros tabulate
+unfolding zeros
 set-behind [] b n = refl
 set-behind (x ∷ a) b n = ap (λ (l : List ℕ). x ∷ l) (set-behind a b n)
 

@@ -5,8 +5,7 @@ use Prim.Native.Nat.{ℕ, _+_, _-_}
 use Prim.Native.Char.{code}
 use Prim.Native.String.{String, [] as empty, _∷_ as _then_}
 use lib.Dec.{ltb}
-use lib.ListN.{length, set}
-use Rattle.laws.specs.Tabulate.{tabulate}
+use lib.ListN.{length, set, replicate}
 use Rattle.report.specs.declared.Text.{Text}
 
 -- the bytes of a quoted text
@@ -15,7 +14,7 @@ the empty = []
 the (c then s) = code c ∷ the s
 
 unfoldable pub zeros : ℕ → List ℕ
-zeros n = tabulate n (λ _. 0)
+zeros n = replicate n 0
 
 -- the bytes of a text, zeros behind them, and how many they are
 unfoldable pub textOf : List ℕ → Text
