@@ -1,90 +1,19 @@
-// What the programs share: buffers, arguments, whole files, answers in words.
-use answer::Answer;
+// What the programs share: arguments, whole files, and texts printed.
+use report::Text;
 ghost use mathlib.Core.Path.{_≡_};
-ghost use lib.ListN.{length};
 ghost use Rattle.io.specs.Counts.{Counts};
 
-// ---- buffers, zero
-
-pub fn user_bytes() -> [u8; 65536]
-    ensures { λ r. ⌜ length r ≡ 65536 ⌝ }
-{
-    [0u8; 65536]
-}
-
-pub fn side_bytes() -> [u8; 592]
-    ensures { λ r. ⌜ length r ≡ 592 ⌝ }
-{
-    [0u8; 592]
-}
-
-pub fn dc_words() -> [u32; 496]
-    ensures { λ r. ⌜ length r ≡ 496 ⌝ }
-{
-    [0u32; 496]
-}
-
-pub fn dc_bytes() -> [u8; 1984]
-    ensures { λ r. ⌜ length r ≡ 1984 ⌝ }
-{
-    [0u8; 1984]
-}
-
-pub fn image_bytes() -> [u8; 119788]
-    ensures { λ r. ⌜ length r ≡ 119788 ⌝ }
-{
-    [0u8; 119788]
-}
-
-pub fn work_bytes() -> [u8; 76880]
-    ensures { λ r. ⌜ length r ≡ 76880 ⌝ }
-{
-    [0u8; 76880]
-}
-
-// ---- words
-
-fn say(text: &[u8]) {
-    io::write_all(1, text);
-    io::write_all(1, b"\n");
-}
-
-fn say_at(before: &[u8], place: usize, after: &[u8]) {
-    io::write_all(1, before);
-    io::print_decimal(1, place as u64);
-    say(after);
-}
-
-// What an answer means; nothing for 0.
-fn explain(answer: Answer) {
-    match answer {
-        Answer::Done => {}
-        Answer::WrongUser => say(b"the user data are not 65536 bytes"),
-        Answer::WrongSide => say(b"the side data are not 592 bytes"),
-        Answer::WrongDc => say(b"there are not 496 dc words"),
-        Answer::WrongImage => say(b"the image is not 119788 bytes"),
-        Answer::WrongWork => say(b"the work slice is not 76880 bytes"),
-        Answer::NoMultiple => say(b"the PSN is no multiple of 32"),
-        Answer::NoZone => say(b"the PSN lies in no data zone"),
-        Answer::DcWord(n) => say_at(b"dc word ", n, b" is above 0FFFFFFF"),
-        Answer::LastBits => say(b"the last two bits are not zero"),
-        Answer::Sync(n) => say_at(b"the frame sync of frame ", n, b" is wrong"),
-        Answer::Frame(n) => say_at(b"no bits give frame ", n, b" and the # behind it"),
-        Answer::BisColumn(n) => say_at(b"BIS column ", n, b" has a wrong parity"),
-        Answer::AddressUnit(n) => say_at(b"the address field of unit ", n, b" has a wrong parity"),
-        Answer::NoPsn => say(b"no accepted PSN has these address unit numbers"),
-        Answer::LdcColumn(n) => say_at(b"LDC column ", n, b" has a wrong parity"),
-        Answer::Sector(n) => say_at(b"sector ", n, b" has a wrong error-detection code"),
+// The first size of the bytes.
+fn write(bytes: &[u8], size: usize) {
+    if size <= bytes.len() {
+        io::write_all(1, &bytes[..size]);
     }
 }
 
-// Number and place, and what they mean.
-pub fn print_answer(answer: Answer) {
-    io::print_decimal(1, answer.number() as u64);
-    io::write_all(1, b" ");
-    io::print_decimal(1, answer.place() as u64);
-    io::write_all(1, b"\n");
-    explain(answer);
+pub fn print(text: Text) {
+    let size = text.size;
+    let bytes = text.bytes;
+    write(&bytes, size);
 }
 
 // ---- files; what is wrong with one is said on standard error
@@ -115,6 +44,61 @@ fn file_name(i: usize, name: &mut [u8]) -> usize
     }
     n
 }
+
+fn is_dash(i: usize) -> bool {
+    let mut name = io::buffer();
+    let n = os::arg(i, &mut name);
+    notation::is_dash(&name[..n])
+}
+
+// ---- what is read is not written over, and nothing is written twice; names are compared byte by byte
+
+// Whether arguments i and j are one name. An empty name is none.
+fn same_argument(i: usize, j: usize) -> bool {
+    let mut name = io::buffer();
+    let mut other = io::buffer();
+    let m = os::arg(i, &mut name);
+    let n = os::arg(j, &mut other);
+    if m == 0 {
+        return false;
+    }
+    notation::same_name(&name[..m], &other[..n])
+}
+
+fn complain_of(i: usize, text: &[u8]) {
+    let mut name = io::buffer();
+    let n = os::arg(i, &mut name);
+    io::write_all(2, &name[..n]);
+    complain(text);
+}
+
+// Whether argument i, which is read, and argument j, which is to be written, are two names.
+pub fn not_over(i: usize, j: usize) -> bool {
+    if same_argument(i, j) {
+        complain_of(i, b": it is read and is to be written");
+        return false;
+    }
+    true
+}
+
+// The same, but `-` is no file that is read.
+pub fn not_over_unless_dash(i: usize, j: usize) -> bool {
+    if is_dash(i) {
+        return true;
+    }
+    not_over(i, j)
+}
+
+// Whether arguments i and j, which are both to be written, are two names.
+pub fn not_twice(i: usize, j: usize) -> bool {
+    if same_argument(i, j) {
+        complain_of(i, b": it is to be written twice");
+        return false;
+    }
+    true
+}
+
+// ---- reading
 
 // One byte more: its count is 0 at the end of the file, negative where it cannot be read.
 fn next(fd: i32) -> isize {
@@ -160,9 +144,7 @@ pub fn load(i: usize, bytes: &mut [u8]) -> bool {
 
 // The same, but `-` leaves the bytes as they are.
 pub fn load_unless_dash(i: usize, bytes: &mut [u8]) -> bool {
-    let mut name = io::buffer();
-    let n = os::arg(i, &mut name);
-    if notation::is_dash(&name[..n]) {
+    if is_dash(i) {
         return true;
     }
     load(i, bytes)

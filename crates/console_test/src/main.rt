@@ -1,5 +1,4 @@
-// Files read and written by name, good ones and bad ones, and every answer in words. Complaints go to standard error.
-use answer::Answer;
+// Files read and written by name, good ones and bad ones, and names compared. Complaints go to standard error.
 
 fn report(text: &[u8], good: bool) {
     io::write_all(1, text);
@@ -24,7 +23,7 @@ fn files_read() {
     report(b"one byte long", console::load(2, &mut bytes));
     read(b"just right", 3);
     report(b"no file", console::load(4, &mut bytes));
-    report(b"no argument", console::load(9, &mut bytes));
+    report(b"no argument", console::load(10, &mut bytes));
     read(b"a dash", 5);
 }
 
@@ -40,35 +39,24 @@ fn files_written() {
     console::remove_part(6);
     report(b"kept when removed", console::keep_part(6));
     read(b"there", 6);
-    report(b"no argument", console::write_part(9, b"abcdefgh"));
+    report(b"no argument", console::write_part(10, b"abcdefgh"));
 }
 
-fn lengths_and_psn() {
-    console::print_answer(Answer::Done);
-    console::print_answer(Answer::WrongUser);
-    console::print_answer(Answer::WrongSide);
-    console::print_answer(Answer::WrongDc);
-    console::print_answer(Answer::WrongImage);
-    console::print_answer(Answer::WrongWork);
-    console::print_answer(Answer::NoMultiple);
-    console::print_answer(Answer::NoZone);
-    console::print_answer(Answer::DcWord(495));
-}
-
-fn images() {
-    console::print_answer(Answer::LastBits);
-    console::print_answer(Answer::Sync(496));
-    console::print_answer(Answer::Frame(100));
-    console::print_answer(Answer::BisColumn(23));
-    console::print_answer(Answer::AddressUnit(15));
-    console::print_answer(Answer::NoPsn);
-    console::print_answer(Answer::LdcColumn(303));
-    console::print_answer(Answer::Sector(31));
+// Argument 7 is the name of argument 3, argument 8 is `-` as argument 5 is.
+fn names() {
+    report(b"read and written, two names", console::not_over(1, 2));
+    report(b"read and written, one name", console::not_over(3, 7));
+    report(b"a name and its beginning", console::not_over(3, 9));
+    report(b"no names", console::not_over(10, 11));
+    report(b"read and written, a dash", console::not_over(5, 8));
+    report(b"a dash for zeros", console::not_over_unless_dash(5, 8));
+    report(b"no dash", console::not_over_unless_dash(3, 7));
+    report(b"written, two names", console::not_twice(1, 2));
+    report(b"written, one name", console::not_twice(3, 7));
 }
 
 fn main() {
     files_read();
     files_written();
-    lengths_and_psn();
-    images();
+    names();
 }

@@ -1,5 +1,25 @@
 // decode IMAGE USER SIDE DC: reads an image strictly, and writes what it was made of to files.
-use address::Psn;
+use report::Text;
+
+// The image is none of the files that are written, and these are three.
+fn names_apart() -> bool {
+    if !console::not_over(1, 2) {
+        return false;
+    }
+    if !console::not_over(1, 3) {
+        return false;
+    }
+    if !console::not_over(1, 4) {
+        return false;
+    }
+    if !console::not_twice(2, 3) {
+        return false;
+    }
+    if !console::not_twice(2, 4) {
+        return false;
+    }
+    console::not_twice(3, 4)
+}
 
 // The three files in part, or none.
 fn write_parts(user: &[u8], side: &[u8], dc: &[u8]) -> bool {
@@ -32,29 +52,24 @@ fn keep_parts() -> bool {
     console::keep_part(4)
 }
 
-fn save(psn: Psn, user: &[u8], side: &[u8], dc: &[u32]) {
-    let mut dc_bytes = console::dc_bytes();
-    notation::bytes_of(dc, &mut dc_bytes);
-    if write_parts(user, side, &dc_bytes) {
+fn save(user: &[u8], side: &[u8], dc: &[u8], text: Text) {
+    if write_parts(user, side, dc) {
         if keep_parts() {
-            io::print_hex(1, psn.0 as u64, 8);
-            io::write_all(1, b"\n");
+            console::print(text);
         }
     }
 }
 
 fn decode(image: &[u8]) {
-    let mut user = console::user_bytes();
-    let mut side = console::side_bytes();
-    let mut dc = console::dc_words();
-    let mut work = console::work_bytes();
-    let read = reader::read_image(image, &mut user, &mut side, &mut dc, &mut work);
-    let answer = read.answer;
-    let psn = read.psn;
-    if answer.is_done() {
-        save(psn, &user, &side, &dc);
+    let mut user = commands::user_bytes();
+    let mut side = commands::side_bytes();
+    let mut dc = commands::dc_bytes();
+    let said = commands::decode(image, &mut user, &mut side, &mut dc);
+    let text = said.text;
+    if said.keep {
+        save(&user, &side, &dc, text);
     } else {
-        console::print_answer(answer);
+        console::print(text);
     }
 }
 
@@ -63,8 +78,10 @@ fn main() {
         io::write_all(1, b"usage: decode IMAGE USER SIDE DC\n");
         return;
     }
-    let mut image = console::image_bytes();
-    if console::load(1, &mut image) {
-        decode(&image);
+    let mut image = commands::image_bytes();
+    if names_apart() {
+        if console::load(1, &mut image) {
+            decode(&image);
+        }
     }
 }

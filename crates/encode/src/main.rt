@@ -1,7 +1,18 @@
 // encode PSN USER SIDE DC IMAGE: the image of a cluster, written from files. `-` for SIDE or DC is zeros.
 use address::Psn;
-use answer::Answer;
 use notation::PsnText;
+use report::Text;
+
+// IMAGE is none of the files that are read.
+fn names_apart() -> bool {
+    if !console::not_over(2, 5) {
+        return false;
+    }
+    if !console::not_over_unless_dash(3, 5) {
+        return false;
+    }
+    console::not_over_unless_dash(4, 5)
+}
 
 // The user bytes, the side data and the bytes of the dc words.
 fn load(user: &mut [u8], side: &mut [u8], dc: &mut [u8]) -> bool {
@@ -15,32 +26,30 @@ fn load(user: &mut [u8], side: &mut [u8], dc: &mut [u8]) -> bool {
 }
 
 // The image gets its name only when all of it is written; then the answer is said.
-fn save(image: &[u8], answer: Answer) {
+fn save(image: &[u8], text: Text) {
     if console::write_part(5, image) {
         if console::keep_part(5) {
-            console::print_answer(answer);
+            console::print(text);
         }
     }
 }
 
-fn write(psn: Psn, user: &[u8], side: &[u8], dc: &[u32]) {
-    let mut image = console::image_bytes();
-    let mut work = console::work_bytes();
-    let answer = writer::write_image(user, psn, side, dc, &mut image, &mut work);
-    if answer.is_done() {
-        save(&image, answer);
+fn write(psn: Psn, user: &[u8], side: &[u8], dc: &[u8]) {
+    let mut image = commands::image_bytes();
+    let said = commands::encode(psn, user, side, dc, &mut image);
+    let text = said.text;
+    if said.keep {
+        save(&image, text);
     } else {
-        console::print_answer(answer);
+        console::print(text);
     }
 }
 
 fn encode(psn: Psn) {
-    let mut user = console::user_bytes();
-    let mut side = console::side_bytes();
-    let mut dc_bytes = console::dc_bytes();
-    let mut dc = console::dc_words();
-    if load(&mut user, &mut side, &mut dc_bytes) {
-        notation::words_of(&dc_bytes, &mut dc);
+    let mut user = commands::user_bytes();
+    let mut side = commands::side_bytes();
+    let mut dc = commands::dc_bytes();
+    if load(&mut user, &mut side, &mut dc) {
         write(psn, &user, &side, &dc);
     }
 }
@@ -54,7 +63,11 @@ fn main() {
     let n = os::arg(1, &mut text);
     let psn = notation::psn_of(&text[..n]);
     match psn {
-        PsnText::Number(psn) => encode(psn),
+        PsnText::Number(psn) => {
+            if names_apart() {
+                encode(psn);
+            }
+        }
         PsnText::NoNumber => {
             io::write_all(1, b"usage: a PSN is eight hexadecimal digits\n");
         }

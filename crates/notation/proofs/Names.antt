@@ -1,13 +1,15 @@
--- `.part` behind a name, and `-`. Assumes nothing.
+-- `-`, names with the same bytes, and `.part` behind a name. Assumes nothing.
 use mathlib.Core.Path.{_≡_, refl, sym, ap, _∙_}
-use mathlib.Core.Bool.{false}
+use mathlib.Core.Bool.{true, false}
+use mathlib.Core.Logic.{_↔_}
 use mathlib.Core.List.{List, _++_}
 use Prim.Native.Nat.{ℕ, suc, _+_, _-_, _<_, _≤_}
 use native.Mathlib.Omega.{arith}
+use borrow.Author.Count.{below-more}
 use borrow.Author.Tests.{eq-eqb, ne-eqb, le-leb, lt-leb}
 use lib.Dec.{eqb}
 use lib.ListN.{length, getD, set, take, drop}
-use lib.Seq.{sets, sets-eq, length-sets, length-take-le}
+use lib.Seq.{ext-getD, sets, sets-eq, length-sets, length-take-le}
 use Rattle.io.specs.Counts.{Counts}
 use Rattle.notation.specs.Names.{isDash, ending, partAdded, partLength}
 
@@ -17,6 +19,31 @@ module _ (name : List ℕ) where
 
   pub one-byte : length name ≡ 1 → eqb (getD name 0 0) 45 ≡ isDash name
   one-byte h = rw (eq-eqb (length name) 1 h)
+
+-- two names of one length that agree below k
+pub record Agree (a b : List ℕ) (k : ℕ) : Type 0 where
+  pub size : length a ≡ length b
+  pub agree : (i : ℕ) → i < k → getD a i 0 ≡ getD b i 0
+
+module _ (a b : List ℕ) where
+  pub agree-none : length a ≡ length b → Agree a b 0
+  agree-none h = record { size = h; agree = λ i l. absurd (omega arith) }
+
+  pub agree-more : (k : ℕ) → Agree a b k → getD a k 0 ≡ getD b k 0 → Agree a b (k + 1)
+  agree-more k s e = record { size = s .size; agree = below-more (λ i. getD a i 0 ≡ getD b i 0) k (s .agree) e }
+
+  pub all-agree : (k : ℕ) → Agree a b k → length a ≤ k → (true ≡ true) ↔ (a ≡ b)
+  all-agree k s h = (λ _. ext-getD 0 a b (s .size) (λ i l. s .agree i (omega arith)), λ _. refl)
+
+  -- what differs is no equal name
+  no-name : (a ≡ b → ⊥) → (false ≡ true) ↔ (a ≡ b)
+  no-name h = (λ e. let z : _≡_ {A = ℕ} 0 1 = cc in absurd (omega arith), λ e. absurd (h e))
+
+  pub other-length : (length a ≡ length b → ⊥) → (false ≡ true) ↔ (a ≡ b)
+  other-length h = no-name (λ e. h (ap length e))
+
+  pub other-byte : (k : ℕ) → (getD a k 0 ≡ getD b k 0 → ⊥) → (false ≡ true) ↔ (a ≡ b)
+  other-byte k h = no-name (λ e. h (ap (λ (l : List ℕ). getD l k 0) e))
 
 -- the five stores
 abbrev pub stored : List ℕ → ℕ → List ℕ

@@ -1,6 +1,8 @@
 // How the programs' arguments and files write a PSN, the dc words and file names.
 use address::Psn;
 ghost use mathlib.Core.Path.{_≡_};
+ghost use mathlib.Core.Bool.{true};
+ghost use mathlib.Core.Logic.{_↔_};
 ghost use Prim.Native.Nat.{_<_};
 ghost use lib.ListN.{length};
 ghost use Rattle.io.specs.Counts.{Counts};
@@ -116,6 +118,23 @@ pub fn is_dash(path: &[u8]) -> bool
         return false;
     }
     path[0] == b'-'
+}
+
+// Whether two names have the same bytes.
+pub fn same_name(a: &[u8], b: &[u8]) -> bool
+    ensures { λ r. ⌜ ((r ≡ true) ↔ (now (a .entry) ≡ now (b .entry))) ⌝ }
+{
+    if a.len() != b.len() {
+        return false;
+    }
+    let mut k = 0;
+    while k < a.len() {
+        if a[k] != b[k] {
+            return false;
+        }
+        k += 1;
+    }
+    true
 }
 
 // `.part` behind the first n bytes of name; how many there are then, 0 where there is no room.

@@ -1,0 +1,2 @@
+-- What the commands show of what they call.
+pub mod Commands

@@ -1,0 +1,2 @@
+-- The programs' commands.
+pub mod Commands

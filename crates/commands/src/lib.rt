@@ -1,0 +1,124 @@
+// What the programs do between their files, on slices: encode, decode, mark and tally.
+use address::Psn;
+use report::Text;
+ghost use mathlib.Core.Path.{_≡_};
+ghost use mathlib.Core.Logic.{_↔_};
+ghost use lib.ListN.{length};
+ghost use Rattle.gaps.specs.Tally.{tallied};
+ghost use Rattle.marker.specs.Marked.{IsImageOf};
+ghost use Rattle.report.specs.Text.{the, zeros, textOf};
+ghost use Rattle.report.specs.Words.{tallyText};
+ghost use Rattle.commands.specs.Commands.{Encoded, encoded, Decoded, decoded, markText};
+
+// Whether what was made is to be kept, and what is printed.
+pub struct Said {
+    pub keep: bool,
+    pub text: Text,
+}
+
+// ---- buffers, zero
+
+pub fn user_bytes() -> [u8; 65536]
+    ensures { λ r. ⌜ (length r ≡ 65536) × (r ≡ zeros 65536) ⌝ }
+{
+    [0u8; 65536]
+}
+
+pub fn side_bytes() -> [u8; 592]
+    ensures { λ r. ⌜ (length r ≡ 592) × (r ≡ zeros 592) ⌝ }
+{
+    [0u8; 592]
+}
+
+pub fn dc_words() -> [u32; 496]
+    ensures { λ r. ⌜ (length r ≡ 496) × (r ≡ zeros 496) ⌝ }
+{
+    [0u32; 496]
+}
+
+pub fn dc_bytes() -> [u8; 1984]
+    ensures { λ r. ⌜ (length r ≡ 1984) × (r ≡ zeros 1984) ⌝ }
+{
+    [0u8; 1984]
+}
+
+pub fn image_bytes() -> [u8; 119788]
+    ensures { λ r. ⌜ (length r ≡ 119788) × (r ≡ zeros 119788) ⌝ }
+{
+    [0u8; 119788]
+}
+
+pub fn work_bytes() -> [u8; 76880]
+    ensures { λ r. ⌜ (length r ≡ 76880) × (r ≡ zeros 76880) ⌝ }
+{
+    [0u8; 76880]
+}
+
+// ---- the commands
+
+// The image of a cluster; the dc words are four bytes each, high byte first.
+pub fn encode(psn: Psn, user: &[u8], side: &[u8], dc: &[u8], image: &mut [u8]) -> Said
+    ensures { λ r. ⌜ record { keep = r .keep; text = r .text; image = now (image .exit) }
+        ≡ encoded (psn .0) (now (user .entry)) (now (side .entry)) (now (dc .entry)) (now (image .entry)) ⌝ }
+{
+    let mut words = dc_words();
+    let mut work = work_bytes();
+    notation::words_of(dc, &mut words);
+    let answer = writer::write_image(user, psn, side, &words, image, &mut work);
+    Said {
+        keep: answer.is_done(),
+        text: report::answer_text(answer),
+    }
+}
+
+// What an image was made of.
+pub fn decode(image: &[u8], user: &mut [u8], side: &mut [u8], dc: &mut [u8]) -> Said
+    ensures { λ r. ⌜ record { keep = r .keep; text = r .text; user = now (user .exit); side = now (side .exit); dc = now (dc .exit) }
+        ≡ decoded (now (image .entry)) (now (user .entry)) (now (side .entry)) (now (dc .entry)) ⌝ }
+{
+    let mut words = dc_words();
+    let mut work = work_bytes();
+    let read = reader::read_image(image, user, side, &mut words, &mut work);
+    let answer = read.answer;
+    let psn = read.psn;
+    if answer.is_done() {
+        notation::bytes_of(&words, dc);
+        return Said {
+            keep: true,
+            text: report::psn_text(psn),
+        };
+    }
+    Said {
+        keep: false,
+        text: report::answer_text(answer),
+    }
+}
+
+// Whether an image is that of these user bytes, this side data and this PSN under some dc words.
+pub fn mark(psn: Psn, user: &[u8], side: &[u8], image: &[u8]) -> Text
+    ensures { λ r. ⌜ r ≡ textOf (markText (psn .0) (now (user .entry)) (now (side .entry)) (now (image .entry))) ⌝ }
+    ensures { λ r. ⌜ ((r ≡ textOf (the "pass\n")) ↔ IsImageOf (psn .0) (now (user .entry)) (now (side .entry)) (now (image .entry))) ⌝ }
+{
+    let mut bytes = user_bytes();
+    let mut control = side_bytes();
+    let mut dc = dc_words();
+    let mut work = work_bytes();
+    let verdict = marker::mark(
+        psn,
+        user,
+        side,
+        image,
+        &mut bytes,
+        &mut control,
+        &mut dc,
+        &mut work,
+    );
+    report::verdict_text(verdict)
+}
+
+// How often each gap length occurs in the frame that the input gives.
+pub fn tally(input: &[u8]) -> Text
+    ensures { λ r. ⌜ r ≡ textOf (tallyText (tallied (now (input .entry)))) ⌝ }
+{
+    report::tally_text(gaps::tally_of(input))
+}

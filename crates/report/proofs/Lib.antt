@@ -1,0 +1,5 @@
+-- Laws of texts and of printed numbers.
+pub mod Texts
+pub mod Numbers
+pub mod Words
+pub mod Statements

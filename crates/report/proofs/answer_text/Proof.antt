@@ -1,0 +1,50 @@
+-- `answer_text` meets its contract: number, place and meaning (Words).
+use Rattle.report.proofs.Words.{answer-is}
+use borrow.Author.Needs.{needs}
+use Rattle.report.proofs.answer_text.Statement.{statement}
+use Rattle.report.proofs.answer_text.Tie as tie
+
+blank-requires : tie.Need-blank-requires
+blank-requires c κs = search needs
+
+number-requires : tie.Need-number-requires
+number-requires c κs = search needs
+
+cast-put-decimal : tie.Need-cast-put-decimal
+cast-put-decimal c = search needs
+
+put-decimal-requires : tie.Need-put-decimal-requires
+put-decimal-requires c κs = search needs
+
+slice-aggregate-put-place : tie.Need-slice-aggregate-put-place
+slice-aggregate-put-place c = search needs
+
+place-requires : tie.Need-place-requires
+place-requires c κs = search needs
+
+slice-aggregate-put-place-2 : tie.Need-slice-aggregate-put-place-2
+slice-aggregate-put-place-2 c = search needs
+
+put-place-requires : tie.Need-put-place-requires
+put-place-requires c κs = search needs
+
+put-meaning-requires : tie.Need-put-meaning-requires
+put-meaning-requires c κs = search needs
+
+returns : tie.Need-returns
+returns c = search (answer-is)
+
+pub answer-text-spec : {M : Type 1} → statement M
+answer-text-spec =
+    tie.close
+    (tie.spec
+    blank-requires
+    number-requires
+    cast-put-decimal
+    put-decimal-requires
+    slice-aggregate-put-place
+    place-requires
+    slice-aggregate-put-place-2
+    put-place-requires
+    put-meaning-requires
+    returns)

@@ -1,0 +1,112 @@
+-- `verdict_text` meets its contract: the words of each verdict (Words).
+use Rattle.report.proofs.Words.{verdict-is, refused-is}
+use Rattle.report.specs.Words.{verdictText}
+use borrow.Author.Needs.{needs}
+use Rattle.report.proofs.verdict_text.Statement.{statement}
+use Rattle.report.proofs.verdict_text.Tie as tie
+
+enum-told : tie.Need-enum-told
+enum-told c = search needs
+
+blank-requires : tie.Need-blank-requires
+blank-requires c κs = search needs
+
+slice-aggregate-put : tie.Need-slice-aggregate-put
+slice-aggregate-put c = search needs
+
+put-requires : tie.Need-put-requires
+put-requires c κs = search needs
+
+enum-known-verdict : tie.Need-enum-known-verdict
+enum-known-verdict c = search needs
+
+answer-text-requires : tie.Need-answer-text-requires
+answer-text-requires c κs = search needs
+
+enum-known-verdict-2 : tie.Need-enum-known-verdict-2
+enum-known-verdict-2 c = search needs
+
+slice-aggregate-psn-behind : tie.Need-slice-aggregate-psn-behind
+slice-aggregate-psn-behind c = search needs
+
+psn-behind-requires : tie.Need-psn-behind-requires
+psn-behind-requires c κs = search needs
+
+enum-known-verdict-3 : tie.Need-enum-known-verdict-3
+enum-known-verdict-3 c = search needs
+
+blank-requires-2 : tie.Need-blank-requires-2
+blank-requires-2 c κs = search needs
+
+slice-aggregate-put-place : tie.Need-slice-aggregate-put-place
+slice-aggregate-put-place c = search needs
+
+slice-aggregate-put-place-2 : tie.Need-slice-aggregate-put-place-2
+slice-aggregate-put-place-2 c = search needs
+
+put-place-requires : tie.Need-put-place-requires
+put-place-requires c κs = search needs
+
+enum-known-verdict-4 : tie.Need-enum-known-verdict-4
+enum-known-verdict-4 c = search needs
+
+blank-requires-3 : tie.Need-blank-requires-3
+blank-requires-3 c κs = search needs
+
+slice-aggregate-put-place-3 : tie.Need-slice-aggregate-put-place-3
+slice-aggregate-put-place-3 c = search needs
+
+slice-aggregate-put-place-4 : tie.Need-slice-aggregate-put-place-4
+slice-aggregate-put-place-4 c = search needs
+
+put-place-requires-2 : tie.Need-put-place-requires-2
+put-place-requires-2 c κs = search needs
+
+returns : tie.Need-returns
+unfolding verdictText
+returns c = search (verdict-is)
+
+returns-2 : tie.Need-returns-2
+unfolding verdictText
+returns-2 c = search (refused-is)
+
+returns-3 : tie.Need-returns-3
+unfolding verdictText
+returns-3 c = search (verdict-is)
+
+returns-4 : tie.Need-returns-4
+unfolding verdictText
+returns-4 c = search (verdict-is)
+
+returns-5 : tie.Need-returns-5
+unfolding verdictText
+returns-5 c = search (verdict-is)
+
+pub verdict-text-spec : {M : Type 1} → statement M
+verdict-text-spec =
+    tie.close
+    (tie.spec
+    enum-told
+    blank-requires
+    slice-aggregate-put
+    put-requires
+    enum-known-verdict
+    answer-text-requires
+    enum-known-verdict-2
+    slice-aggregate-psn-behind
+    psn-behind-requires
+    enum-known-verdict-3
+    blank-requires-2
+    slice-aggregate-put-place
+    slice-aggregate-put-place-2
+    put-place-requires
+    enum-known-verdict-4
+    blank-requires-3
+    slice-aggregate-put-place-3
+    slice-aggregate-put-place-4
+    put-place-requires-2
+    returns
+    returns-2
+    returns-3
+    returns-4
+    returns-5)

@@ -1,0 +1,63 @@
+-- What is printed for an answer, a verdict, a PSN and a tally.
+use mathlib.Core.Bool.{cond}
+use mathlib.Core.List.{List, [], _∷_, _++_}
+use Prim.Native.Nat.{ℕ, suc}
+use Rattle.answer.specs.declared.Answer.{Answer}
+use Rattle.answer.specs.declared.Answer.the-variants.{Done, WrongUser, WrongSide, WrongDc, WrongImage, WrongWork, NoMultiple, NoZone, DcWord, LastBits, Sync, Frame, BisColumn, AddressUnit, NoPsn, LdcColumn, Sector}
+use Rattle.answer.specs.Answer.{numberOf, placeOf}
+use Rattle.gaps.specs.declared.Tally.{Tally}
+use Rattle.marker.specs.declared.Verdict.{Verdict}
+use Rattle.marker.specs.declared.Verdict.the-variants.{Pass, Refused, OtherPsn, OtherUser, OtherSide}
+use Rattle.report.specs.Text.{the}
+use Rattle.report.specs.Numbers.{decimal, hexadecimal}
+
+-- ---- answers
+
+-- what an answer means, in a line; none for 0
+abbrev pub meaning : Answer → List ℕ
+meaning Done = []
+meaning WrongUser = the "the user data are not 65536 bytes\n"
+meaning WrongSide = the "the side data are not 592 bytes\n"
+meaning WrongDc = the "there are not 496 dc words\n"
+meaning WrongImage = the "the image is not 119788 bytes\n"
+meaning WrongWork = the "the work slice is not 76880 bytes\n"
+meaning NoMultiple = the "the PSN is no multiple of 32\n"
+meaning NoZone = the "the PSN lies in no data zone\n"
+meaning (DcWord n) = the "dc word " ++ decimal n ++ the " is above 0FFFFFFF\n"
+meaning LastBits = the "the last two bits are not zero\n"
+meaning (Sync n) = the "the frame sync of frame " ++ decimal n ++ the " is wrong\n"
+meaning (Frame n) = the "no bits give frame " ++ decimal n ++ the " and the # behind it\n"
+meaning (BisColumn n) = the "BIS column " ++ decimal n ++ the " has a wrong parity\n"
+meaning (AddressUnit n) = the "the address field of unit " ++ decimal n ++ the " has a wrong parity\n"
+meaning NoPsn = the "no accepted PSN has these address unit numbers\n"
+meaning (LdcColumn n) = the "LDC column " ++ decimal n ++ the " has a wrong parity\n"
+meaning (Sector n) = the "sector " ++ decimal n ++ the " has a wrong error-detection code\n"
+
+-- number and place in a line, then what they mean
+unfoldable pub answerText : Answer → List ℕ
+answerText a = decimal (numberOf a) ++ the " " ++ decimal (placeOf a) ++ the "\n" ++ meaning a
+
+-- ---- PSNs and verdicts
+
+unfoldable pub psnText : ℕ → List ℕ
+psnText psn = hexadecimal psn ++ the "\n"
+
+unfoldable pub verdictText : Verdict → List ℕ
+verdictText Pass = the "pass\n"
+verdictText (Refused a) = answerText a
+verdictText (OtherPsn psn) = the "the PSN differs: the image has " ++ psnText (psn .0)
+verdictText (OtherUser n) = the "user byte " ++ decimal n ++ the " differs\n"
+verdictText (OtherSide n) = the "side byte " ++ decimal n ++ the " differs\n"
+
+-- ---- the tally's table (document 01)
+
+unfoldable pub row : ℕ → ℕ → List ℕ
+row gap count = decimal gap ++ the " " ++ decimal count ++ the "\n"
+
+-- the rows of the gap lengths from n on
+unfoldable pub rowsFrom : ℕ → List ℕ → List ℕ
+rowsFrom n [] = []
+rowsFrom n (x ∷ counts) = row n x ++ rowsFrom (suc n) counts
+
+unfoldable pub tallyText : Tally → List ℕ
+tallyText tally = cond (tally .accepted) (the "gap count\n" ++ rowsFrom 1 (tally .counts)) (the "refused\n")

@@ -1,0 +1,71 @@
+// Every answer, verdict and tally in words, and PSNs.
+use address::Psn;
+use answer::Answer;
+use gaps::Tally;
+use marker::Verdict;
+
+fn print_answer(answer: Answer) {
+    console::print(report::answer_text(answer));
+}
+
+fn lengths_and_psn() {
+    print_answer(Answer::Done);
+    print_answer(Answer::WrongUser);
+    print_answer(Answer::WrongSide);
+    print_answer(Answer::WrongDc);
+    print_answer(Answer::WrongImage);
+    print_answer(Answer::WrongWork);
+    print_answer(Answer::NoMultiple);
+    print_answer(Answer::NoZone);
+    print_answer(Answer::DcWord(495));
+}
+
+fn images() {
+    print_answer(Answer::LastBits);
+    print_answer(Answer::Sync(496));
+    print_answer(Answer::Frame(100));
+    print_answer(Answer::BisColumn(23));
+    print_answer(Answer::AddressUnit(15));
+    print_answer(Answer::NoPsn);
+    print_answer(Answer::LdcColumn(303));
+    print_answer(Answer::Sector(31));
+}
+
+// The longest place.
+fn longest() {
+    print_answer(Answer::AddressUnit(18446744073709551615));
+}
+
+fn verdicts() {
+    console::print(report::verdict_text(Verdict::Pass));
+    console::print(report::verdict_text(Verdict::Refused(Answer::Frame(4))));
+    console::print(report::verdict_text(Verdict::OtherPsn(Psn(0x00A8_13E0))));
+    console::print(report::verdict_text(Verdict::OtherUser(65535)));
+    console::print(report::verdict_text(Verdict::OtherSide(0)));
+}
+
+fn psns() {
+    console::print(report::psn_text(Psn(0)));
+    console::print(report::psn_text(Psn(0x0010_0000)));
+    console::print(report::psn_text(Psn(0xFEDC_BA98)));
+}
+
+fn tallies() {
+    console::print(report::tally_text(Tally {
+        accepted: true,
+        counts: [0, 9, 10, 160, 319, 4294967295, 1000000000, 2],
+    }));
+    console::print(report::tally_text(Tally {
+        accepted: false,
+        counts: [1, 2, 3, 4, 5, 6, 7, 8],
+    }));
+}
+
+fn main() {
+    lengths_and_psn();
+    images();
+    longest();
+    verdicts();
+    psns();
+    tallies();
+}
