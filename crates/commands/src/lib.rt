@@ -120,5 +120,6 @@ pub fn mark(psn: Psn, user: &[u8], side: &[u8], image: &[u8]) -> Text
 pub fn tally(input: &[u8]) -> Text
     ensures { λ r. ⌜ r ≡ textOf (tallyText (tallied (now (input .entry)))) ⌝ }
 {
-    report::tally_text(gaps::tally_of(input))
+    let tally = gaps::tally_of(input);
+    report::tally_text(tally)
 }

@@ -2,4 +2,5 @@
 pub mod Texts
 pub mod Numbers
 pub mod Words
+pub mod Distinct
 pub mod Statements
