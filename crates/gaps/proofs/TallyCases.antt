@@ -8,14 +8,13 @@ use borrow.Author.Tests.{eq-eqb, ne-eqb, lt-ltb, le-ltb}
 use lib.Dec.{eqb, ltb}
 use lib.ListN.{length, getD, take, drop, length-drop}
 use lib.Seq.{take-all}
-use Rattle.modulation.proofs.Fronts.{bits-groups}
-use Rattle.bits.specs.Bits.{Bits}
 use Rattle.frame.specs.Sync.{fs}
-use Rattle.frame.specs.Frame.{frame, frameGroups}
+use Rattle.frame.specs.Frame.{frame}
 use Rattle.frame.proofs.Frame.{length-frame}
 use Rattle.gaps.specs.declared.Tally.{Tally}
 use Rattle.gaps.specs.Gaps.{gapCounts, gapAt, howMany}
 use Rattle.gaps.specs.Tally.{dcIn, accepted, refusal, frameIn, tallied, inputOf}
+use Rattle.gaps.proofs.FrameCounted.{bits-frame}
 use Rattle.gaps.proofs.Neighbours.{counts-often}
 
 and-false : (a b : Bool) → b ≡ false → (a && b) ≡ false
@@ -65,11 +64,8 @@ pub tallied-often : (input : List ℕ) → accepted input ≡ true → (k : ℕ)
 unfolding tallied
 tallied-often input e k h =
     ap (λ (t : Bool). getD (cond t (record { accepted = true; counts = gapCounts (frameIn input) }) refusal .counts) k 0) e
-    ∙ counts-often (frameIn input) all k h
+    ∙ counts-often (frameIn input) (bits-frame _ _ _ _) k h
     ∙ ap (λ (m : ℕ). howMany m (gapAt (frameIn input) (suc k))) (length-frame _ _ _ _)
-  where
-    all : Bits (frameIn input)
-    all = unfold frame in bits-groups (frameGroups (eqb (getD input 0 0) 1) (fs (getD input 1 0)) (drop 6 input) (dcIn input))
 
 -- of the bytes that give a frame: its gap counts
 module _ (hash : Bool) (number : ℕ) (row : List ℕ) (dc : ℕ) (size : length row ≡ 155) (few : number < 7) (small : dc < 2 ^ 28) where
