@@ -15,7 +15,7 @@ use Rattle.answer.specs.declared.Answer.{Answer}
 use Rattle.answer.specs.declared.Answer.the-variants.{Done, DcWord}
 use Rattle.answer.specs.Answer.{numberOf, placeOf, isDone, lowest}
 use Rattle.answer.proofs.Tests.{number-zero, done-or-not, then-next, right-lengths, lowest-none}
-use Rattle.writer.specs.Outcome.{psnAnswer, tooLarge, firstTooLarge, partsAnswer, answer, outcome}
+use Rattle.writer.specs.Outcome.{psnAnswer, tooLarge, firstTooLarge, partsAnswer, answer, Outcome, outcome}
 use Rattle.writer.specs.Promise.{WellFormed, WritesExactly}
 use Rattle.writer.proofs.Judging.{passed-all}
 
@@ -66,10 +66,9 @@ module _ (input : Input) (before work : List ℕ) (bytes : Bytes (input .user)) 
       let done = done-is w in
       (ap placeOf done, ap (λ (a : Answer). cond (isDone a) (image input) before) done, ap (λ (a : Answer). cond (isDone a) (cluster input) work) done)
 
-  -- as the contract has it: a, i and w are the answer and the slices at exit
-  pub with-exactly : (a : Answer) (i w : List ℕ) → record { answer = a; image = i; work = w } ≡ outcome input before work
-      → (record { answer = a; image = i; work = w } ≡ outcome input before work) × WritesExactly input before work (record { answer = a; image = i; work = w })
-  with-exactly a i w e = (e, subst (WritesExactly input before work) (sym e) exactly)
+  -- as the contract has it: o is the answer and the slices at exit
+  pub with-exactly : {o : Outcome} → o ≡ outcome input before work → (o ≡ outcome input before work) × WritesExactly input before work o
+  with-exactly e = (e, subst (WritesExactly input before work) (sym e) exactly)
     where
       exactly : WritesExactly input before work (outcome input before work)
       exactly =
