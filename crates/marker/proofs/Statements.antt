@@ -18,8 +18,8 @@ use Rattle.answer.proofs.Tests.{done-is}
 use Rattle.image.specs.Image as Image
 use Rattle.image.specs.Image.{Input, IsAccepted}
 use Rattle.reader.specs.Outcome.{Lent, Outcome, outcome}
-use Rattle.reader.specs.Promise.{Fitting, returned}
-use Rattle.reader.proofs.Statements.{Right, read-back, nothing-else}
+use Rattle.reader.specs.Promise.{Fitting}
+use Rattle.reader.proofs.Statements.{Right, returned, read-back, nothing-else}
 use Rattle.marker.specs.declared.Verdict.{Verdict}
 use Rattle.marker.specs.declared.Verdict.the-variants.{Pass, Refused, OtherPsn, OtherUser, OtherSide}
 use Rattle.marker.specs.Marked.{IsImageOf, givenAnswer, other, firstOther, compared, verdictOf, judged, Marked, marked}

@@ -36,7 +36,7 @@ use Rattle.image.proofs.Demand3.{image-bits, image-size}
 use Rattle.image.proofs.Statements.{zeros, zeros-accepted}
 use Rattle.reader.specs.Reading.{lastZero, wrongSync, firstWrongSync, modulatedAt, hashBehind, noFrame, firstNoFrame, frameBitsIn, clusterIn}
 use Rattle.reader.specs.Outcome.{framesAnswer, psnAnswer, blockAnswer, dataAnswer, psnOf, clusterAnswer, imageAnswer, Lent, Outcome, accepted, cleared, judgedOutcome, sizesAnswer, outcome}
-use Rattle.reader.specs.Promise.{Fitting, returned, given, IsReturned, ReadsExactly}
+use Rattle.reader.specs.Promise.{Fitting, asInput, IsReturned, ReadsExactly}
 use Rattle.reader.proofs.Clusters.{read-psn, reads-done, done-reads}
 use Rattle.reader.proofs.Writing.{last-zero, right-syncs, all-frames, cluster-there, dc-there}
 use Rattle.reader.proofs.Accepting.{Passes, length-work, bytes-work, length-dc, dc-small, image-there}
@@ -108,6 +108,14 @@ Right before = Sizes (length (before .user)) (length (before .side)) (length (be
 
 length-image : (input : Input) → length (image input) ≡ 119788
 length-image input = omega (arith, B.length-bits (image input), ap (length {A = ℕ}) (image-bits input), length-append (imageBits input) (0 ∷ 0 ∷ []), image-size false input)
+
+-- what is returned, as an input
+abbrev pub returned : Outcome → Input
+returned o = asInput (o .psn) (o .lent)
+
+-- what reading gives of an input: number and place are 0, exactly the input comes back, work is its ECC cluster
+abbrev pub given : Input → Outcome
+given input = record { answer = Done; psn = input .psn; lent = record { user = input .user; side = input .side; dc = input .dc; work = cluster input } }
 
 -- ---- READING A WRITTEN IMAGE: the answer is 0, 0, and exactly the input comes back, work its ECC cluster
 
@@ -235,16 +243,19 @@ module _ (l : List ℕ) (before : Lent) (bytes : Bytes l) where
       ap (λ (x : List ℕ). outcome x before .lent .work) (made .1) ∙ ap (λ (o : Outcome). o .lent .work) (read-back (returned (outcome l before)) (made .0) before right)
 
   -- as the contract has it: o is the answer, the PSN and the slices at exit
-  pub with-exactly : {o : Outcome} → o ≡ outcome l before → (o ≡ outcome l before) × ReadsExactly l before o
-  with-exactly e = (e, subst (ReadsExactly l before) (sym e) exactly)
+  pub with-exactly : {o : Outcome} → o ≡ outcome l before → (o ≡ outcome l before) × ReadsExactly l before (numberOf (o .answer)) (o .psn) (o .lent)
+  with-exactly e = (e, subst (λ (o : Outcome). ReadsExactly l before (numberOf (o .answer)) (o .psn) (o .lent)) (sym e) exactly)
     where
-      exactly : ReadsExactly l before (outcome l before)
+      back : Fitting before → (input : Input) → IsAccepted input → l ≡ image input → outcome l before ≡ given input
+      back f input is h =
+          ap (λ (x : List ℕ). outcome x before) h
+          ∙ read-back input is before (record { user = f .user; side = f .side; dc = f .dc; image = refl; work = f .work })
+
+      exactly : ReadsExactly l before (numberOf (outcome l before .answer)) (outcome l before .psn) (outcome l before .lent)
       exactly =
           record {
             only = λ z. record { accepted = nothing-else z .0; image-is = nothing-else z .1; work-is = work-there z };
-            always = λ f input is h.
-                ap (λ (x : List ℕ). outcome x before) h
-                ∙ read-back input is before (record { user = f .user; side = f .side; dc = f .dc; image = refl; work = f .work });
+            always = λ f input is h. (ap (λ (o : Outcome). numberOf (o .answer)) (back f input is h), ap returned (back f input is h));
           }
 
 -- the image of the cluster of zeros is read

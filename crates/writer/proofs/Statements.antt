@@ -67,17 +67,11 @@ module _ (input : Input) (before work : List ℕ) (bytes : Bytes (input .user)) 
       (ap placeOf done, ap (λ (a : Answer). cond (isDone a) (image input) before) done, ap (λ (a : Answer). cond (isDone a) (cluster input) work) done)
 
   -- as the contract has it: o is the answer and the slices at exit
-  pub with-exactly : {o : Outcome} → o ≡ outcome input before work → (o ≡ outcome input before work) × WritesExactly input before work o
-  with-exactly e = (e, subst (WritesExactly input before work) (sym e) exactly)
+  pub with-exactly : {o : Outcome} → o ≡ outcome input before work → (o ≡ outcome input before work) × WritesExactly input before work (numberOf (o .answer)) (o .image) (o .work)
+  with-exactly e = (e, subst (λ (o : Outcome). WritesExactly input before work (numberOf (o .answer)) (o .image) (o .work)) (sym e) exactly)
     where
-      exactly : WritesExactly input before work (outcome input before work)
-      exactly =
-          record {
-            zero-iff = encoded;
-            place = λ z. filled (encoded .0 z) .0;
-            image-is = λ z. filled (encoded .0 z) .1;
-            work-is = λ z. filled (encoded .0 z) .2;
-          }
+      exactly : WritesExactly input before work (numberOf (outcome input before work .answer)) (outcome input before work .image) (outcome input before work .work)
+      exactly = record { zero-iff = encoded; image-is = λ z. filled (encoded .0 z) .1; work-is = λ z. filled (encoded .0 z) .2 }
 
 -- any other number leaves both slices as they were
 pub untouched : (input : Input) (before work : List ℕ) → (numberOf (outcome input before work .answer) ≡ 0 → ⊥)

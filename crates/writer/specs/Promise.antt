@@ -4,9 +4,7 @@ use mathlib.Core.Logic.{_↔_}
 use mathlib.Core.List.{List}
 use Prim.Native.Nat.{ℕ}
 use lib.ListN.{length}
-use Rattle.answer.specs.Answer.{numberOf, placeOf}
 use Rattle.image.specs.Image.{Input, IsAccepted, cluster, image}
-use Rattle.writer.specs.Outcome.{Outcome}
 
 -- an accepted input, and slices of the image's and the ECC cluster's lengths
 pub record WellFormed (input : Input) (before work : List ℕ) : Type 0 where
@@ -14,9 +12,8 @@ pub record WellFormed (input : Input) (before work : List ℕ) : Type 0 where
   pub image-size : length before ≡ 119788
   pub work-size : length work ≡ 76880
 
--- o is the answer and the two slices at exit, which were `before` and `work`
-pub record WritesExactly (input : Input) (before work : List ℕ) (o : Outcome) : Type 0 where
-  pub zero-iff : (numberOf (o .answer) ≡ 0) ↔ WellFormed input before work
-  pub place : numberOf (o .answer) ≡ 0 → placeOf (o .answer) ≡ 0
-  pub image-is : numberOf (o .answer) ≡ 0 → o .image ≡ image input
-  pub work-is : numberOf (o .answer) ≡ 0 → o .work ≡ cluster input
+-- the number returned; the two lent slices were `before` and `work`, and are `after` and `made`
+pub record WritesExactly (input : Input) (before work : List ℕ) (number : ℕ) (after made : List ℕ) : Type 0 where
+  pub zero-iff : (number ≡ 0) ↔ WellFormed input before work
+  pub image-is : number ≡ 0 → after ≡ image input
+  pub work-is : number ≡ 0 → made ≡ cluster input
