@@ -2,12 +2,13 @@
 use mathlib.Core.Bool.{Bool, true, false, _&&_, cond}
 use mathlib.Core.List.{List}
 use mathlib.Core.Path.{_≡_, refl, sym, ap, ap₂, _∙_}
-use Prim.Native.Nat.{ℕ, suc, _+_, _*_, _-_, _/_, _%_, _^_, _<_, _≤_}
+use Prim.Native.Nat.{ℕ, zero, suc, _+_, _*_, _-_, _/_, _%_, _^_, _<_, _≤_}
 use native.Mathlib.Omega.{arith}
 use borrow.Author.Tests.{eq-eqb, ne-eqb, lt-ltb, le-ltb}
 use lib.Dec.{eqb, ltb}
 use lib.ListN.{length, getD, take, drop, length-drop}
 use lib.Seq.{take-all}
+use Rattle.laws.specs.Bytes.{Bytes}
 use Rattle.frame.specs.Sync.{fs}
 use Rattle.frame.specs.Frame.{frame}
 use Rattle.frame.proofs.Frame.{length-frame}
@@ -90,3 +91,17 @@ module _ (hash : Bool) (number : ℕ) (row : List ℕ) (dc : ℕ) (size : length
   frame-tallied =
       ap (λ (t : Bool). cond t (record { accepted = true; counts = gapCounts (frameIn (inputOf hash number row dc)) }) refusal) given
       ∙ ap₂ (λ (h : Bool) (d : ℕ). record { accepted = true; counts = gapCounts (frame h (fs number) row d) }) (same-hash hash .0) same-dc
+
+  -- and they are bytes
+  pub bytes-input : Bytes row → Bytes (inputOf hash number row dc)
+  bytes-input rest zero = bit hash
+    where
+      bit : (t : Bool) → cond t 1 0 < 256
+      bit true = omega arith
+      bit false = omega arith
+  bytes-input rest (suc zero) = omega arith
+  bytes-input rest (suc (suc zero)) = omega arith
+  bytes-input rest (suc (suc (suc zero))) = omega arith
+  bytes-input rest (suc (suc (suc (suc zero)))) = omega arith
+  bytes-input rest (suc (suc (suc (suc (suc zero))))) = omega arith
+  bytes-input rest (suc (suc (suc (suc (suc (suc i)))))) = rest i

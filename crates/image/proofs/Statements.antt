@@ -1,11 +1,12 @@
 -- An accepted input exists; and what is tallied of a frame is counted in the image. Assumes nothing.
 use mathlib.Core.Path.{_≡_, refl, sym, ap, _∙_}
-use mathlib.Core.Bool.{true, false}
+use mathlib.Core.Bool.{Bool, true, false}
 use mathlib.Core.List.{List, [], _∷_}
-use Prim.Native.Nat.{ℕ, suc, _*_, _<_}
+use Prim.Native.Nat.{ℕ, suc, _*_, _^_, _<_}
 use native.Mathlib.Omega.{arith}
 use lib.ListN.{length, getD, take, drop, length-drop}
 use lib.Seq.{take-append-le, drop-append-le}
+use Rattle.laws.specs.Bytes.{Bytes}
 use Rattle.laws.specs.Tabulate.{tabulate}
 use Rattle.laws.proofs.Tabulate.{length-tabulate, getD-tabulate}
 use Rattle.laws.proofs.Bytes.{bytes-tabulate}
@@ -23,11 +24,11 @@ use Rattle.gaps.specs.Gaps.{gapCounts, gapAt, howMany}
 use Rattle.gaps.specs.Tally.{tallied, inputOf}
 use Rattle.gaps.proofs.FrameCounted.{bits-frame}
 use Rattle.gaps.proofs.Neighbours.{counts-often}
-use Rattle.gaps.proofs.TallyCases.{frame-tallied}
+use Rattle.gaps.proofs.TallyCases.{bytes-input, frame-tallied}
 use Rattle.cluster.specs.EccCluster.{rowOf}
-use Rattle.cluster.proofs.Statements.{length-cluster}
+use Rattle.cluster.proofs.Statements.{length-cluster, bytes-cluster}
 use Rattle.image.specs.Image.{Input, IsAccepted, cluster, recording, imageBitsFrom, imageBits, image}
-use Rattle.image.proofs.Recordings.{length-row, full}
+use Rattle.image.proofs.Recordings.{length-row, bytes-row, full}
 use Rattle.image.proofs.Demand3.{image-size, image-bits}
 
 -- ---- an accepted input
@@ -55,12 +56,25 @@ some-accepted = (zeros, zeros-accepted)
 abbrev pub frameBitsOf : Input → ℕ → List ℕ
 frameBitsOf input n = take 1932 (drop (1932 * n) (imageBits input))
 
--- the tally's input for frame n: # and number of its sync, row n, dc word n
+-- frame n: # and number of its sync, its row, its dc word
+abbrev pub ownHash : Input → ℕ → Bool
+ownHash input n = hash (recording false input) n
+
+abbrev pub ownNumber : ℕ → ℕ
+ownNumber n = fsNumber (syncNumber n)
+
+abbrev pub ownRow : Input → ℕ → List ℕ
+ownRow input n = rowOf (cluster input) n
+
+abbrev pub ownDc : Input → ℕ → ℕ
+ownDc input n = getD (input .dc) n 0
+
+-- the tally's input for it
 abbrev pub frameInput : Input → ℕ → List ℕ
-frameInput input n = inputOf (hash (recording false input) n) (fsNumber (syncNumber n)) (rowOf (cluster input) n) (getD (input .dc) n 0)
+frameInput input n = inputOf (ownHash input n) (ownNumber n) (ownRow input n) (ownDc input n)
 
 module _ (input : Input) (n : ℕ) (h : n < 496) where
-  -- they stand in the image's bytes
+  -- the bits of frame n stand in the image's bytes
   pub image-part : take 1932 (drop (1932 * n) (bitsOf (image input))) ≡ frameBitsOf input n
   image-part =
       let size = image-size false input in
@@ -68,23 +82,32 @@ module _ (input : Input) (n : ℕ) (h : n < 496) where
       ∙ ap (take 1932) (drop-append-le (1932 * n) (imageBits input) (0 ∷ 0 ∷ []) (omega arith))
       ∙ take-append-le 1932 (drop (1932 * n) (imageBits input)) (0 ∷ 0 ∷ []) (omega (arith, length-drop (1932 * n) (imageBits input)))
 
-  -- and are the frame of that sync, row and dc word
-  pub image-frame : frameBitsOf input n ≡ frame (hash (recording false input) n) (syncNumber n) (rowOf (cluster input) n) (getD (input .dc) n 0)
+  -- they are the frame of its sync, row and dc word
+  pub image-frame : frameBitsOf input n ≡ frame (ownHash input n) (syncNumber n) (ownRow input n) (ownDc input n)
   unfolding frame imageBitsFrom
   image-frame = frame-bits (recording false input) 496 n (full false input 496) h
 
   module _ (is : IsAccepted input) where
+    row-size : length (ownRow input n) ≡ 155
+    row-size = length-row (cluster input) (length-cluster (input .user) (input .psn) (input .side) (is .user) (is .psn) (is .side)) n h
+
+    number-small : ownNumber n < 7
+    number-small = omega (arith, number-at n .0, number-at n .1)
+
+    dc-small : ownDc input n < 2 ^ 28
+    dc-small = omega (arith, is .dc .small n h)
+
+    -- the tally's input is bytes
+    pub input-bytes : Bytes (frameInput input n)
+    input-bytes =
+        bytes-input (ownHash input n) (ownNumber n) (ownRow input n) (ownDc input n) row-size number-small dc-small
+        (bytes-row (cluster input) (bytes-cluster (input .user) (input .psn) (input .side) (is .user) (is .psn) (is .side)) n)
+
     -- THE TALLY of frame n: the gap counts of these bits
     pub image-tallied : tallied (frameInput input n) ≡ record { accepted = true; counts = gapCounts (frameBitsOf input n) }
     image-tallied =
-        frame-tallied (hash (recording false input) n) (fsNumber (syncNumber n)) (rowOf (cluster input) n) (getD (input .dc) n 0) row number (omega (arith, is .dc .small n h))
-        ∙ ap (λ (l : List ℕ). record { accepted = true; counts = gapCounts l }) (ap (λ (s : FS). frame (hash (recording false input) n) s (rowOf (cluster input) n) (getD (input .dc) n 0)) (fs-number (syncNumber n)) ∙ sym image-frame)
-      where
-        row : length (rowOf (cluster input) n) ≡ 155
-        row = length-row (cluster input) (length-cluster (input .user) (input .psn) (input .side) (is .user) (is .psn) (is .side)) n h
-
-        number : fsNumber (syncNumber n) < 7
-        number = omega (arith, number-at n .0, number-at n .1)
+        frame-tallied (ownHash input n) (ownNumber n) (ownRow input n) (ownDc input n) row-size number-small dc-small
+        ∙ ap (λ (l : List ℕ). record { accepted = true; counts = gapCounts l }) (ap (λ (s : FS). frame (ownHash input n) s (ownRow input n) (ownDc input n)) (fs-number (syncNumber n)) ∙ sym image-frame)
 
     -- of each length from 1 to 8, how many of these bits begin such a gap
     pub image-often : (k : ℕ) → k < 8 → getD (tallied (frameInput input n) .counts) k 0 ≡ howMany 1932 (gapAt (frameBitsOf input n) (suc k))
