@@ -1,5 +1,5 @@
 -- The parts that an exported function returns are those of the outcome below it. Assumes nothing.
-use mathlib.Core.Path.{_≡_, refl, sym, ap, _∙_}
+use mathlib.Core.Path.{_≡_, refl, sym, ap, subst, _∙_}
 use mathlib.Core.Logic.{_↔_}
 use mathlib.Core.List.{List}
 use Prim.Native.Nat.{ℕ}
@@ -9,26 +9,36 @@ use Rattle.address.specs.Judged as Judged
 use Rattle.address.specs.declared.PsnAnswer.{PsnAnswer}
 use Rattle.address.specs.declared.AunAnswer.{AunAnswer}
 use Rattle.address.specs.declared.PaaAnswer.{PaaAnswer}
+use Rattle.image.specs.Image.{Input}
 use Rattle.writer.specs.Outcome as writer
+use Rattle.writer.specs.Promise.{WritesExactly}
 use Rattle.reader.specs.Outcome as reader
+use Rattle.reader.specs.Promise.{ReadsExactly}
 use Rattle.marker.specs.declared.Verdict.{Verdict}
 use Rattle.marker.specs.declared.Verdict.the-variants.{Pass, Refused, OtherPsn, OtherUser, OtherSide}
 use Rattle.marker.specs.Marked as marker
 use Rattle.bdre.specs.Seen.{Writing, Reading, Marking, Number, kindOf, refusalIn, psnIn, placeIn, writing, reading, marking, psnSeen, aunSeen, paaSeen}
 
-pub same-writing : (number place : ℕ) (a : Answer) (image work : List ℕ) (o : writer.Outcome) → number ≡ Answer.numberOf a → place ≡ Answer.placeOf a
-    → record { answer = a; image = image; work = work } ≡ o → record { number = number; place = place; image = image; work = work } ≡ writing o
-same-writing number place a image work o hn hp ho =
-    ap (λ (n : ℕ). record { number = n; place = place; image = image; work = work }) hn
-    ∙ ap (λ (p : ℕ). record { number = Answer.numberOf a; place = p; image = image; work = work }) hp
-    ∙ ap writing ho
+-- what is promised of an answer's number is promised of the number that is returned
+pub same-writing : {number place : ℕ} {a : Answer} {image work : List ℕ} {o : writer.Outcome} {input : Input} {before entry : List ℕ} → number ≡ Answer.numberOf a → place ≡ Answer.placeOf a
+    → (record { answer = a; image = image; work = work } ≡ o) × WritesExactly input before entry (Answer.numberOf a) image work
+    → (record { number = number; place = place; image = image; work = work } ≡ writing o) × WritesExactly input before entry number image work
+same-writing {number} {place} {a} {image} {work} {input = input} {before = before} {entry = entry} hn hp h = (
+  ap (λ (n : ℕ). record { number = n; place = place; image = image; work = work }) hn
+      ∙ ap (λ (p : ℕ). record { number = Answer.numberOf a; place = p; image = image; work = work }) hp
+      ∙ ap writing (h .0),
+  subst (λ (n : ℕ). WritesExactly input before entry n image work) (sym hn) (h .1),
+)
 
-pub same-reading : (number place psn : ℕ) (a : Answer) (lent : reader.Lent) (o : reader.Outcome) → number ≡ Answer.numberOf a → place ≡ Answer.placeOf a
-    → record { answer = a; psn = psn; lent = lent } ≡ o → record { number = number; place = place; psn = psn; lent = lent } ≡ reading o
-same-reading number place psn a lent o hn hp ho =
-    ap (λ (n : ℕ). record { number = n; place = place; psn = psn; lent = lent }) hn
-    ∙ ap (λ (p : ℕ). record { number = Answer.numberOf a; place = p; psn = psn; lent = lent }) hp
-    ∙ ap reading ho
+pub same-reading : {number place psn : ℕ} {a : Answer} {lent : reader.Lent} {o : reader.Outcome} {l : List ℕ} {before : reader.Lent} → number ≡ Answer.numberOf a → place ≡ Answer.placeOf a
+    → (record { answer = a; psn = psn; lent = lent } ≡ o) × ReadsExactly l before (Answer.numberOf a) psn lent
+    → (record { number = number; place = place; psn = psn; lent = lent } ≡ reading o) × ReadsExactly l before number psn lent
+same-reading {number} {place} {psn} {a} {lent} {l = l} {before = before} hn hp h = (
+  ap (λ (n : ℕ). record { number = n; place = place; psn = psn; lent = lent }) hn
+      ∙ ap (λ (p : ℕ). record { number = Answer.numberOf a; place = p; psn = psn; lent = lent }) hp
+      ∙ ap reading (h .0),
+  subst (λ (n : ℕ). ReadsExactly l before n psn lent) (sym hn) (h .1),
+)
 
 pass-is : (v : Verdict) → kindOf v ≡ 0 → v ≡ Pass
 pass-is Pass e = refl

@@ -9,7 +9,9 @@ ghost use mathlib.Core.Logic.{_↔_};
 ghost use Rattle.image.specs.Image.{Input};
 ghost use Rattle.writer.specs.Outcome as writer;
 ghost use Rattle.reader.specs.Outcome as reader;
-ghost use Rattle.marker.specs.Marked.{Fitting, IsImageOf, marked};
+ghost use Rattle.writer.specs.Promise.{WritesExactly};
+ghost use Rattle.reader.specs.Promise.{Fitting, ReadsExactly};
+ghost use Rattle.marker.specs.Marked.{IsImageOf, marked};
 ghost use Rattle.address.specs.Conversions.{psnToPaa, paaToPsn, psnToAun, aunToPsn};
 ghost use Rattle.address.specs.Judged.{numberOf};
 ghost use Rattle.bdre.specs.Seen.{Writing, Reading, Marking, Number, kindOf, refusalIn, psnIn, placeIn, writing, reading, marking, psnSeen, aunSeen, paaSeen};
@@ -116,6 +118,8 @@ pub extern "C" fn bdre_write_image(
 ) -> Answered
     ensures { λ r. ⌜ record { number = r .number; place = r .place; image = now (image .exit); work = now (work .exit) }
         ≡ writing (writer.outcome (record { user = now (user .entry); psn = psn; side = now (side .entry); dc = now (dc .entry) }) (now (image .entry)) (now (work .entry))) ⌝ }
+    ensures { λ r. ⌜ WritesExactly (record { user = now (user .entry); psn = psn; side = now (side .entry); dc = now (dc .entry) }) (now (image .entry)) (now (work .entry))
+        (r .number) (now (image .exit)) (now (work .exit)) ⌝ }
 {
     let written = writer::write_image(user, Psn(psn), side, dc, image, work);
     Answered {
@@ -135,6 +139,8 @@ pub extern "C" fn bdre_read_image(
 ) -> ReadAnswered
     ensures { λ r. ⌜ record { number = r .number; place = r .place; psn = r .psn; lent = record { user = now (user .exit); side = now (side .exit); dc = now (dc .exit); work = now (work .exit) } }
         ≡ reading (reader.outcome (now (image .entry)) (record { user = now (user .entry); side = now (side .entry); dc = now (dc .entry); work = now (work .entry) })) ⌝ }
+    ensures { λ r. ⌜ ReadsExactly (now (image .entry)) (record { user = now (user .entry); side = now (side .entry); dc = now (dc .entry); work = now (work .entry) })
+        (r .number) (r .psn) (record { user = now (user .exit); side = now (side .exit); dc = now (dc .exit); work = now (work .exit) }) ⌝ }
 {
     let read = reader::read_image(image, user, side, dc, work);
     let answer = read.answer;

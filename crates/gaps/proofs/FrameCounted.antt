@@ -6,13 +6,18 @@ use Prim.Native.Nat.{ℕ, _+_}
 use native.Mathlib.Omega.{arith}
 use lib.ListN.{length, take, drop}
 use lib.Seq.{sets-eq, take-at}
-use Rattle.bits.specs.Bits.{bitsOf}
+use Rattle.bits.specs.Bits.{Bits, bitsOf}
 use Rattle.bits.proofs.Bits.{length-bits}
 use Rattle.modulation.specs.Sync.{FS}
-use Rattle.frame.specs.Frame.{frame}
+use Rattle.modulation.proofs.Fronts.{bits-groups}
+use Rattle.frame.specs.Frame.{frame, frameGroups}
 use Rattle.frame.specs.Written.{FrameWritten}
 use Rattle.frame.proofs.Frame.{length-frame}
 use Rattle.gaps.specs.Gaps.{gapCounts}
+
+pub bits-frame : (hash : Bool) (n : FS) (row : List ℕ) (dc : ℕ) → Bits (frame hash n row dc)
+unfolding frame
+bits-frame hash n row dc = bits-groups (frameGroups hash n row dc)
 
 -- the frame stands in front of a slice of 242 bytes
 pub frame-counted : {hash : Bool} {n : FS} {row : List ℕ} {dc : ℕ} {before after c : List ℕ} {answer : Bool} → length before ≡ 242 → FrameWritten n hash row dc before 0 after answer

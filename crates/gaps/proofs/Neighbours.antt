@@ -1,49 +1,21 @@
--- The gap lengths that are counted are those between neighbouring ones (demand 3's), and no others. Assumes nothing.
-use mathlib.Core.Path.{_≡_, refl, sym, ap, subst, _∙_}
-use mathlib.Core.Logic.{_↔_, _⊎_, inl, inr, ⊎-elim}
+-- The gap lengths that are counted are those between neighbouring ones (demand 3's), as often as there are such, and no others. Assumes nothing.
+use mathlib.Core.Path.{_≡_, refl, sym, ap, ap₂, subst, _∙_}
+use mathlib.Core.Logic.{_↔_}
+use mathlib.Core.Bool.{Bool, true, false, _&&_, cond}
 use mathlib.Core.List.{List, [], _∷_}
 use Prim.Native.Nat.{ℕ, zero, suc, _+_, _-_, _<_}
 use native.Mathlib.Nat.{not-suc-le-zero}
-use native.Mathlib.Decide.{ℕ-discrete}
+use native.Mathlib.Decide.{decLt}
 use native.Mathlib.Omega.{arith}
-use borrow.Author.Tests.{eq-eqb, ne-eqb}
-use lib.ListN.{getD}
+use borrow.Author.Tests.{eqb-true, eq-eqb}
+use lib.Dec.{eqb}
+use lib.ListN.{length, getD, drop, List·getD-eq-default}
+use lib.Seq.{getD-drop}
+use Rattle.laws.proofs.Tabulate.{getD-tabulate}
 use Rattle.bits.specs.Bits.{Bits}
 use Rattle.modulation.specs.Gaps.{Neighbours}
-use Rattle.gaps.specs.Gaps.{gapsAfter, gaps, count}
-
--- a gap of n zeros stands between ones that are neighbours
-pub record Stands (l : List ℕ) (n : ℕ) : Type 0 where
-  pub place : ℕ
-  pub neighbours : Neighbours l place (place + suc n)
-
--- ---- an element in front
-
-behind : (x : ℕ) (l : List ℕ) (n : ℕ) → Stands l n → Stands (x ∷ l) n
-behind x l n s =
-    record { place = suc (s .place); neighbours = record { before = omega arith; one-i = s .neighbours .one-i; one-j = one; zeros = zeros } }
-  where
-    one : getD (x ∷ l) (suc (s .place) + suc n) 0 ≡ 1
-    one = let e : suc (s .place) + suc n ≡ suc (s .place + suc n) = omega arith in ap (λ (k : ℕ). getD (x ∷ l) k 0) e ∙ s .neighbours .one-j
-
-    zeros : (k : ℕ) → suc (s .place) < k → k < suc (s .place) + suc n → getD (x ∷ l) k 0 ≡ 0
-    zeros zero h g = absurd (not-suc-le-zero h)
-    zeros (suc k) h g = s .neighbours .zeros k (omega arith) (omega arith)
-
--- neighbours that do not begin with it stand behind it
-ahead : (x : ℕ) (l : List ℕ) (n i : ℕ) → Neighbours (x ∷ l) (suc i) (suc i + suc n) → Stands l n
-ahead x l n i s =
-    record { place = i; neighbours = record { before = omega arith; one-i = s .one-i; one-j = one; zeros = λ k h g. s .zeros (suc k) (omega arith) (omega arith) } }
-  where
-    one : getD l (i + suc n) 0 ≡ 1
-    one = let e : suc (i + suc n) ≡ suc i + suc n = omega arith in ap (λ (k : ℕ). getD (x ∷ l) k 0) e ∙ s .one-j
-
-behind-zero : (l : List ℕ) (n : ℕ) → Stands (0 ∷ l) n → Stands l n
-behind-zero l n s = by (s .place) (s .neighbours)
-  where
-    by : (i : ℕ) → Neighbours (0 ∷ l) i (i + suc n) → Stands l n
-    by zero g = let no : _≡_ {A = ℕ} 0 1 = g .one-i in absurd (omega arith)
-    by (suc i) g = ahead 0 l n i g
+use Rattle.modulation.proofs.Tests.{and-left, and-right}
+use Rattle.gaps.specs.Gaps.{gapsAfter, gaps, count, gapCounts, endsGap, gapAt, howMany}
 
 -- ---- the first one of a list
 
@@ -61,83 +33,113 @@ leads-behind l k h = record { one = h .one; zeros = zeros }
 leads-ahead : (x : ℕ) (l : List ℕ) (k : ℕ) → Leads (x ∷ l) (suc k) → Leads l k
 leads-ahead x l k h = record { one = h .one; zeros = λ i g. h .zeros (suc i) (omega arith) }
 
--- a one, and the first one behind it, are neighbours
-first-gap : (b : ℕ) (l : List ℕ) (n : ℕ) → suc b ≡ 1 → Leads l n → Stands (suc b ∷ l) n
-first-gap b l n e h = record { place = 0; neighbours = record { before = omega arith; one-i = e; one-j = one; zeros = zeros } }
-  where
-    one : getD (suc b ∷ l) (0 + suc n) 0 ≡ 1
-    one = let f : 0 + suc n ≡ suc n = omega arith in ap (λ (k : ℕ). getD (suc b ∷ l) k 0) f ∙ h .one
-
-    zeros : (k : ℕ) → 0 < k → k < 0 + suc n → getD (suc b ∷ l) k 0 ≡ 0
-    zeros zero g m = absurd (not-suc-le-zero g)
-    zeros (suc k) g m = h .zeros k (omega arith)
-
-gap-first : (x : ℕ) (l : List ℕ) (n : ℕ) → Neighbours (x ∷ l) 0 (0 + suc n) → Leads l n
-gap-first x l n g =
-    let e : 0 + suc n ≡ suc n = omega arith in
-    record { one = ap (λ (k : ℕ). getD (x ∷ l) k 0) (sym e) ∙ g .one-j; zeros = λ i h. g .zeros (suc i) (omega arith) (omega arith) }
-
-leads-at : (l : List ℕ) (n k : ℕ) → Leads l k → n ≡ 0 + k → Leads l n
-leads-at l n k h e = subst (Leads l) {x = k} {y = n} (omega (arith, e)) h
-
--- ---- counts
-
-counted-here : (n x : ℕ) (l : List ℕ) → x ≡ n → 0 < count n (x ∷ l)
-counted-here n x l e = rw (eq-eqb x n e) (omega arith)
-
-counted-behind : (n x : ℕ) (l : List ℕ) → 0 < count n l → 0 < count n (x ∷ l)
-counted-behind n x l h = elim (ℕ-discrete x n) [ yes e ↦ counted-here n x l e | no e ↦ rw (ne-eqb x n e) h ]
-
-counted-cases : (n x : ℕ) (l : List ℕ) → 0 < count n (x ∷ l) → (x ≡ n) ⊎ (0 < count n l)
-counted-cases n x l h = elim (ℕ-discrete x n) [ yes e ↦ inl e | no e ↦ inr (rw (ne-eqb x n e) at h) ]
-
--- ---- what is counted stands there
-
 tail-bits : (x : ℕ) (l : List ℕ) → Bits (x ∷ l) → Bits l
 tail-bits x l b i = b (suc i)
 
+-- it ends a gap of the zeros in front of it, with z more
+ends-leads : (l : List ℕ) → Bits l → (n z : ℕ) → endsGap z n l ≡ true → (k : ℕ) × (Leads l k × (n ≡ z + k))
+ends-leads [] b n z e = let no : _≡_ {A = ℕ} 0 1 = cc in absurd (omega arith)
+ends-leads (zero ∷ l) b n z e = let p = ends-leads l (tail-bits 0 l b) n (suc z) e in (suc (p .0), (leads-behind l (p .0) (p .1 .0), omega (arith, p .1 .1)))
+ends-leads (suc x ∷ l) b n z e = (0, (record { one = omega (arith, b 0); zeros = λ i g. absurd (not-suc-le-zero g) }, omega (arith, eqb-true z n e)))
+
+leads-ends : (l : List ℕ) (z k n : ℕ) → Leads l k → n ≡ z + k → endsGap z n l ≡ true
+leads-ends [] z k n h e = let no : _≡_ {A = ℕ} 0 1 = h .one in absurd (omega arith)
+leads-ends (zero ∷ l) z zero n h e = let no : _≡_ {A = ℕ} 0 1 = h .one in absurd (omega arith)
+leads-ends (zero ∷ l) z (suc k) n h e = leads-ends l (suc z) k n (leads-ahead 0 l k h) (omega arith)
+leads-ends (suc x ∷ l) z zero n h e = eq-eqb z n (omega arith)
+leads-ends (suc x ∷ l) z (suc k) n h e = let no : suc x ≡ 0 = h .zeros 0 (omega arith) in absurd (omega arith)
+
+-- ---- the test is demand 3's proposition
+
+module _ (l : List ℕ) (n i : ℕ) where
+  leads-neighbours : getD l i 0 ≡ 1 → Leads (drop (suc i) l) n → Neighbours l i (i + suc n)
+  leads-neighbours e h = record { before = omega arith; one-i = e; one-j = at (i + suc n) n (omega arith) ∙ h .one; zeros = λ k f g. at k (k - suc i) (omega arith) ∙ h .zeros (k - suc i) (omega arith) }
+    where
+      at : (k j : ℕ) → suc i + j ≡ k → getD l k 0 ≡ getD (drop (suc i) l) j 0
+      at k j e = sym (getD-drop (suc i) l j 0 ∙ ap (λ (m : ℕ). getD l m 0) e)
+
+  neighbours-leads : Neighbours l i (i + suc n) → Leads (drop (suc i) l) n
+  neighbours-leads s = record { one = at n ∙ ap (λ (m : ℕ). getD l m 0) last ∙ s .one-j; zeros = λ k h. at k ∙ s .zeros (suc i + k) (omega arith) (omega arith) }
+    where
+      at : (j : ℕ) → getD (drop (suc i) l) j 0 ≡ getD l (suc i + j) 0
+      at j = getD-drop (suc i) l j 0
+
+      last : suc i + n ≡ i + suc n
+      last = omega arith
+
+  -- ones at i and at i + n + 1, and zeros between them
+  pub gap-at-iff : Bits l → (gapAt l n i ≡ true) ↔ Neighbours l i (i + suc n)
+  gap-at-iff b = (to, from)
+    where
+      bits-behind : Bits (drop (suc i) l)
+      bits-behind k = rw (getD-drop (suc i) l k 0) (b (suc i + k))
+
+      to : gapAt l n i ≡ true → Neighbours l i (i + suc n)
+      to e =
+          let p = ends-leads (drop (suc i) l) bits-behind n 0 (and-right (eqb (getD l i 0) 1) _ e) in
+          let k-is : p .0 ≡ n = omega (arith, p .1 .1) in
+          leads-neighbours (eqb-true (getD l i 0) 1 (and-left (eqb (getD l i 0) 1) _ e)) (subst (Leads (drop (suc i) l)) k-is (p .1 .0))
+
+      from : Neighbours l i (i + suc n) → gapAt l n i ≡ true
+      from s = ap₂ _&&_ (eq-eqb (getD l i 0) 1 (s .one-i)) (leads-ends (drop (suc i) l) 0 n n (neighbours-leads s) (omega arith))
+
+-- ---- how often
+
 -- behind z zeros of a gap that has begun
-begun : (l : List ℕ) (n z : ℕ) → Bits l → 0 < count n (gapsAfter z l) → ((k : ℕ) × (Leads l k × (n ≡ z + k))) ⊎ Stands l n
-begun [] n z b h = absurd (not-suc-le-zero h)
-begun (zero ∷ l) n z b h =
-    ⊎-elim (λ p. inl (suc (p .0), (leads-behind l (p .0) (p .1 .0), omega (arith, p .1 .1)))) (λ s. inr (behind 0 l n s)) (begun l n (suc z) (tail-bits 0 l b) h)
-begun (suc x ∷ l) n z b h =
-    let one : suc x ≡ 1 = omega (arith, b 0) in
-    ⊎-elim (λ e. inl (0, (record { one = one; zeros = λ i g. absurd (not-suc-le-zero g) }, omega (arith, e))))
-    (λ g. inr (⊎-elim (λ p. first-gap x l n one (leads-at l n (p .0) (p .1 .0) (p .1 .1))) (λ s. behind (suc x) l n s) (begun l n 0 (tail-bits (suc x) l b) g)))
-    (counted-cases n z (gapsAfter 0 l) h)
+begun-often : (l : List ℕ) → Bits l → (n z : ℕ) → count n (gapsAfter z l) ≡ cond (endsGap z n l) (suc (howMany (length l) (gapAt l n))) (howMany (length l) (gapAt l n))
+unfolding howMany
+begun-often [] b n z = refl
+begun-often (zero ∷ l) b n z = begun-often l (tail-bits 0 l b) n (suc z)
+begun-often (suc zero ∷ l) b n z = ap (λ (c : ℕ). cond (eqb z n) (suc c) c) (begun-often l (tail-bits 1 l b) n 0)
+begun-often (suc (suc x) ∷ l) b n z = absurd (omega (arith, b 0))
 
--- and what stands there is counted
-leads-counted : (l : List ℕ) (z k : ℕ) → Leads l k → 0 < count (z + k) (gapsAfter z l)
-leads-counted [] z k h = let no : _≡_ {A = ℕ} 0 1 = h .one in absurd (omega arith)
-leads-counted (zero ∷ l) z zero h = let no : _≡_ {A = ℕ} 0 1 = h .one in absurd (omega arith)
-leads-counted (zero ∷ l) z (suc k) h =
-    let e : suc z + k ≡ z + suc k = omega arith in
-    subst (λ (n : ℕ). 0 < count n (gapsAfter (suc z) l)) e (leads-counted l (suc z) k (leads-ahead 0 l k h))
-leads-counted (suc x ∷ l) z zero h = counted-here (z + 0) z (gapsAfter 0 l) (omega arith)
-leads-counted (suc x ∷ l) z (suc k) h = let no : suc x ≡ 0 = h .zeros 0 (omega arith) in absurd (omega arith)
+-- THE COUNT of a gap length is the number of places i with neighbouring ones at i and i + n + 1
+pub counted-often : (l : List ℕ) → Bits l → (n : ℕ) → count n (gaps l) ≡ howMany (length l) (gapAt l n)
+unfolding howMany
+counted-often [] b n = refl
+counted-often (zero ∷ l) b n = counted-often l (tail-bits 0 l b) n
+counted-often (suc zero ∷ l) b n = begun-often l (tail-bits 1 l b) n 0
+counted-often (suc (suc x) ∷ l) b n = absurd (omega (arith, b 0))
 
-lead-counted : (l : List ℕ) (n : ℕ) → Leads l n → 0 < count n (gapsAfter 0 l)
-lead-counted l n h = let e : 0 + n ≡ n = omega arith in subst (λ (k : ℕ). 0 < count k (gapsAfter 0 l)) e (leads-counted l 0 n h)
+-- of the lengths 1 to 8
+pub counts-often : (l : List ℕ) → Bits l → (k : ℕ) → k < 8 → getD (gapCounts l) k 0 ≡ howMany (length l) (gapAt l (suc k))
+unfolding gapCounts
+counts-often l b k h = getD-tabulate 8 (λ k. count (suc k) (gaps l)) k 0 h ∙ counted-often l b (suc k)
 
-stands-counted : (l : List ℕ) (n z : ℕ) → Stands l n → 0 < count n (gapsAfter z l)
-stands-counted [] n z s = let no : _≡_ {A = ℕ} 0 1 = s .neighbours .one-i in absurd (omega arith)
-stands-counted (zero ∷ l) n z s = stands-counted l n (suc z) (behind-zero l n s)
-stands-counted (suc x ∷ l) n z s = counted-behind n z (gapsAfter 0 l) (by (s .place) (s .neighbours) (λ t. stands-counted l n 0 t))
+-- ---- whether at all
+
+some-passes : (m : ℕ) (p : ℕ → Bool) → 0 < howMany m p → (i : ℕ) × (p i ≡ true)
+unfolding howMany
+some-passes zero p h = absurd (not-suc-le-zero h)
+some-passes (suc m) p h = by (p zero) refl h (λ g. some-passes m (λ i. p (suc i)) g)
   where
-    by : (i : ℕ) → Neighbours (suc x ∷ l) i (i + suc n) → (Stands l n → 0 < count n (gapsAfter 0 l)) → 0 < count n (gapsAfter 0 l)
-    by zero g rest = lead-counted l n (gap-first (suc x) l n g)
-    by (suc i) g rest = rest (ahead (suc x) l n i g)
+    by : (t : Bool) → p zero ≡ t → 0 < cond t (suc (howMany m (λ i. p (suc i)))) (howMany m (λ i. p (suc i)))
+        → (0 < howMany m (λ i. p (suc i)) → (i : ℕ) × (p (suc i) ≡ true)) → (i : ℕ) × (p i ≡ true)
+    by true e h rest = (zero, e)
+    by false e h rest = (suc (rest h .0), rest h .1)
+
+passes-some : (m : ℕ) (p : ℕ → Bool) (i : ℕ) → i < m → p i ≡ true → 0 < howMany m p
+unfolding howMany
+passes-some zero p i h e = absurd (not-suc-le-zero h)
+passes-some (suc m) p zero h e = rw e (omega arith)
+passes-some (suc m) p (suc i) h e = by (p zero) (passes-some m (λ i. p (suc i)) i (omega arith) e)
+  where
+    by : (t : Bool) → 0 < howMany m (λ i. p (suc i)) → 0 < cond t (suc (howMany m (λ i. p (suc i)))) (howMany m (λ i. p (suc i)))
+    by true g = omega arith
+    by false g = g
+
+-- a gap of n zeros stands between ones that are neighbours
+pub record Stands (l : List ℕ) (n : ℕ) : Type 0 where
+  pub place : ℕ
+  pub neighbours : Neighbours l place (place + suc n)
+
+one-inside : (l : List ℕ) (i : ℕ) → getD l i 0 ≡ 1 → i < length l
+one-inside l i e = elim (decLt i (length l)) [ yes h ↦ h | no h ↦ absurd (omega (arith, e, List·getD-eq-default {A = ℕ} l 0 {n = i} (omega arith))) ]
 
 -- a gap length is counted if and only if it is that of two neighbouring ones
 pub counted-iff : (l : List ℕ) → Bits l → (n : ℕ) → (0 < count n (gaps l)) ↔ Stands l n
-counted-iff [] b n = (λ h. absurd (not-suc-le-zero h), λ s. let no : _≡_ {A = ℕ} 0 1 = s .neighbours .one-i in absurd (omega arith))
-counted-iff (zero ∷ l) b n = let rest = counted-iff l (tail-bits 0 l b) n in (λ h. behind 0 l n (rest .0 h), λ s. rest .1 (behind-zero l n s))
-counted-iff (suc x ∷ l) b n = (
-  λ h. ⊎-elim (λ p. first-gap x l n (omega (arith, b 0)) (leads-at l n (p .0) (p .1 .0) (p .1 .1))) (λ s. behind (suc x) l n s) (begun l n 0 (tail-bits (suc x) l b) h),
-  λ s. by (s .place) (s .neighbours),
+counted-iff l b n = (
+  λ h. let some = some-passes (length l) (gapAt l n) (subst (λ (c : ℕ). 0 < c) (counted-often l b n) h) in record { place = some .0; neighbours = gap-at-iff l n (some .0) b .0 (some .1) },
+  λ s. subst (λ (c : ℕ). 0 < c) (sym (counted-often l b n))
+      (passes-some (length l) (gapAt l n) (s .place) (one-inside l (s .place) (s .neighbours .one-i)) (gap-at-iff l n (s .place) b .1 (s .neighbours))),
 )
-  where
-    by : (i : ℕ) → Neighbours (suc x ∷ l) i (i + suc n) → 0 < count n (gapsAfter 0 l)
-    by zero g = lead-counted l n (gap-first (suc x) l n g)
-    by (suc i) g = stands-counted l n 0 (ahead (suc x) l n i g)

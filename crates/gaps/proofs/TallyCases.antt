@@ -1,18 +1,22 @@
 -- The tally's answer, case by case of its definition. Assumes nothing.
-use mathlib.Core.Bool.{Bool, true, false, _&&_}
+use mathlib.Core.Bool.{Bool, true, false, _&&_, cond}
 use mathlib.Core.List.{List}
-use mathlib.Core.Path.{_≡_, refl, _∙_}
-use Prim.Native.Nat.{ℕ, _-_, _<_, _≤_, _^_}
+use mathlib.Core.Path.{_≡_, refl, sym, ap, ap₂, _∙_}
+use Prim.Native.Nat.{ℕ, zero, suc, _+_, _*_, _-_, _/_, _%_, _^_, _<_, _≤_}
 use native.Mathlib.Omega.{arith}
 use borrow.Author.Tests.{eq-eqb, ne-eqb, lt-ltb, le-ltb}
 use lib.Dec.{eqb, ltb}
 use lib.ListN.{length, getD, take, drop, length-drop}
 use lib.Seq.{take-all}
+use Rattle.laws.specs.Bytes.{Bytes}
 use Rattle.frame.specs.Sync.{fs}
 use Rattle.frame.specs.Frame.{frame}
+use Rattle.frame.proofs.Frame.{length-frame}
 use Rattle.gaps.specs.declared.Tally.{Tally}
-use Rattle.gaps.specs.Gaps.{gapCounts}
-use Rattle.gaps.specs.Tally.{dcIn, accepted, refusal, tallied}
+use Rattle.gaps.specs.Gaps.{gapCounts, gapAt, howMany}
+use Rattle.gaps.specs.Tally.{dcIn, accepted, refusal, frameIn, tallied, inputOf}
+use Rattle.gaps.proofs.FrameCounted.{bits-frame}
+use Rattle.gaps.proofs.Neighbours.{counts-often}
 
 and-false : (a b : Bool) → b ≡ false → (a && b) ≡ false
 and-false true b e = e
@@ -53,3 +57,51 @@ tallied-counts input {dc} {c} size hash number e small counts =
       e,
       take-all (length input - 6) (drop 6 input) (omega (arith, length-drop 6 input)),
     )
+
+-- ---- what is tallied
+
+-- of an accepted input: of each length from 1 to 8, how many places of the frame's 1,932 bits begin such a gap
+pub tallied-often : (input : List ℕ) → accepted input ≡ true → (k : ℕ) → k < 8 → getD (tallied input .counts) k 0 ≡ howMany 1932 (gapAt (frameIn input) (suc k))
+unfolding tallied
+tallied-often input e k h =
+    ap (λ (t : Bool). getD (cond t (record { accepted = true; counts = gapCounts (frameIn input) }) refusal .counts) k 0) e
+    ∙ counts-often (frameIn input) (bits-frame _ _ _ _) k h
+    ∙ ap (λ (m : ℕ). howMany m (gapAt (frameIn input) (suc k))) (length-frame _ _ _ _)
+
+-- of the bytes that give a frame: its gap counts
+module _ (hash : Bool) (number : ℕ) (row : List ℕ) (dc : ℕ) (size : length row ≡ 155) (few : number < 7) (small : dc < 2 ^ 28) where
+  same-hash : (t : Bool) → (eqb (cond t 1 0) 1 ≡ t) × (ltb (cond t 1 0) 2 ≡ true)
+  same-hash true = (refl, refl)
+  same-hash false = (refl, refl)
+
+  same-dc : dcIn (inputOf hash number row dc) ≡ dc
+  same-dc = omega arith
+
+  given : accepted (inputOf hash number row dc) ≡ true
+  given =
+      rw (
+        eq-eqb (length (inputOf hash number row dc)) 161 (omega arith),
+        same-hash hash .1,
+        lt-ltb number 7 few,
+        lt-ltb (dcIn (inputOf hash number row dc)) (2 ^ 28) (omega (arith, same-dc)),
+      )
+
+  pub frame-tallied : tallied (inputOf hash number row dc) ≡ record { accepted = true; counts = gapCounts (frame hash (fs number) row dc) }
+  unfolding tallied
+  frame-tallied =
+      ap (λ (t : Bool). cond t (record { accepted = true; counts = gapCounts (frameIn (inputOf hash number row dc)) }) refusal) given
+      ∙ ap₂ (λ (h : Bool) (d : ℕ). record { accepted = true; counts = gapCounts (frame h (fs number) row d) }) (same-hash hash .0) same-dc
+
+  -- and they are bytes
+  pub bytes-input : Bytes row → Bytes (inputOf hash number row dc)
+  bytes-input rest zero = bit hash
+    where
+      bit : (t : Bool) → cond t 1 0 < 256
+      bit true = omega arith
+      bit false = omega arith
+  bytes-input rest (suc zero) = omega arith
+  bytes-input rest (suc (suc zero)) = omega arith
+  bytes-input rest (suc (suc (suc zero))) = omega arith
+  bytes-input rest (suc (suc (suc (suc zero)))) = omega arith
+  bytes-input rest (suc (suc (suc (suc (suc zero))))) = omega arith
+  bytes-input rest (suc (suc (suc (suc (suc (suc i)))))) = rest i

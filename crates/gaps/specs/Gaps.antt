@@ -1,10 +1,10 @@
 -- Document 01, the tally: how often each gap length occurs between the first and the last one of a list of bits.
-use mathlib.Core.Bool.{cond}
+use mathlib.Core.Bool.{Bool, false, _&&_, cond}
 use mathlib.Core.List.{List, [], _∷_}
 use mathlib.Core.Path.{_≡_}
 use Prim.Native.Nat.{ℕ, zero, suc, _+_, _<_, _≤_}
 use lib.Dec.{eqb}
-use lib.ListN.{length, getD}
+use lib.ListN.{length, getD, drop}
 use Rattle.laws.specs.Tabulate.{tabulate}
 
 -- the lengths of the gaps up to the last one, of which the first has z zeros already
@@ -27,6 +27,23 @@ count n (x ∷ l) = cond (eqb x n) (suc (count n l)) (count n l)
 -- how often the gap lengths 1 to 8 occur
 unfoldable pub gapCounts : List ℕ → List ℕ
 gapCounts l = tabulate 8 (λ k. count (suc k) (gaps l))
+
+-- ---- the same by places (proofs/Neighbours)
+
+-- the first one of a list ends a gap of n zeros, of which z stand in front of the list
+abbrev pub endsGap : ℕ → ℕ → List ℕ → Bool
+endsGap z n [] = false
+endsGap z n (zero ∷ l) = endsGap (suc z) n l
+endsGap z n (suc b ∷ l) = eqb z n
+
+-- a one stands at i, and the next one behind n zeros
+abbrev pub gapAt : List ℕ → ℕ → ℕ → Bool
+gapAt l n i = eqb (getD l i 0) 1 && endsGap 0 n (drop (suc i) l)
+
+-- how many i below m pass a test
+unfoldable pub howMany : ℕ → (ℕ → Bool) → ℕ
+howMany zero p = 0
+howMany (suc m) p = cond (p zero) (suc (howMany m (λ i. p (suc i)))) (howMany m (λ i. p (suc i)))
 
 -- ---- what a step of counting leaves
 

@@ -1,7 +1,7 @@
 -- Document 01, the tally program: its input and its answer.
 use mathlib.Core.Bool.{Bool, true, false, _&&_, cond}
-use mathlib.Core.List.{List}
-use Prim.Native.Nat.{ℕ, _+_, _*_, _^_}
+use mathlib.Core.List.{List, _∷_}
+use Prim.Native.Nat.{ℕ, _+_, _*_, _/_, _%_, _^_}
 use lib.Dec.{eqb, ltb}
 use lib.ListN.{length, getD, drop, replicate}
 use Rattle.frame.specs.Sync.{fs}
@@ -19,9 +19,14 @@ accepted input = eqb (length input) 161 && (ltb (getD input 0 0) 2 && (ltb (getD
 abbrev pub refusal : Tally
 refusal = record { accepted = false; counts = replicate 8 0 }
 
--- the gap counts of the frame that the input gives, or a refusal
+-- the frame that the input gives
+abbrev pub frameIn : List ℕ → List ℕ
+frameIn input = frame (eqb (getD input 0 0) 1) (fs (getD input 1 0)) (drop 6 input) (dcIn input)
+
+-- its gap counts, or a refusal
 unfoldable pub tallied : List ℕ → Tally
-tallied input =
-    cond (accepted input)
-    (record { accepted = true; counts = gapCounts (frame (eqb (getD input 0 0) 1) (fs (getD input 1 0)) (drop 6 input) (dcIn input)) })
-    refusal
+tallied input = cond (accepted input) (record { accepted = true; counts = gapCounts (frameIn input) }) refusal
+
+-- the 161 bytes that give a frame
+abbrev pub inputOf : Bool → ℕ → List ℕ → ℕ → List ℕ
+inputOf hash number row dc = cond hash 1 0 ∷ number ∷ dc / 16777216 ∷ dc / 65536 % 256 ∷ dc / 256 % 256 ∷ dc % 256 ∷ row

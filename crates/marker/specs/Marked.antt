@@ -22,13 +22,6 @@ pub record IsImageOf (psn : ℕ) (user side image : List ℕ) : Type 0 where
   pub accepted : Image.IsAccepted (record { user = user; psn = psn; side = side; dc = dc })
   pub image-is : image ≡ Image.image (record { user = user; psn = psn; side = side; dc = dc })
 
--- the lent slices have the lengths that the reader asks
-pub record Fitting (lent : Lent) : Type 0 where
-  pub user : length (lent .user) ≡ 65536
-  pub side : length (lent .side) ≡ 592
-  pub dc : length (lent .dc) ≡ 496
-  pub work : length (lent .work) ≡ 76880
-
 -- ---- the verdict, test by test
 
 -- 1 and 2, of what is given

@@ -6,7 +6,8 @@ ghost use mathlib.Core.Logic.{_↔_};
 ghost use Prim.Native.Nat.{_≤_};
 ghost use lib.ListN.{length};
 ghost use Rattle.reader.specs.Outcome.{Lent, outcome};
-ghost use Rattle.marker.specs.Marked.{givenAnswer, firstOther, compared, judged, Marked, marked, Fitting, IsImageOf};
+ghost use Rattle.reader.specs.Promise.{Fitting};
+ghost use Rattle.marker.specs.Marked.{givenAnswer, firstOther, compared, judged, Marked, marked, IsImageOf};
 
 pub enum Verdict {
     Pass,

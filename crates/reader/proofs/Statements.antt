@@ -33,8 +33,10 @@ use Rattle.cluster.specs.Reading.{firstWrongWord, firstWrongSector, userIn, Rea
 use Rattle.cluster.proofs.Statements as Cluster
 use Rattle.image.specs.Image.{Input, IsAccepted, cluster, imageBits, image}
 use Rattle.image.proofs.Demand3.{image-bits, image-size}
+use Rattle.image.proofs.Statements.{zeros, zeros-accepted}
 use Rattle.reader.specs.Reading.{lastZero, wrongSync, firstWrongSync, modulatedAt, hashBehind, noFrame, firstNoFrame, frameBitsIn, clusterIn}
 use Rattle.reader.specs.Outcome.{framesAnswer, psnAnswer, blockAnswer, dataAnswer, psnOf, clusterAnswer, imageAnswer, Lent, Outcome, accepted, cleared, judgedOutcome, sizesAnswer, outcome}
+use Rattle.reader.specs.Promise.{Fitting, asInput, IsReturned, ReadsExactly}
 use Rattle.reader.proofs.Clusters.{read-psn, reads-done, done-reads}
 use Rattle.reader.proofs.Writing.{last-zero, right-syncs, all-frames, cluster-there, dc-there}
 use Rattle.reader.proofs.Accepting.{Passes, length-work, bytes-work, length-dc, dc-small, image-there}
@@ -109,7 +111,7 @@ length-image input = omega (arith, B.length-bits (image input), ap (length {A = 
 
 -- what is returned, as an input
 abbrev pub returned : Outcome → Input
-returned o = record { user = o .lent .user; psn = o .psn; side = o .lent .side; dc = o .lent .dc }
+returned o = asInput (o .psn) (o .lent)
 
 -- what reading gives of an input: number and place are 0, exactly the input comes back, work is its ECC cluster
 abbrev pub given : Input → Outcome
@@ -231,6 +233,34 @@ module _ (l : List ℕ) (before : Lent) (bytes : Bytes l) where
     λ e. (returned (outcome l before), nothing-else e),
     λ some. ap (λ (x : List ℕ). numberOf (outcome x before .answer)) (some .1 .1) ∙ ap (λ (o : Outcome). numberOf (o .answer)) (read-back (some .0) (some .1 .0) before right),
   )
+
+  -- work is then the ECC cluster of what is read
+  work-there : (e : numberOf (outcome l before .answer) ≡ 0) → outcome l before .lent .work ≡ cluster (returned (outcome l before))
+  work-there e =
+      let made = nothing-else e in
+      let sizes = lengths-done (length (before .user)) (length (before .side)) (length (before .dc)) (length l) (length (before .work)) (is-done e .0) in
+      let right : Right before = record { user = sizes .user; side = sizes .side; dc = sizes .dc; image = refl; work = sizes .work } in
+      ap (λ (x : List ℕ). outcome x before .lent .work) (made .1) ∙ ap (λ (o : Outcome). o .lent .work) (read-back (returned (outcome l before)) (made .0) before right)
+
+  -- as the contract has it: o is the answer, the PSN and the slices at exit
+  pub with-exactly : {o : Outcome} → o ≡ outcome l before → (o ≡ outcome l before) × ReadsExactly l before (numberOf (o .answer)) (o .psn) (o .lent)
+  with-exactly e = (e, subst (λ (o : Outcome). ReadsExactly l before (numberOf (o .answer)) (o .psn) (o .lent)) (sym e) exactly)
+    where
+      back : Fitting before → (input : Input) → IsAccepted input → l ≡ image input → outcome l before ≡ given input
+      back f input is h =
+          ap (λ (x : List ℕ). outcome x before) h
+          ∙ read-back input is before (record { user = f .user; side = f .side; dc = f .dc; image = refl; work = f .work })
+
+      exactly : ReadsExactly l before (numberOf (outcome l before .answer)) (outcome l before .psn) (outcome l before .lent)
+      exactly =
+          record {
+            only = λ z. record { accepted = nothing-else z .0; image-is = nothing-else z .1; work-is = work-there z };
+            always = λ f input is h. (ap (λ (o : Outcome). numberOf (o .answer)) (back f input is h), ap returned (back f input is h));
+          }
+
+-- the image of the cluster of zeros is read
+pub zeros-read : (before : Lent) → Right before → outcome (image zeros) before ≡ given zeros
+zeros-read before right = read-back zeros zeros-accepted before right
 
 -- ---- A REFUSAL: the PSN is 0; user, side and dc are as they were; work is as it was under 1 to 5 and zeros under 9 to 16
 

@@ -10,12 +10,14 @@ ghost use mathlib.Core.Path.{_≡_};
 ghost use Prim.Native.Nat.{_+_, _<_};
 ghost use lib.ListN.{length};
 ghost use Rattle.bits.specs.Bits.{bitsOf};
+ghost use Rattle.answer.specs.Answer.{numberOf};
 ghost use Rattle.demodulator.specs.Table.{table};
 ghost use Rattle.column.specs.Remainders.{AreRemainders};
 ghost use Rattle.sector.specs.Scrambling.{scramblingOf};
 ghost use Rattle.cluster.specs.Multiplex.{bisIn};
 ghost use Rattle.reader.specs.Reading.{lastZero, firstWrongSync};
 ghost use Rattle.reader.specs.Outcome.{dataAnswer, clusterAnswer, psnOf, Lent, Outcome, judgedOutcome, outcome};
+ghost use Rattle.reader.specs.Promise.{ReadsExactly};
 ghost use Rattle.reader.specs.Read.{TwoFrames, FramesRead, FramesJudged, BlockJudged, Sized, Given, DataRead, WorkLeft};
 
 // What the reader answers; the PSN is 0 on refusal.
@@ -294,6 +296,8 @@ pub fn read_image(
 ) -> Read
     ensures { λ r. ⌜ record { answer = r .answer; psn = r .psn .0; lent = record { user = now (user .exit); side = now (side .exit); dc = now (dc .exit); work = now (work .exit) } }
         ≡ outcome (now (image .entry)) (record { user = now (user .entry); side = now (side .entry); dc = now (dc .entry); work = now (work .entry) }) ⌝ }
+    ensures { λ r. ⌜ ReadsExactly (now (image .entry)) (record { user = now (user .entry); side = now (side .entry); dc = now (dc .entry); work = now (work .entry) })
+        (numberOf (r .answer)) (r .psn .0) (record { user = now (user .exit); side = now (side .exit); dc = now (dc .exit); work = now (work .exit) }) ⌝ }
 {
     let sizes = answer::lengths(user.len(), side.len(), dc.len(), image.len(), work.len());
     if sizes.is_done() {

@@ -1,5 +1,5 @@
 -- What is promised of the writer, on its outcome: every well-formed cluster is encoded, and everything else is refused. Assumes nothing.
-use mathlib.Core.Path.{_≡_, sym, ap, _∙_}
+use mathlib.Core.Path.{_≡_, sym, ap, subst, _∙_}
 use mathlib.Core.Logic.{_↔_}
 use mathlib.Core.Bool.{Bool, cond}
 use mathlib.Core.List.{List}
@@ -9,19 +9,15 @@ use borrow.Author.Tests.{le-ltb, ltb-false}
 use lib.ListN.{length, getD}
 use Rattle.laws.specs.Bytes.{Bytes}
 use Rattle.laws.proofs.First.{first-none, first-all}
-use Rattle.image.specs.Image.{Input, IsAccepted, cluster, image}
+use Rattle.image.specs.Image.{Input, cluster, image}
+use Rattle.image.proofs.Statements.{zeros, zeros-accepted}
 use Rattle.answer.specs.declared.Answer.{Answer}
 use Rattle.answer.specs.declared.Answer.the-variants.{Done, DcWord}
 use Rattle.answer.specs.Answer.{numberOf, placeOf, isDone, lowest}
 use Rattle.answer.proofs.Tests.{number-zero, done-or-not, then-next, right-lengths, lowest-none}
-use Rattle.writer.specs.Outcome.{psnAnswer, tooLarge, firstTooLarge, partsAnswer, answer, outcome}
+use Rattle.writer.specs.Outcome.{psnAnswer, tooLarge, firstTooLarge, partsAnswer, answer, Outcome, outcome}
+use Rattle.writer.specs.Promise.{WellFormed, WritesExactly}
 use Rattle.writer.proofs.Judging.{passed-all}
-
--- an accepted input, and slices of the image's and the ECC cluster's lengths
-pub record WellFormed (input : Input) (before work : List ℕ) : Type 0 where
-  pub accepted : IsAccepted input
-  pub image-size : length before ≡ 119788
-  pub work-size : length work ≡ 76880
 
 module _ (input : Input) (before work : List ℕ) (bytes : Bytes (input .user)) (side-bytes : Bytes (input .side)) where
   is-done : answer input (length before) (length work) ≡ Done → WellFormed input before work
@@ -70,6 +66,13 @@ module _ (input : Input) (before work : List ℕ) (bytes : Bytes (input .user)) 
       let done = done-is w in
       (ap placeOf done, ap (λ (a : Answer). cond (isDone a) (image input) before) done, ap (λ (a : Answer). cond (isDone a) (cluster input) work) done)
 
+  -- as the contract has it: o is the answer and the slices at exit
+  pub with-exactly : {o : Outcome} → o ≡ outcome input before work → (o ≡ outcome input before work) × WritesExactly input before work (numberOf (o .answer)) (o .image) (o .work)
+  with-exactly e = (e, subst (λ (o : Outcome). WritesExactly input before work (numberOf (o .answer)) (o .image) (o .work)) (sym e) exactly)
+    where
+      exactly : WritesExactly input before work (numberOf (outcome input before work .answer)) (outcome input before work .image) (outcome input before work .work)
+      exactly = record { zero-iff = encoded; image-is = λ z. filled (encoded .0 z) .1; work-is = λ z. filled (encoded .0 z) .2 }
+
 -- any other number leaves both slices as they were
 pub untouched : (input : Input) (before work : List ℕ) → (numberOf (outcome input before work .answer) ≡ 0 → ⊥)
     → (outcome input before work .image ≡ before) × (outcome input before work .work ≡ work)
@@ -77,3 +80,8 @@ unfolding outcome
 untouched input before work h =
     let kept = done-or-not (answer input (length before) (length work)) h in
     (ap (λ (d : Bool). cond d (image input) before) kept, ap (λ (d : Bool). cond d (cluster input) work) kept)
+
+-- the cluster of zeros is written
+pub zeros-written : (before work : List ℕ) → length before ≡ 119788 → length work ≡ 76880 → numberOf (outcome zeros before work .answer) ≡ 0
+zeros-written before work i w =
+    encoded zeros before work (zeros-accepted .user .bytes) (zeros-accepted .side .bytes) .1 (record { accepted = zeros-accepted; image-size = i; work-size = w })

@@ -1,3 +1,4 @@
--- What the writer answers and leaves.
+-- What the writer answers and leaves, and what is promised of it.
 pub mod Outcome
 pub mod Written
+pub mod Promise

@@ -6,7 +6,7 @@ use modulator::Table;
 ghost use mathlib.Core.Path.{_≡_};
 ghost use Prim.Native.Nat.{_*_, _<_};
 ghost use lib.ListN.{length, getD};
-ghost use Rattle.answer.specs.Answer.{andThen, lengthsAnswer};
+ghost use Rattle.answer.specs.Answer.{numberOf, andThen, lengthsAnswer};
 ghost use Rattle.modulation.specs.Sync.{syncNumber};
 ghost use Rattle.frame.specs.Written.{FrameWritten};
 ghost use Rattle.modulator.specs.Table.{lentTable};
@@ -14,6 +14,7 @@ ghost use Rattle.cluster.specs.EccCluster.{rowOf};
 ghost use Rattle.image.specs.Image.{Input};
 ghost use Rattle.writer.specs.Written.{FramesWritten, ImageWritten, Passed, Filled};
 ghost use Rattle.writer.specs.Outcome.{partsAnswer, firstTooLarge, Outcome, outcome};
+ghost use Rattle.writer.specs.Promise.{WritesExactly};
 
 // Test 8: the first dc word above 0FFFFFFFh, or 496.
 fn first_too_large(dc: &[u32]) -> usize
@@ -118,6 +119,8 @@ pub fn write_image(
 ) -> Answer
     ensures { λ r. ⌜ record { answer = r; image = now (image .exit); work = now (work .exit) }
         ≡ outcome (record { user = now (user .entry); psn = psn .0; side = now (side .entry); dc = now (dc .entry) }) (now (image .entry)) (now (work .entry)) ⌝ }
+    ensures { λ r. ⌜ WritesExactly (record { user = now (user .entry); psn = psn .0; side = now (side .entry); dc = now (dc .entry) }) (now (image .entry)) (now (work .entry))
+        (numberOf r) (now (image .exit)) (now (work .exit)) ⌝ }
 {
     let answer = judge(user.len(), psn, side.len(), dc, image.len(), work.len());
     if answer.is_done() {

@@ -26,7 +26,9 @@ same-length-4 : tie.Need-same-length-4
 same-length-4 c = search needs
 
 returns : tie.Need-returns
-returns c = search (same-reading)
+returns c =
+    let call = c .before .before .before .before .before .before .before .before .before .before in
+    same-reading (c .before .number .ensures) (c .place .ensures) (call .read-image .ensures)
 
 pub bdre-read-image-spec : {M : Type 1} → statement M
 bdre-read-image-spec =

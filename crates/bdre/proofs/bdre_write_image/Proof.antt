@@ -20,7 +20,9 @@ same-length-2 : tie.Need-same-length-2
 same-length-2 c = search needs
 
 returns : tie.Need-returns
-returns c = search (same-writing)
+returns c =
+    let call = c .before .before .before .before .before .before in
+    same-writing (c .before .number .ensures) (c .place .ensures) (call .write-image .ensures)
 
 pub bdre-write-image-spec : {M : Type 1} → statement M
 bdre-write-image-spec =

@@ -20,7 +20,7 @@ compare-requires c κs =
     let last = read .read-image .last .1 in
     let s =
     sizes (args .image .now) (record { user = args .bytes .now; side = args .control .now; dc = args .dc .now; work = args .work .now })
-    (record { user = last .0; side = last .1 .0; dc = last .1 .1 .0; work = last .1 .1 .1 .0 }) (read .read-image .ensures) (test .before .is-done .ensures) (test .if1 .taken) in
+    (record { user = last .0; side = last .1 .0; dc = last .1 .1 .0; work = last .1 .1 .1 .0 }) (read .read-image .ensures .0) (test .before .is-done .ensures) (test .if1 .taken) in
     search needs
 
 same-length : tie.Need-same-length

@@ -1,5 +1,6 @@
+-- `read_image` meets its contract: the lengths, then the image (Reading), and what is promised of it (Statements).
+use Rattle.reader.proofs.Statements.{with-exactly}
 use Rattle.reader.proofs.Reading.{may-read, is-read, is-refused}
--- `read_image` meets its contract: the lengths, then the image (Reading).
 use borrow.Author.Needs.{needs}
 use Rattle.reader.proofs.read_image.Statement.{statement}
 use Rattle.reader.proofs.read_image.Tie as tie
@@ -26,13 +27,18 @@ same-length-4 : tie.Need-same-length-4
 same-length-4 c = search needs
 
 returns : tie.Need-returns
-returns c = search (is-read)
+returns c =
+    let test = c .before .before .before .before .before .before .before .before .before .before .before .before in
+    let start = test .before .before .before .before .before .before .before .before in
+    with-exactly _ _ (λ k. start .shared-slice-known .given k .fits) (search (is-read))
 
 refused-requires : tie.Need-refused-requires
 refused-requires c κs = search needs
 
 returns-2 : tie.Need-returns-2
-returns-2 c = search (is-refused)
+returns-2 c =
+    let start = c .before .before .before .before .before .before .before .before in
+    with-exactly _ _ (λ k. start .shared-slice-known .given k .fits) (search (is-refused))
 
 pub read-image-spec : {M : Type 1} → statement M
 read-image-spec =

@@ -1,4 +1,5 @@
--- `write_image` meets its contract: what was judged decides between writing and refusing (Judging).
+-- `write_image` meets its contract: what was judged decides between writing and refusing (Judging), and what is promised of it (Statements).
+use Rattle.writer.proofs.Statements.{with-exactly}
 use Rattle.writer.proofs.Judging.{may-write, is-written, is-refused}
 use borrow.Author.Needs.{needs}
 use Rattle.writer.proofs.write_image.Statement.{statement}
@@ -20,10 +21,15 @@ same-length-2 : tie.Need-same-length-2
 same-length-2 c = search needs
 
 returns : tie.Need-returns
-returns c = search (is-written)
+returns c =
+    let test = c .before .before .before .before .before .before .before in
+    let sides = test .before .before .before .before .before .before in
+    with-exactly _ _ _ (λ k. sides .before .shared-slice-known .given k .fits) (λ k. sides .shared-slice-known2 .given k .fits) (search (is-written))
 
 returns-2 : tie.Need-returns-2
-returns-2 c = search (is-refused)
+returns-2 c =
+    let sides = c .before .before .before .before .before .before in
+    with-exactly _ _ _ (λ k. sides .before .shared-slice-known .given k .fits) (λ k. sides .shared-slice-known2 .given k .fits) (search (is-refused))
 
 pub write-image-spec : {M : Type 1} → statement M
 write-image-spec =

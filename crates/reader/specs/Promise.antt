@@ -1,0 +1,29 @@
+-- What is promised of reading: the number is 0 only for the image of what is returned, and always for an accepted input's image (demands 1 and 2).
+use mathlib.Core.Path.{_≡_}
+use mathlib.Core.List.{List}
+use Prim.Native.Nat.{ℕ}
+use lib.ListN.{length}
+use Rattle.image.specs.Image.{Input, IsAccepted, cluster, image}
+use Rattle.reader.specs.Outcome.{Lent}
+
+-- the lent slices have the lengths that the reader asks
+pub record Fitting (lent : Lent) : Type 0 where
+  pub user : length (lent .user) ≡ 65536
+  pub side : length (lent .side) ≡ 592
+  pub dc : length (lent .dc) ≡ 496
+  pub work : length (lent .work) ≡ 76880
+
+-- what is returned, as an input
+abbrev pub asInput : ℕ → Lent → Input
+asInput psn lent = record { user = lent .user; psn = psn; side = lent .side; dc = lent .dc }
+
+-- it is accepted, the image is its image, and work its ECC cluster
+pub record IsReturned (l : List ℕ) (psn : ℕ) (lent : Lent) : Type 0 where
+  pub accepted : IsAccepted (asInput psn lent)
+  pub image-is : l ≡ image (asInput psn lent)
+  pub work-is : lent .work ≡ cluster (asInput psn lent)
+
+-- l is the image; number and PSN that are returned; the lent slices, which were `before`
+pub record ReadsExactly (l : List ℕ) (before : Lent) (number psn : ℕ) (lent : Lent) : Type 0 where
+  pub only : number ≡ 0 → IsReturned l psn lent
+  pub always : Fitting before → (input : Input) → IsAccepted input → l ≡ image input → (number ≡ 0) × (asInput psn lent ≡ input)
