@@ -38,7 +38,7 @@ addresses =
 pub figure-31-addresses : map (λ (l : List ℕ). entry (rowOfAF (at l 2) (at l 3)) (columnOfAF (at l 2) (at l 3)) (at l 2) (at l 3)) addresses ≡ addresses
 figure-31-addresses = refl
 
--- j and S of UC j,S
+-- j and S of UC j,S; UC 17,1 and UC 0,2, which our text has in column 0, are read as in column 1 (docs/DECISIONS)
 abbrev control : List (List ℕ)
 control =
     entry 6 0 0 0 ∷ entry 6 1 6 1 ∷ entry 6 2 12 2 ∷ entry 6 3 0 4 ∷ entry 6 23 12 30 ∷

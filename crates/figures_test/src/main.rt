@@ -69,53 +69,92 @@ fn show(figure: Figure, row: usize, shown: &[u8]) {
     io::write_all(1, b"\n");
 }
 
+// ---- Figure 23
+
+fn data_block(row: usize, shown: &[u8]) {
+    show(Figure::DataBlock, row, shown);
+}
+
 fn figure_23() {
     say(b"Figure 23\n");
-    show(Figure::DataBlock, 0, b"xx:xx:xx:x");
-    show(Figure::DataBlock, 1, b"xx:xx:xx:x");
-    show(Figure::DataBlock, 106, b":::x::::::");
-    show(Figure::DataBlock, 107, b":::x::::::");
-    show(Figure::DataBlock, 108, b":::x::::::");
-    show(Figure::DataBlock, 109, b":::x::::::");
-    show(Figure::DataBlock, 214, b":::x::::::");
-    show(Figure::DataBlock, 215, b"xx:xx:xx:x");
+    data_block(0, b"xx:xx:xx:x");
+    data_block(1, b"xx:xx:xx:x");
+    inside_column_9();
+    data_block(215, b"xx:xx:xx:x");
+}
+
+// Where a data frame ends.
+fn inside_column_9() {
+    data_block(106, b":::x::::::");
+    data_block(107, b":::x::::::");
+    data_block(108, b":::x::::::");
+    data_block(109, b":::x::::::");
+    data_block(214, b":::x::::::");
+}
+
+// ---- Figure 26
+
+fn ldc_cluster(row: usize, shown: &[u8]) {
+    show(Figure::LdcCluster, row, shown);
+}
+
+// Two rows, of which the first and the last cells are whole.
+fn two_rows(row: usize, next: usize) {
+    ldc_cluster(row, b"xx::x");
+    ldc_cluster(next, b"xx::x");
 }
 
 fn figure_26() {
     say(b"Figure 26\n");
-    show(Figure::LdcCluster, 0, b"xx:xx");
-    show(Figure::LdcCluster, 1, b"xx:xx");
-    show(Figure::LdcCluster, 2, b"xx::x");
-    show(Figure::LdcCluster, 3, b"xx::x");
-    show(Figure::LdcCluster, 4, b"xx::x");
-    show(Figure::LdcCluster, 5, b"xx:::");
-    show(Figure::LdcCluster, 100, b"xx::x");
-    show(Figure::LdcCluster, 101, b"xx::x");
-    show(Figure::LdcCluster, 102, b"xx::x");
-    show(Figure::LdcCluster, 103, b"xx::x");
-    show(Figure::LdcCluster, 492, b"xx::x");
-    show(Figure::LdcCluster, 493, b"xx::x");
-    show(Figure::LdcCluster, 494, b"xx::x");
-    show(Figure::LdcCluster, 495, b"xx::x");
+    ldc_cluster(0, b"xx:xx");
+    ldc_cluster(1, b"xx:xx");
+    two_rows(2, 3);
+    ldc_cluster(4, b"xx::x");
+    ldc_cluster(5, b"xx:::");
+    two_rows(100, 101);
+    two_rows(102, 103);
+    two_rows(492, 493);
+    two_rows(494, 495);
+}
+
+// ---- Figure 31
+
+fn access_block(row: usize, shown: &[u8]) {
+    show(Figure::AccessBlock, row, shown);
+}
+
+fn address_rows() {
+    access_block(0, b"xxxxxxxxxx::xxx");
+    access_block(1, b"xxxx::x::x::xxx");
+    access_block(2, b"xxxxxxxxxx::xxx");
+    access_block(3, b"x::xxxx::x::xxx");
+    access_block(4, b"xxxxxxxxxx::xxx");
+    access_block(5, b"x::x::xxxx::xxx");
+}
+
+// UC 17,1 and, below, UC 0,2 are read as in column 1 (docs/DECISIONS).
+fn first_control_rows() {
+    access_block(6, b"xxxx::::::::::x");
+    access_block(11, b"::x:::::::::::x");
+    access_block(12, b"::x:::::::::::x");
+    access_block(17, b":x:::::::::::::");
+}
+
+fn last_control_rows() {
+    access_block(18, b":x:::::::::::x:");
+    access_block(23, b"x::x:::::::::::");
+    access_block(24, b"x::x:::::::::::");
+    access_block(29, b"xxx::::::::::xx");
 }
 
 fn figure_31() {
     say(b"Figure 31\n");
-    show(Figure::AccessBlock, 0, b"xxxxxxxxxx::xxx");
-    show(Figure::AccessBlock, 1, b"xxxx::x::x::xxx");
-    show(Figure::AccessBlock, 2, b"xxxxxxxxxx::xxx");
-    show(Figure::AccessBlock, 3, b"x::xxxx::x::xxx");
-    show(Figure::AccessBlock, 4, b"xxxxxxxxxx::xxx");
-    show(Figure::AccessBlock, 5, b"x::x::xxxx::xxx");
-    show(Figure::AccessBlock, 6, b"xxxx::::::::::x");
-    show(Figure::AccessBlock, 11, b"::x:::::::::::x");
-    show(Figure::AccessBlock, 12, b"::x:::::::::::x");
-    show(Figure::AccessBlock, 17, b":x:::::::::::::");
-    show(Figure::AccessBlock, 18, b":x:::::::::::x:");
-    show(Figure::AccessBlock, 23, b"x::x:::::::::::");
-    show(Figure::AccessBlock, 24, b"x::x:::::::::::");
-    show(Figure::AccessBlock, 29, b"xxx::::::::::xx");
+    address_rows();
+    first_control_rows();
+    last_control_rows();
 }
+
+// ---- Figures 34 and 35
 
 // The first rows of a unit.
 fn first_rows(unit: usize, count: usize) {
@@ -156,6 +195,8 @@ fn figure_35() {
     cells::bis_row(15, 7);
     cells::bis_row(15, 30);
 }
+
+// ---- Figure 36
 
 fn figure_36() {
     say(b"Figure 36\n");

@@ -1,7 +1,8 @@
 -- The entries that the standard prints of the data block (Figure 23) and the LDC cluster (Figure 26, where document 003's text is whole).
 use mathlib.Core.Path.{_≡_, refl}
 use mathlib.Core.List.{List, [], _∷_, map}
-use Prim.Native.Nat.{ℕ}
+use Prim.Native.Nat.{ℕ, _+_, _*_}
+use native.Mathlib.Omega.{arith}
 use Rattle.ldc.specs.LdcBlock.{frameOf, byteOf, dataIndex}
 use Rattle.ldc.specs.LdcCluster.{shifted}
 
@@ -28,6 +29,10 @@ pub figure-23 : map (λ (p : At). entry (byteOf (dataIndex (p .column) (p .row))
     entry 2050 0 ∷ entry 2051 0 ∷ entry 0 1 ∷ entry 1 1 ∷ entry 106 1 ∷
     entry 215 0 ∷ entry 431 0 ∷ entry 107 1 ∷ entry 323 1 ∷ entry 2051 1 ∷ entry 215 2 ∷ entry 2051 31 ∷ [])
 figure-23 = refl
+
+-- 13.5: every even data frame ends halfway down a column, and the odd one behind it starts there
+pub halfway : (h : ℕ) → (2052 * (2 * h) + 2051 ≡ dataIndex (19 * h + 9) 107) × (2052 * (2 * h + 1) ≡ dataIndex (19 * h + 9) 108)
+halfway h = (omega arith, omega arith)
 
 -- Figure 26: byte and code word of what stands in the LDC cluster
 pub figure-26 : map (λ (p : At). entry (shifted (p .row) (p .column) .byte) (shifted (p .row) (p .column) .word))
