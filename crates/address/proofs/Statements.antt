@@ -1,16 +1,20 @@
 -- What is promised of the numberings, on their definitions. Assumes nothing.
 use mathlib.Core.Path.{_≡_, refl, sym, ap, _∙_}
-use mathlib.Core.Bool.{Bool, true, false, _&&_}
+use mathlib.Core.Bool.{Bool, true, false, cond, _&&_}
 use mathlib.Core.List.{[], _∷_, map}
-use Prim.Native.Nat.{ℕ, _+_, _*_, _-_, _/_, _%_, _<_, _≤_}
+use mathlib.Core.Logic.{_↔_}
+use Prim.Native.Nat.{ℕ, _+_, _*_, _-_, _/_, _%_, _^_, _<_, _≤_}
 use native.Mathlib.Omega.{arith}
 use borrow.Author.Tests.{eqb-true, eq-eqb, leb-true, le-leb}
 use native.Mathlib.Nat.{mul-mod-right, mul-div-cancel-left}
 use lib.Arith.{digits-mod}
-use lib.Dec.{leb}
+use lib.Dec.{leb, eqb}
 use Rattle.address.specs.Zones.{Zone, zone0, zone1, zone2, within, firstOfCluster}
-use Rattle.address.specs.Judged.{judged, numberOf}
-use Rattle.address.specs.Conversions.{aunOf, paaOf}
+use Rattle.address.specs.declared.Judged.{Judged}
+use Rattle.address.specs.declared.Judged.the-variants.{Accepted, NoMultiple, NoZone}
+use Rattle.address.specs.Judged.{judged, numberOf, ifAccepted}
+use Rattle.address.specs.Conversions.{aunOf, paaOf, psnToPaa, paaToPsn, aunToPsn, Leads, IsAunOf, IsPaaOf}
+use Rattle.address.proofs.Accepted.{accepted-multiple}
 
 -- ---- document 01's examples
 
@@ -21,9 +25,35 @@ pub examples : map (λ (psn : ℕ). numberOf (judged psn))
 unfolding judged
 examples = refl
 
--- the first clusters of the zones (the PAAs that 15.8.3.3, 15.8.3.4 and clause 18 name)
-pub first-paas : map paaOf (zone0 .first ∷ zone1 .first ∷ zone2 .first ∷ []) ≡ 0x02_0000 ∷ 0x5E_EC80 ∷ 0x82_0000 ∷ []
+-- ---- the first and the last PAA of each data zone, which 15.8.3.3 and 15.8.3.4 name (bytes 19 to 22, 23 to 26)
+
+abbrev FAA : ℕ
+FAA = 0x5E_EC80
+
+abbrev LAA : ℕ
+LAA = 0x21_137E
+
+-- 15.7.4.3: in data zone 2
+abbrev LAA2 : ℕ
+LAA2 = LAA + 0x80_0000
+
+pub first-paas : map paaOf (zone0 .first ∷ zone1 .first ∷ zone2 .first ∷ []) ≡ 0x02_0000 ∷ FAA ∷ 0x82_0000 ∷ []
 first-paas = refl
+
+-- 17.2: the last PSN is 8 times the last PAA, and 15
+pub last-psns : map (λ (paa : ℕ). 8 * paa + 15) (LAA ∷ 0x7D_FFFE ∷ LAA2 ∷ []) ≡ zone0 .last ∷ zone1 .last ∷ zone2 .last ∷ []
+last-psns = refl
+
+pub last-laa2 : LAA2 ≡ 0xA1_137E
+last-laa2 = refl
+
+-- it belongs to the third ADIP word of the last cluster
+pub last-words : map (λ (paa : ℕ). paa - 2) (LAA ∷ 0x7D_FFFE ∷ LAA2 ∷ []) ≡ map (λ (last : ℕ). paaOf (last - 31)) (zone0 .last ∷ zone1 .last ∷ zone2 .last ∷ [])
+last-words = refl
+
+-- formulas 49 and 50: 25 bits inverted
+pub inverted-paas : map (λ (paa : ℕ). 2 ^ 25 - 1 - (paa + 0x180_0001)) (0x02_0000 ∷ LAA ∷ []) ≡ 0x7D_FFFE ∷ FAA ∷ []
+inverted-paas = refl
 
 -- ---- how many clusters a zone holds
 
@@ -83,3 +113,61 @@ pub aun-inj : (p q s t : ℕ) → p % 32 ≡ 0 → q % 32 ≡ 0 → s < 16 → t
 aun-inj p q s t hp hq hs ht e =
     let cluster : p / 32 ≡ q / 32 = sym (aun-bits p s hs .0) ∙ ap (λ (x : ℕ). x / 32) e ∙ aun-bits q t ht .0 in
     (omega arith, sym (aun-bits p s hs .1) ∙ ap (λ (x : ℕ). x / 2 % 16) e ∙ aun-bits q t ht .1)
+
+-- ---- groove addresses
+
+-- the bits that 15.7.4.2 names: the layer number, then the sequence number, then 00
+pub paa-bits : (psn : ℕ) → psn % 32 ≡ 0 → (paaOf psn / 2 ^ 22 ≡ psn / 2 ^ 25) × (paaOf psn / 4 ≡ psn / 32) × (paaOf psn % 4 ≡ 0)
+paa-bits psn m = (omega arith, omega arith, omega arith)
+
+-- a refused PSN has no PAA, and gets that answer
+pub paa-refused : (psn : ℕ) → (judged psn ≡ Accepted → ⊥) → psnToPaa psn ≡ record { judged = judged psn; paa = record { 0 = 0 } }
+unfolding psnToPaa
+paa-refused psn refused = ap (λ (x : ℕ). record { judged = judged psn; paa = record { 0 = x } }) (by (judged psn) refl)
+  where
+    by : (j : Judged) → judged psn ≡ j → ifAccepted j (paaOf psn) ≡ 0
+    by Accepted e = absurd (refused e)
+    by NoMultiple e = refl
+    by NoZone e = refl
+
+-- ---- back to the PSN
+
+if-accepted : (j : Judged) (x : ℕ) → j ≡ Accepted → ifAccepted j x ≡ x
+if-accepted j x e = ap (λ (k : Judged). ifAccepted k x) e
+
+-- every PAA of an accepted PSN leads back to it, and nothing else leads to a PSN
+pub paa-leads : (paa psn : ℕ) → Leads (paaToPsn paa) psn ↔ IsPaaOf psn paa
+unfolding paaToPsn
+paa-leads paa psn = (only, back)
+  where
+    only : Leads (paaToPsn paa) psn → IsPaaOf psn paa
+    only leads =
+        let own : 8 * paa ≡ psn = sym (if-accepted (judged (8 * paa)) (8 * paa) (leads .accepted)) ∙ leads .number in
+        record { accepted = ap judged (sym own) ∙ leads .accepted; number = omega (arith, own) }
+
+    back : IsPaaOf psn paa → Leads (paaToPsn paa) psn
+    back is =
+        let own : 8 * paa ≡ psn = omega (arith, is .number, accepted-multiple psn (is .accepted)) in
+        let accepted : judged (8 * paa) ≡ Accepted = ap judged own ∙ is .accepted in
+        record { accepted = accepted; number = if-accepted (judged (8 * paa)) (8 * paa) accepted ∙ own }
+
+-- each of the sixteen AUNs of an accepted PSN leads back to it, and nothing else leads to a PSN
+pub aun-leads : (aun psn : ℕ) → Leads (aunToPsn aun) psn ↔ IsAunOf psn aun
+unfolding aunToPsn
+aun-leads aun psn = (λ leads. only (eqb (aun % 2) 0) refl (leads .accepted) (leads .number), back)
+  where
+    only : (even : Bool) → eqb (aun % 2) 0 ≡ even → cond even (judged (aun / 32 * 32)) NoMultiple ≡ Accepted
+        → ifAccepted (cond even (judged (aun / 32 * 32)) NoMultiple) (aun / 32 * 32) ≡ psn → IsAunOf psn aun
+    only true t accepted number =
+        let own : aun / 32 * 32 ≡ psn = sym (if-accepted (judged (aun / 32 * 32)) (aun / 32 * 32) accepted) ∙ number in
+        let even : aun % 2 ≡ 0 = eqb-true (aun % 2) 0 t in
+        record { accepted = ap judged (sym own) ∙ accepted; unit = aun / 2 % 16; within = omega arith; number = omega (arith, own, even) }
+    only false t accepted number = let no : _≡_ {A = ℕ} 6 0 = ap numberOf accepted in absurd (omega arith)
+
+    back : IsAunOf psn aun → Leads (aunToPsn aun) psn
+    back is =
+        let bits = aun-bits psn (is .unit) (is .within) in
+        let even : eqb (aun % 2) 0 ≡ true = eq-eqb (aun % 2) 0 (ap (λ (x : ℕ). x % 2) (is .number) ∙ bits .2) in
+        let own : aun / 32 * 32 ≡ psn = omega (arith, ap (λ (x : ℕ). x / 32) (is .number) ∙ bits .0, accepted-multiple psn (is .accepted)) in
+        let accepted : cond (eqb (aun % 2) 0) (judged (aun / 32 * 32)) NoMultiple ≡ Accepted = rw (even, own) (is .accepted) in
+        record { accepted = accepted; number = if-accepted _ (aun / 32 * 32) accepted ∙ own }

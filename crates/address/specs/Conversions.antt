@@ -1,10 +1,11 @@
--- Address unit numbers (AUN, 13.9.2.3), groove addresses (PAA, 17.2 and Figure 90), and what the conversions answer.
+-- Address unit numbers (AUN, 13.9.2.3), groove addresses (PAA, 15.7.4.2), and what the conversions answer.
 -- A value is 0 where its input is refused.
+use mathlib.Core.Path.{_≡_}
 use mathlib.Core.Bool.{cond}
-use Prim.Native.Nat.{ℕ, _+_, _*_, _/_, _%_}
+use Prim.Native.Nat.{ℕ, _+_, _*_, _/_, _%_, _<_}
 use lib.Dec.{leb, eqb}
 use Rattle.address.specs.declared.Judged.{Judged}
-use Rattle.address.specs.declared.Judged.the-variants.{NoMultiple}
+use Rattle.address.specs.declared.Judged.the-variants.{Accepted, NoMultiple}
 use Rattle.address.specs.declared.PsnAnswer.{PsnAnswer}
 use Rattle.address.specs.declared.AunAnswer.{AunAnswer}
 use Rattle.address.specs.declared.PaaAnswer.{PaaAnswer}
@@ -14,7 +15,8 @@ use Rattle.address.specs.Judged.{judged, ifAccepted}
 abbrev pub aunOf : ℕ → ℕ → ℕ
 aunOf psn unit = psn / 32 * 32 + unit * 2
 
--- the PAA of the cluster's first word
+-- The PAA of the cluster's first ADIP word, PSN ÷ 8 (document 01): AA24 to AA2 are PS27 to PS5, layer and sequence number, and AA1, AA0 are 00,
+-- the first of the three words of a recording-unit block (proofs/Statements: paa-bits). Figure 90 is lost in our text.
 abbrev pub paaOf : ℕ → ℕ
 paaOf psn = psn / 8
 
@@ -37,3 +39,22 @@ paaToPsn paa = psnAnswer (judged (8 * paa)) (8 * paa)
 -- AUN to the PSN of its cluster; 6 where AU0 is ONE
 unfoldable pub aunToPsn : ℕ → PsnAnswer
 aunToPsn aun = psnAnswer (cond (eqb (aun % 2) 0) (judged (aun / 32 * 32)) NoMultiple) (aun / 32 * 32)
+
+-- ---- what the way back means (proofs/Statements: aun-leads, paa-leads)
+
+-- the answer is an accepted PSN, this one
+pub record Leads (answer : PsnAnswer) (psn : ℕ) : Type 0 where
+  pub accepted : answer .judged ≡ Accepted
+  pub number : answer .psn .0 ≡ psn
+
+-- one of the sixteen AUNs of an accepted PSN
+pub record IsAunOf (psn aun : ℕ) : Type 0 where
+  pub accepted : judged psn ≡ Accepted
+  pub unit : ℕ
+  pub within : unit < 16
+  pub number : aun ≡ aunOf psn unit
+
+-- the PAA of an accepted PSN; a refused one has none
+pub record IsPaaOf (psn paa : ℕ) : Type 0 where
+  pub accepted : judged psn ≡ Accepted
+  pub number : paa ≡ paaOf psn

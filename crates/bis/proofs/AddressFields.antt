@@ -12,8 +12,9 @@ use Rattle.laws.specs.Tabulate.{tabulate}
 use Rattle.laws.proofs.Bytes.{bytes-append, bytes-tabulate}
 use Rattle.laws.proofs.Finite.{all, equal-below, bounded-below}
 use Rattle.laws.proofs.Tabulate.{is-tabulate, getD-tabulate, length-tabulate}
-use Rattle.column.specs.Column.{hasRoots, parity}
+use Rattle.column.specs.Column.{generator, MultipleOf, hasRoots, parity}
 use Rattle.column.proofs.Parity.{parity-length, parity-bytes, parity-test, test-column}
+use Rattle.column.proofs.Multiple.{parity-multiple}
 use Rattle.bis.specs.AddressField.{reordered, information, primaryField, isInverted, invertedAt, partlyInverted, addressField, restored, aunIn, flagIn}
 
 -- ---- the order of bits
@@ -135,6 +136,10 @@ module _ (aun flag : ℕ) (ha : aun < 2 ^ 32) (hf : flag < 256) where
   pub primary-roots : hasRoots 4 (primaryField aun flag) ≡ true
   unfolding primaryField
   primary-roots = parity-test 4 (information aun flag) (information-bytes aun flag ha hf)
+
+  pub primary-multiple : MultipleOf (generator 4) (primaryField aun flag)
+  unfolding primaryField
+  primary-multiple = parity-multiple 4 (information aun flag) (information-bytes aun flag ha hf)
 
   pub bytes-field : Bytes (addressField aun flag)
   unfolding addressField

@@ -15,8 +15,9 @@ use Rattle.laws.proofs.First.{first-none, first-all}
 use Rattle.address.specs.declared.Judged.the-variants.{Accepted}
 use Rattle.address.specs.Judged.{judged}
 use Rattle.address.specs.Conversions.{aunOf}
-use Rattle.column.specs.Column.{parity, hasRoots}
+use Rattle.column.specs.Column.{generator, MultipleOf, parity, hasRoots}
 use Rattle.column.proofs.Parity.{parity-length, parity-bytes, parity-test, test-column}
+use Rattle.column.proofs.Multiple.{parity-multiple}
 use Rattle.bis.specs.AddressField.{primaryField, partlyInverted, addressField, aunIn, flagIn}
 use Rattle.bis.specs.AccessBlock.{Side, fieldOf, addressFields, rowOfAF, columnOfAF, fieldAt, byteAt, rowOfUC, columnOfUC, controlAt, accessByte}
 use Rattle.bis.specs.BisBlock.{accessColumn, codeWord, bisBlock, Block}
@@ -91,6 +92,13 @@ module _ (psn : ℕ) (side : List ℕ) (accepted : judged psn ≡ Accepted) (byt
             ap (λ (c : List ℕ). not (hasRoots 32 c)) (column-is C h)
             ∙ ap not (parity-test 32 (accessColumn (addressFields psn side) side C) (bytes-access C h));
       })
+
+  written-multiples : (C : ℕ) → C < 24 → MultipleOf (generator 32) (codeWord (addressFields psn side) side C)
+  unfolding codeWord
+  written-multiples C h = parity-multiple 32 (accessColumn (addressFields psn side) side C) (bytes-access C h)
+
+  pub column-multiple : (C : ℕ) → C < 24 → MultipleOf (generator 32) (getD (bisBlock psn side) C [])
+  column-multiple C h = rw (column-is C h) (written-multiples C h)
 
   -- an information byte of the block
   byte-is : (C row : ℕ) → C < 24 → row < 30 → getD (getD (bisBlock psn side) C []) row 0 ≡ accessByte (addressFields psn side) side row C

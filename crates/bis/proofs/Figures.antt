@@ -2,9 +2,10 @@
 -- Each table is as printed: a part of each line, recomputed from the other part by the definitions, is the same. Assumes nothing.
 use mathlib.Core.Path.{_≡_, refl}
 use mathlib.Core.List.{List, [], _∷_, map}
-use Prim.Native.Nat.{ℕ, _+_, _*_, _/_, _%_, _<_}
+use Prim.Native.Nat.{ℕ, _+_, _*_, _/_, _%_, _<_, _≤_}
+use native.Mathlib.Omega.{arith}
 use lib.ListN.{getD}
-use Rattle.laws.proofs.Finite.{all, all₂, equal-below₂}
+use Rattle.laws.proofs.Finite.{all, all₂, equal-below₂, bounded-below₂}
 use Rattle.bis.specs.AccessBlock.{rowOfAF, columnOfAF, controlAt}
 use Rattle.bis.specs.BisCluster.{unitOf, rowInUnit, rowOf, columnOf, byteAt, wordAt}
 
@@ -37,7 +38,7 @@ addresses =
 pub figure-31-addresses : map (λ (l : List ℕ). entry (rowOfAF (at l 2) (at l 3)) (columnOfAF (at l 2) (at l 3)) (at l 2) (at l 3)) addresses ≡ addresses
 figure-31-addresses = refl
 
--- j and S of UC j,S
+-- j and S of UC j,S; UC 17,1 and UC 0,2, which our text has in column 0, are read as in column 1 (docs/DECISIONS)
 abbrev control : List (List ℕ)
 control =
     entry 6 0 0 0 ∷ entry 6 1 6 1 ∷ entry 6 2 12 2 ∷ entry 6 3 0 4 ∷ entry 6 23 12 30 ∷
@@ -113,3 +114,28 @@ module _ (x y : ℕ) (hx : x < 9) (hy : y < 16) where
   pub figure-36-column : columnOf (rowOfAF x y) (columnOfAF x y) ≡ x % 3
   unfolding all all₂
   figure-36-column = equal-below₂ 9 16 (λ x y. columnOf (rowOfAF x y) (columnOfAF x y)) (λ x y. x % 3) tt x y hx hy
+
+-- ---- 13.13's conclusions: which rows of an address unit hold what
+
+module _ (N C : ℕ) (hN : N < 62) (hC : C < 24) where
+  row-in : rowOf N C % 31 ≡ rowInUnit N
+  unfolding all all₂
+  row-in = equal-below₂ 62 24 (λ N C. rowOf N C % 31) (λ N C. rowInUnit N) tt N C hN hC
+
+  -- information bytes, b 0,C to b 29,C, in the first 15
+  pub information-rows : N < 30 → rowOf N C % 31 < 15
+  information-rows h = omega (arith, row-in)
+
+  -- parity bytes, pb 30,C to pb 61,C, in the last 16
+  pub parity-rows : 30 ≤ N → (15 ≤ rowOf N C % 31) × (rowOf N C % 31 < 31)
+  parity-rows h = (omega (arith, row-in), omega arith)
+
+-- each address field, in the first 3 of its own
+module _ (x y : ℕ) (hx : x < 9) (hy : y < 16) where
+  pub address-unit : rowOf (rowOfAF x y) (columnOfAF x y) / 31 ≡ y
+  unfolding all all₂
+  address-unit = equal-below₂ 9 16 (λ x y. rowOf (rowOfAF x y) (columnOfAF x y) / 31) (λ x y. y) tt x y hx hy
+
+  pub address-rows : rowOf (rowOfAF x y) (columnOfAF x y) % 31 < 3
+  unfolding all all₂
+  address-rows = bounded-below₂ 9 16 3 (λ x y. rowOf (rowOfAF x y) (columnOfAF x y) % 31) tt x y hx hy

@@ -2,24 +2,24 @@
 use mathlib.Core.Path.{_≡_, refl, sym, ap, _∙_}
 use mathlib.Core.Logic.{_↔_}
 use mathlib.Core.Bool.{true}
-use mathlib.Core.List.{List}
+use mathlib.Core.List.{List, []}
 use Prim.Native.Nat.{ℕ, _^_, _<_}
 use native.Mathlib.Omega.{arith}
-use lib.ListN.{length}
+use lib.ListN.{length, getD}
 use Rattle.laws.specs.Bytes.{Bytes}
 use Rattle.address.specs.declared.Judged.the-variants.{Accepted}
 use Rattle.address.specs.declared.Psn.{Psn}
 use Rattle.address.specs.Judged.{judged}
-use Rattle.column.specs.Column.{hasRoots}
+use Rattle.column.specs.Column.{generator, MultipleOf, hasRoots}
 use Rattle.bis.specs.declared.PsnFound.{PsnFound}
 use Rattle.bis.specs.declared.PsnFound.the-variants.{Found, NotFound}
-use Rattle.bis.specs.AddressField.{partlyInverted, addressField, aunIn, flagIn}
+use Rattle.bis.specs.AddressField.{primaryField, partlyInverted, addressField, aunIn, flagIn}
 use Rattle.bis.specs.AccessBlock.{Side}
 use Rattle.bis.specs.BisBlock.{bisBlock, Block}
 use Rattle.bis.specs.Reading.{IsPsnOf, psnIn, sideIn, Reads}
-use Rattle.bis.proofs.AddressFields.{aun-back, flag-back, primary-roots, primary-back, inverted-back, field-only}
+use Rattle.bis.proofs.AddressFields.{aun-back, flag-back, primary-roots, primary-multiple, primary-back, inverted-back, field-only}
 use Rattle.bis.proofs.Psn.{found-is, is-there}
-use Rattle.bis.proofs.Blocks.{written-block, written-columns, written-fields, written-psn, written-side, side-in, block-is}
+use Rattle.bis.proofs.Blocks.{written-block, written-columns, column-multiple, written-fields, written-psn, written-side, side-in, block-is}
 
 -- ---- 13.9.2.2: partial inversion undoes itself; with it undone an address field has its roots, its AUN and its flag byte, and nine bytes
 -- that have the roots are an address field
@@ -38,6 +38,14 @@ field-back aun flag ha hf =
 pub field-determined : (field : List ℕ) → length field ≡ 9 → Bytes field → hasRoots 4 (partlyInverted field) ≡ true
     → field ≡ addressField (aunIn (partlyInverted field)) (flagIn (partlyInverted field))
 field-determined = field-only
+
+-- ---- 13.9.2.2, 13.12: a primary address field and a BIS code word are multiples of their generators
+
+pub field-multiple : (aun flag : ℕ) → aun < 2 ^ 32 → flag < 256 → MultipleOf (generator 4) (primaryField aun flag)
+field-multiple = primary-multiple
+
+pub word-multiple : (psn : ℕ) (side : List ℕ) → judged psn ≡ Accepted → Side side → (C : ℕ) → C < 24 → MultipleOf (generator 32) (getD (bisBlock psn side) C [])
+word-multiple psn side accepted is = column-multiple psn side accepted (is .bytes)
 
 -- ---- 14: the PSN that is found is accepted and has the sixteen AUNs, and such a PSN is found; none is found exactly where there is none
 

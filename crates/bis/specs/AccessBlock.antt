@@ -10,7 +10,8 @@ use Rattle.laws.specs.Tabulate.{tabulate}
 use Rattle.address.specs.Conversions.{aunOf}
 use Rattle.bis.specs.AddressField.{addressField}
 
--- Side data (document 01): 16 flag bytes, one for each address unit, then byte j of user control data unit S at 16 + 18 S + j.
+-- Side data (document 01): 16 flag bytes, one for each address unit, then 32 × 18 bytes of user control data. They are taken unit by unit: byte j
+-- of unit S at 16 + 18 S + j (docs/DECISIONS).
 pub record Side (side : List ℕ) : Type 0 where
   pub size : length side ≡ 592
   pub bytes : Bytes side
@@ -39,7 +40,8 @@ fieldAt row column = 8 * (row % 2) + (row / 2 + 16 - column / 3) % 8
 abbrev pub byteAt : ℕ → ℕ → ℕ
 byteAt row column = 3 * (row / 2) + (column % 3 + row / 2) % 3
 
--- ---- where byte k = 18 S + j of the user control data (byte j of unit S) stands: it fills the other 24 rows down the columns
+-- ---- 13.10: the units of user control data are placed in the column direction, each in 3/4 of a column, in the other 24 rows. No formula is
+-- printed; this one, for byte k = 18 S + j (byte j of unit S), gives the entries of Figure 31 (proofs/Figures: figure-31-control).
 
 abbrev pub rowOfUC : ℕ → ℕ
 rowOfUC k = 6 + k % 24

@@ -20,7 +20,7 @@ length-pushed g [] d e = e
 length-pushed g (c ∷ cs) d e =
     length-sums (cs ++ 0 ∷ []) (scaled (sum d c) g) (length-snoc cs ∙ e ∙ sym (length-scaled (sum d c) g)) ∙ length-snoc cs ∙ e
 
-bytes-pushed : (g cs : List ℕ) (d : ℕ) → Bytes cs → Bytes (pushed g cs d)
+pub bytes-pushed : (g cs : List ℕ) (d : ℕ) → Bytes cs → Bytes (pushed g cs d)
 unfolding pushed
 bytes-pushed g [] d h = h
 bytes-pushed g (c ∷ cs) d h = bytes-sums (cs ++ 0 ∷ []) (scaled (sum d c) g) (bytes-snoc cs (λ j. h (suc j))) (bytes-scaled (sum d c) g)

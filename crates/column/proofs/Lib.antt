@@ -9,5 +9,6 @@ pub mod Unique
 pub mod Roots
 pub mod Parity
 pub mod Linear
+pub mod Multiple
 pub mod Eight
 pub mod Table

@@ -56,7 +56,7 @@ unfolding tabulate
 zeros-snoc zero = refl
 zeros-snoc (suc n) = ap (λ (l : List ℕ). 0 ∷ l) (zeros-snoc n)
 
-zeros-sums : (n : ℕ) (l : List ℕ) → length l ≡ n → sums (tabulate n (λ _. 0)) l ≡ l
+pub zeros-sums : (n : ℕ) (l : List ℕ) → length l ≡ n → sums (tabulate n (λ _. 0)) l ≡ l
 unfolding tabulate sums
 zeros-sums zero [] e = refl
 zeros-sums zero (x ∷ l) e = absurd (omega arith)

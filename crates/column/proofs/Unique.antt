@@ -33,7 +33,7 @@ exponents-fall [] = tt
 exponents-fall (c ∷ cs) = (le-refl (suc (length cs)), exponents-fall cs)
 
 -- the bytes before count with their power
-value-out : (v : ℕ) (cs : List ℕ) (x : ℕ) → v < 256 → Bytes cs → valueFrom v cs x ≡ sum (product v (power x (length cs))) (value cs x)
+pub value-out : (v : ℕ) (cs : List ℕ) (x : ℕ) → v < 256 → Bytes cs → valueFrom v cs x ≡ sum (product v (power x (length cs))) (value cs x)
 unfolding value valueFrom power
 value-out v [] x h b = sym (sum-zero (product v 1) ∙ product-one v h)
 value-out v (c ∷ cs) x h b =

@@ -2,7 +2,7 @@
 use mathlib.Core.Path.{_≡_}
 use mathlib.Core.Bool.{Bool, true, false, cond}
 use mathlib.Core.List.{List, [], _∷_, _++_}
-use Prim.Native.Nat.{ℕ, zero, suc, _<_}
+use Prim.Native.Nat.{ℕ, zero, suc, _-_, _<_}
 use lib.Dec.{eqb}
 use lib.ListN.{length, drop}
 use Rattle.laws.specs.Bytes.{Bytes}
@@ -65,6 +65,18 @@ unfoldable pub generator : ℕ → List ℕ
 generator zero = 1 ∷ []
 generator (suc r) = timesRoot (power α r) (generator r)
 
+-- q(x) g(x): each coefficient of q times g, at its place, and the sum of these. The product has one coefficient less than both together.
+unfoldable pub multiplied : List ℕ → List ℕ → List ℕ
+multiplied [] g = tabulate (length g - 1) (λ _. 0)
+multiplied (c ∷ q) g = sums (scaled c g ++ tabulate (length q) (λ _. 0)) (0 ∷ multiplied q g)
+
+-- the column, as a polynomial, is a multiple of g(x) (13.7, 13.9.2.2, 13.12: of the generator). It is exactly where it has the generator's roots
+-- (proofs/Multiple: right-multiple, multiple-right).
+pub record MultipleOf (g column : List ℕ) : Type 0 where
+  pub quotient : List ℕ
+  pub bytes : Bytes quotient
+  pub product : column ≡ multiplied quotient g
+
 -- One byte into the register that divides by the polynomial 1 ∷ g: it moves by one place, and the byte that comes out, with d, takes that
 -- multiple of g off.
 unfoldable pub pushed : List ℕ → List ℕ → ℕ → List ℕ
@@ -76,7 +88,7 @@ unfoldable pub remainder : List ℕ → List ℕ → List ℕ → List ℕ
 remainder g register [] = register
 remainder g register (d ∷ ds) = remainder g (pushed g register d) ds
 
--- the remainder of the message, times x^r, divided by the generator; the only r bytes that complete a multiple of it, with the roots
--- α^0 to α^(r - 1) (proofs/Parity: parity-only)
+-- the remainder of the message, times x^r, divided by the generator; the only r bytes that complete a multiple of it (proofs/Multiple:
+-- multiple-parity), with the roots α^0 to α^(r - 1) (proofs/Parity: parity-only)
 unfoldable pub parity : ℕ → List ℕ → List ℕ
 parity r message = remainder (drop 1 (generator r)) (tabulate r (λ _. 0)) message

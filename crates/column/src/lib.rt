@@ -49,7 +49,7 @@ fn divide(generator: &[u8], message: &[u8], register: &mut [u8])
     }
 }
 
-// The parity of an LDC or a BIS column's message.
+// The parity of an LDC or a BIS column's message: behind it they make a multiple of the generator (proofs/Multiple: parity-multiple).
 pub fn parity_32(message: &[u8], out: &mut [u8; 32])
     ensures { λ r. ⌜ now (out .exit) ≡ parity 32 (now (message .entry)) ⌝ }
 {
@@ -81,7 +81,8 @@ fn value_at(powers: &[u8; 256], logs: &[u8; 256], column: &[u8], x: Gf) -> Gf
     v
 }
 
-// Whether the column has the roots α^0 to α^(count - 1).
+// Whether the column has the roots α^0 to α^(count - 1): from count bytes on, whether it is a multiple of the generator (proofs/Multiple:
+// right-multiple, multiple-right).
 pub fn has_roots(column: &[u8], count: u8) -> bool
     ensures { λ r. ⌜ r ≡ hasRoots count (now (column .entry)) ⌝ }
 {

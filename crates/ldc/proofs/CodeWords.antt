@@ -10,8 +10,9 @@ use lib.Seq.{getD-take, length-take-le}
 use Rattle.laws.specs.Bytes.{Bytes}
 use Rattle.laws.proofs.Bytes.{bytes-tabulate, bytes-append}
 use Rattle.laws.proofs.Tabulate.{length-tabulate, getD-tabulate, is-tabulate}
-use Rattle.column.specs.Column.{parity, hasRoots}
+use Rattle.column.specs.Column.{generator, MultipleOf, parity, hasRoots}
 use Rattle.column.proofs.Parity.{parity-length, parity-bytes, parity-test, test-column}
+use Rattle.column.proofs.Multiple.{parity-multiple}
 use Rattle.ldc.specs.LdcBlock.{dataByte, information, codeWord}
 use Rattle.ldc.specs.LdcCluster.{shifted, ldcByte}
 use Rattle.ldc.specs.Places.{placeOf, at, wordIn, dataIn, frameIn}
@@ -55,6 +56,11 @@ module _ (frames : ℕ → List ℕ) (L : ℕ) (bytes : (F : ℕ) → Bytes (fra
   pub word-roots : hasRoots 32 (codeWord frames L) ≡ true
   unfolding codeWord
   word-roots = parity-test 32 (information frames L) bytes-information
+
+  -- 13.7: a code word is a multiple of the generator
+  pub word-multiple : MultipleOf (generator 32) (codeWord frames L)
+  unfolding codeWord
+  word-multiple = parity-multiple 32 (information frames L) bytes-information
 
 -- ---- what a cluster was made of comes out again
 

@@ -13,4 +13,5 @@ pub mod Spacing
 pub mod Streams
 pub mod Limits
 pub mod Unique
+pub mod Syncs
 pub mod Theorems

@@ -26,7 +26,7 @@ syncId FS6 = m010 ∷ m000 ∷ []
 abbrev pub sync : Bool → FS → List Three
 sync hash n = syncBody hash ++ syncId n
 
--- Figure 41: recording frames 0 to 30 of an address unit
+-- Figure 41: recording frames 0 to 30 of an address unit (proofs/Syncs: as printed, and Figure 40)
 abbrev pub syncNumbers : List FS
 syncNumbers =
     FS0 ∷
