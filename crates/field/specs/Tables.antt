@@ -25,7 +25,7 @@ pub record AreTables (p l : List ℕ) : Type 0 where
   pub powers : p ≡ powerTable
   pub logs : l ≡ logTable
 
--- what stands in a table of powers at the exponent k, which counts modulo 255
+-- what stands in a table of powers at k, the sum of two logarithms; 255 is taken off once where k is not below it
 unfoldable pub powerBy : List ℕ → ℕ → ℕ
 powerBy powers k = cond (ltb k 255) (getD powers k 0) (getD powers (k - 255) 0)
 

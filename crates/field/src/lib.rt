@@ -67,7 +67,7 @@ impl Gf {
         }
     }
 
-    // The exponent counts modulo 255, except that 0 to the power 0 is 1.
+    // To the power 0 any element is one. Zero to any other power is zero; of another element the exponent counts modulo 255.
     pub fn power(self, k: usize) -> Gf
         ensures { λ r. ⌜ r .0 ≡ power (self .0) k ⌝ }
     {

@@ -50,7 +50,7 @@ pub fn load(path: &[u8], bytes: &mut [u8]) -> bool {
     got == bytes.len()
 }
 
-// In how many places two slices differ, one that only the longer has included.
+// In how many places of a there is another byte in b, or none; places that only b has do not count.
 pub fn differing(a: &[u8], b: &[u8]) -> u64 {
     let mut n: u64 = 0;
     let mut k = 0;

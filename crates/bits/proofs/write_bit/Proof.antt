@@ -1,4 +1,6 @@
 -- `write_bit` meets its contract: a position is a byte and a place in it (Write).
+use Prim.Native.Nat.{_%_}
+use Rattle.bits.specs.Bits.{bitsOf}
 use Rattle.bits.proofs.Write.{bit-written}
 use borrow.Author.Needs.{needs}
 use Rattle.bits.proofs.write_bit.Statement.{statement}
@@ -11,7 +13,10 @@ same-length : tie.Need-same-length
 same-length c = search needs
 
 returns : tie.Need-returns
-returns c = search (bit-written)
+returns c =
+    let called = c .before .before in
+    let args = called .before .before .before .args in
+    bit-written (bitsOf (args .bytes .now)) _ (args .at) (args .b % 2) (called .put-bit .ensures)
 
 pub write-bit-spec : {M : Type 1} → statement M
 write-bit-spec = tie.close (tie.spec put-bit-requires same-length returns)
