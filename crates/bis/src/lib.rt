@@ -22,7 +22,7 @@ pub type Block = [[u8; 62]; 24];
 // The address fields of units 0 to 15.
 type Fields = [[u8; 9]; 16];
 
-// The PSN of a cluster by its sixteen AUNs.
+// The PSN of a cluster by its sixteen AUNs. It has no number of its own: 14 is the reader's answer.
 pub enum PsnFound {
     Found(Psn),
     NotFound,

@@ -1,3 +1,4 @@
 -- What is shown of the image reader.
 pub mod Fields
+pub mod Lent
 pub mod Statements

@@ -17,7 +17,7 @@ pub record Words (ws : List ℕ) : Type 0 where
   pub size : length ws ≡ 29
   pub below : (i : ℕ) → getD ws i 0 < 70368744177664
 
--- the answer on modulation bits m: the data bits in the words give them, or none do
+-- the answer on modulation bits m and # of the next sync: the data bits in the words give them, or no data bits do, however many
 pub record WordsRead (before : Bool) (m : List ℕ) (hash answer : Bool) (ws : List ℕ) : Type 0 where
   pub words : Words ws
   pub found : answer ≡ true → Gives before (pairs (bitsIn ws)) m hash

@@ -9,7 +9,7 @@ use borrow.Author.Count.{below-more}
 use lib.Dec.{eqb}
 use lib.ListN.{getD, take, drop}
 use lib.Seq.{ext-getD, getD-take, getD-drop}
-use Rattle.bits.specs.Bits.{bitsOf}
+use Rattle.bits.specs.Bits.{bitsOf, number}
 use Rattle.bits.specs.Step.{stepAt}
 use Rattle.bits.specs.declared.Step.{Step}
 use Rattle.bits.proofs.Bits.{length-bits as length-bitsOf, bits-bits}
@@ -21,9 +21,10 @@ use Rattle.modulation.proofs.Fronts.{three-injective}
 use Rattle.modulation.proofs.Streams.{length-sync}
 use Rattle.demodulator.specs.Groups.{Inside, groupsAt}
 use Rattle.demodulator.proofs.Groups.{length-groupsAt, bits-groupsAt, group-read}
-use Rattle.frame.specs.Sync.{syncGroup, hashAt, syncRight}
+use Rattle.frame.specs.Sync.{groupOf, hashAt, syncRight}
 use Rattle.frame.specs.Same.{same}
 use Rattle.frame.proofs.Same.{same-true, same-refl}
+use Rattle.frame.proofs.SyncTables.{syncGroup, group-at}
 
 -- ---- what is compared
 
@@ -60,21 +61,25 @@ module _ (n : FS) (hash : Bool) (l : List ℕ) (at : ℕ) (h : Inside l at 10) w
 
 -- ---- the loop
 
--- the first j groups are those of the sync
-pub record Agrees (n : FS) (hash : Bool) (l : List ℕ) (at j : ℕ) : Type 0 where
+-- the first j groups are those of the sync, whose bits make `word`
+pub record Agrees (n : FS) (hash : Bool) (l : List ℕ) (at word j : ℕ) : Type 0 where
+  pub word-is : word ≡ number (bits (sync hash n))
   pub within : j ≤ 10
   pub inside : Inside l at 10
   pub groups : (i : ℕ) → i < j → threeNumber (getD (groupsAt (bitsOf l) at 10) i m000) ≡ syncGroup n hash i
 
-pub agrees-none : {n : FS} {hash : Bool} {l : List ℕ} {at : ℕ} → Inside l at 10 → Agrees n hash l at 0
-agrees-none h = record { within = omega arith; inside = h; groups = λ i lt. absurd (not-suc-le-zero lt) }
+pub agrees-none : {n : FS} {hash : Bool} {l : List ℕ} {at word : ℕ} → word ≡ number (bits (sync hash n)) → Inside l at 10 → Agrees n hash l at word 0
+agrees-none e h = record { word-is = e; within = omega arith; inside = h; groups = λ i lt. absurd (not-suc-le-zero lt) }
 
-module _ {n : FS} {hash : Bool} {l : List ℕ} {at j v : ℕ} {s : Step} (u : Agrees n hash l at j) (h : j < 10) (e : s ≡ stepAt (bitsOf l) (at + 3 * j)) (is : v ≡ syncGroup n hash j) where
+module _ {n : FS} {hash : Bool} {l : List ℕ} {at word j v : ℕ} {s : Step} (u : Agrees n hash l at word j) (h : j < 10) (e : s ≡ stepAt (bitsOf l) (at + 3 * j)) (is : v ≡ groupOf word j) where
+  wanted : v ≡ syncGroup n hash j
+  wanted = group-at hash n j word v h (u .word-is) is
+
   read : s .value ≡ threeNumber (getD (groupsAt (bitsOf l) at 10) j m000)
   read = group-read j e (u .inside) h .0
 
-  pub agrees-more : s .value ≡ v → Agrees n hash l at (j + 1)
-  agrees-more same = record { within = omega arith; inside = u .inside; groups = below-more _ j (u .groups) (sym read ∙ same ∙ is) }
+  pub agrees-more : s .value ≡ v → Agrees n hash l at word (j + 1)
+  agrees-more same = record { word-is = u .word-is; within = omega arith; inside = u .inside; groups = below-more _ j (u .groups) (sym read ∙ same ∙ wanted) }
 
   pub agrees-not : (s .value ≡ v → ⊥) → hash ≡ hashAt (bitsOf l) at → false ≡ syncRight n (bitsOf l) at
   unfolding syncGroup
@@ -88,11 +93,11 @@ module _ {n : FS} {hash : Bool} {l : List ℕ} {at j v : ℕ} {s : Step} (u : Ag
           (read
           ∙ ap (λ (ms : List Three). threeNumber (getD ms j m000))
           (right-groups n hash l at (u .inside) (sync-as-read n (bitsOf l) at t ∙ ap (λ (x : Bool). bits (sync x n)) (sym eh)))
-          ∙ sym is))
+          ∙ sym wanted))
 
-pub agrees-all : {n : FS} {hash : Bool} {l : List ℕ} {at j : ℕ} → Agrees n hash l at j → 10 ≤ j → true ≡ syncRight n (bitsOf l) at
+pub agrees-all : {n : FS} {hash : Bool} {l : List ℕ} {at word j : ℕ} → Agrees n hash l at word j → 10 ≤ j → true ≡ syncRight n (bitsOf l) at
 unfolding syncGroup
-agrees-all {n} {hash} {l} {at} {j} u h = sym (sync-is-right n (bitsOf l) at hash (groups-right n hash l at (u .inside) same-groups))
+agrees-all {n} {hash} {l} {at} {word} {j} u h = sym (sync-is-right n (bitsOf l) at hash (groups-right n hash l at (u .inside) same-groups))
   where
     same-groups : groupsAt (bitsOf l) at 10 ≡ sync hash n
     same-groups =

@@ -2,22 +2,22 @@
 use mathlib.Core.Path.{_≡_, refl, sym, ap, subst, _∙_}
 use mathlib.Core.Bool.{Bool, true, false, Bool·beq}
 use mathlib.Core.List.{List, [], _∷_}
-use Prim.Native.Nat.{ℕ, _+_, _*_, _-_, _/_, _%_, _^_, _<_}
+use Prim.Native.Nat.{ℕ, _+_, _%_, _^_, _<_}
 use native.Mathlib.Nat.{mod-lt, zero-lt-suc}
 use native.Mathlib.Omega.{arith}
-use lib.Dec.{eqb}
+use lib.Dec.{eqb, lit<}
 use lib.ListN.{length, getD}
 use Rattle.laws.proofs.Finite.{all, all-at, all₂, equal-below, equal-below₂, bounded-below}
 use Rattle.bits.specs.Bits.{number, bitsOfNumber}
 use Rattle.bits.proofs.Number.{number-lt, bits-of-number}
-use Rattle.modulation.specs.Modulation.{lastBit}
+use Rattle.modulation.specs.Modulation.{m000, threeNumber, lastBit}
 use Rattle.modulation.specs.Bits.{bits}
 use Rattle.modulation.specs.Sync.{FS, FS0, FS1, FS2, FS3, FS4, FS5, FS6, sync, syncId, syncNumbers, syncNumber}
 use Rattle.modulation.proofs.Bits.{length-bits}
 use Rattle.modulation.proofs.Fronts.{bits-groups}
 use Rattle.modulation.proofs.Streams.{length-sync}
 use Rattle.modulation.proofs.Tests.{beq-same}
-use Rattle.frame.specs.Sync.{fs, fsNumber, syncGroup}
+use Rattle.frame.specs.Sync.{fs, fsNumber, groupOf}
 
 -- ---- Figure 41
 
@@ -42,6 +42,15 @@ fs-number FS3 = refl
 fs-number FS4 = refl
 fs-number FS5 = refl
 fs-number FS6 = refl
+
+pub fs-below : (n : FS) → fsNumber n < 7
+fs-below FS0 = lit< tt
+fs-below FS1 = lit< tt
+fs-below FS2 = lit< tt
+fs-below FS3 = lit< tt
+fs-below FS4 = lit< tt
+fs-below FS5 = lit< tt
+fs-below FS6 = lit< tt
 
 -- ---- Figure 39
 
@@ -68,16 +77,18 @@ pub sync-one : (n : ℕ) → n < 7 → 0b101_010_000_000_010_000_000_010_000_000
 unfolding all fs number
 sync-one n h = equal-below 7 (λ n. 0b101_010_000_000_010_000_000_010_000_000 + getD idTable n 0) (λ n. number (bits (sync true (fs n)))) tt n h
 
--- its groups
-group-in : (hash : Bool) (n j : ℕ) → n < 7 → j < 10 → number (bits (sync hash (fs n))) / 2 ^ (27 - 3 * j) % 8 ≡ syncGroup (fs n) hash j
-unfolding all all₂ fs number syncGroup
-group-in true n j hn hj =
-    equal-below₂ 7 10 (λ n j. number (bits (sync true (fs n))) / 2 ^ (27 - 3 * j) % 8) (λ n j. syncGroup (fs n) true j) tt n j hn hj
-group-in false n j hn hj =
-    equal-below₂ 7 10 (λ n j. number (bits (sync false (fs n))) / 2 ^ (27 - 3 * j) % 8) (λ n j. syncGroup (fs n) false j) tt n j hn hj
+-- its groups, each as a number
+unfoldable pub syncGroup : FS → Bool → ℕ → ℕ
+syncGroup n hash j = threeNumber (getD (sync hash n) j m000)
 
-pub group-at : (hash : Bool) (n j word : ℕ) → n < 7 → j < 10 → word ≡ number (bits (sync hash (fs n))) → word / 2 ^ (27 - 3 * j) % 8 ≡ syncGroup (fs n) hash j
-group-at hash n j word hn hj e = ap (λ (x : ℕ). x / 2 ^ (27 - 3 * j) % 8) e ∙ group-in hash n j hn hj
+of-number : (hash : Bool) (k j : ℕ) → k < 7 → j < 10 → groupOf (number (bits (sync hash (fs k)))) j ≡ syncGroup (fs k) hash j
+unfolding all all₂ fs number syncGroup
+of-number true k j hk hj = equal-below₂ 7 10 (λ k j. groupOf (number (bits (sync true (fs k)))) j) (λ k j. syncGroup (fs k) true j) tt k j hk hj
+of-number false k j hk hj = equal-below₂ 7 10 (λ k j. groupOf (number (bits (sync false (fs k)))) j) (λ k j. syncGroup (fs k) false j) tt k j hk hj
+
+pub group-at : (hash : Bool) (n : FS) (j word v : ℕ) → j < 10 → word ≡ number (bits (sync hash n)) → v ≡ groupOf word j → v ≡ syncGroup n hash j
+group-at hash n j word v h e is =
+    is ∙ ap (λ (w : ℕ). groupOf w j) e ∙ subst (λ (m : FS). groupOf (number (bits (sync hash m))) j ≡ syncGroup m hash j) (fs-number n) (of-number hash (fsNumber n) j (fs-below n) h)
 
 -- its bits, and how large it is
 module _ (hash : Bool) (n : FS) where

@@ -14,9 +14,10 @@ use Rattle.bits.specs.Bits.{bitsOf}
 use Rattle.bits.proofs.Bits.{bit-in}
 use Rattle.demodulator.specs.Words as words
 use Rattle.frame.specs.FrameBits.{frameBit, frameBits}
-use Rattle.frame.specs.Words.{Word, GroupData, SixteenFrom, SixteenOn, bitOf, LastTwo}
+use Rattle.frame.specs.Words.{Word, GroupData, SixteenFrom, SixteenOn, bitOf, LastTwo, Around}
 use Rattle.modulation.specs.Bits.{pairs}
 use Rattle.modulator.specs.Table.{bytePairs}
+use Rattle.modulator.proofs.Turning.{Turning, turning-none, turning-small}
 use Rattle.frame.proofs.FrameBits.{data-bit, dc-bit}
 use Rattle.frame.proofs.Pairs.{eight-pairs, last-pairs}
 use Rattle.frame.proofs.Unweaving.{word-bit, length-words-bits}
@@ -222,3 +223,23 @@ module _ {k place : ℕ} (a : At k place) where
   pub at-pairs : (ws : List ℕ) {v : ℕ} → k < 79 → Word 16 (λ j. getD (words.bitsIn ws) j 0) (bitOf place - 20) v
       → take 8 (drop (8 * k) (pairs (words.bitsIn ws))) ≡ bytePairs (v / 256) ++ bytePairs (v % 256)
   at-pairs ws {v} h u = eight-pairs (words.bitsIn ws) (length-words-bits ws) k (bitOf place - 20) v h (omega (arith, a .bit)) u
+
+-- ---- the loop over a frame's words
+
+-- k turns are done, at the place that goes with them; words and bits around the frame stay as they are
+pub record Going (ws : List ℕ) (first lag last : ℕ) (out : List ℕ) (k place held state : ℕ) : Type 0 where
+  pub words-are : words.Words ws
+  pub around : Around first lag last
+  pub turning : Turning first lag (pairs (words.bitsIn ws)) out k held state
+  pub stands : At k place
+
+module _ {ws : List ℕ} {first lag last : ℕ} where
+  pub going-none : {out : List ℕ} {state : ℕ} → words.Words ws → Around first lag last → length out ≡ 242 → state ≡ first % 2 → Going ws first lag last out 0 20 first state
+  going-none w a size e = record { words-are = w; around = a; turning = turning-none size (a .front) e; stands = at-none }
+
+  module _ {out : List ℕ} {k place held state : ℕ} (g : Going ws first lag last out k place held state) where
+    pub going-inside : k < 79 → words.Words ws × SixteenFrom place
+    going-inside h = (g .words-are, at-inside (g .stands) h)
+
+    pub going-small : held < 70368744177664
+    going-small = turning-small (g .turning) (g .around .most)

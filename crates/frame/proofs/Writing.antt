@@ -8,14 +8,15 @@ use native.Mathlib.Omega.{arith}
 use native.Mathlib.Numerals.{add-one}
 use lib.ListN.{length, set, drop, drop-of-length-le}
 use lib.Seq.{sets, length-sets, drop-cons}
-use Rattle.bits.specs.Bits.{bitsOf, threeOf}
+use Rattle.bits.specs.Bits.{bitsOf, number, threeOf}
 use Rattle.bits.proofs.Bits.{length-bits}
 use Rattle.modulation.specs.Modulation.{Three, m000}
 use Rattle.modulation.specs.Bits.{bits}
 use Rattle.modulation.specs.Sync.{FS, sync}
 use Rattle.modulation.proofs.Streams.{length-sync}
-use Rattle.frame.specs.Sync.{syncGroup}
+use Rattle.frame.specs.Sync.{groupOf}
 use Rattle.frame.specs.Written.{SyncWritten}
+use Rattle.frame.proofs.SyncTables.{syncGroup, group-at}
 
 sets-append : (vs ws l : List ℕ) (i : ℕ) → sets l i (vs ++ ws) ≡ sets (sets l i vs) (i + length vs) ws
 sets-append [] ws l i = ap (λ (k : ℕ). sets l k ws) (none i)
@@ -52,24 +53,26 @@ same-slice out first e = omega (arith, length-bits out, length-bits first)
 
 -- ---- a frame sync
 
--- j of its groups are written
-pub record SyncUpto (n : FS) (hash : Bool) (before : List ℕ) (at : ℕ) (out : List ℕ) (j : ℕ) : Type 0 where
+-- j of its groups are written; its bits make `word`
+pub record SyncUpto (n : FS) (hash : Bool) (before : List ℕ) (at word : ℕ) (out : List ℕ) (j : ℕ) : Type 0 where
+  pub word-is : word ≡ number (bits (sync hash n))
   pub left : Left (bitsOf before) at (bits (sync hash n)) (bitsOf out) (at + 3 * j) (bits (drop j (sync hash n)))
 
-module _ {n : FS} {hash : Bool} {before : List ℕ} {at : ℕ} where
-  pub sync-none : SyncUpto n hash before at before 0
-  sync-none = record { left = left-none (omega arith) }
+module _ {n : FS} {hash : Bool} {before : List ℕ} {at word : ℕ} where
+  pub sync-none : word ≡ number (bits (sync hash n)) → SyncUpto n hash before at word before 0
+  sync-none e = record { word-is = e; left = left-none (omega arith) }
 
-  module _ {out : List ℕ} {j : ℕ} (u : SyncUpto n hash before at out j) where
-    pub sync-more : {after : List ℕ} {v : ℕ} → j < 10 → v ≡ syncGroup n hash j → bitsOf after ≡ sets (bitsOf out) (at + 3 * j) (threeOf v)
-        → SyncUpto n hash before at after (j + 1)
+  module _ {out : List ℕ} {j : ℕ} (u : SyncUpto n hash before at word out j) where
+    pub sync-more : {after : List ℕ} {v : ℕ} → j < 10 → v ≡ groupOf word j → bitsOf after ≡ sets (bitsOf out) (at + 3 * j) (threeOf v)
+        → SyncUpto n hash before at word after (j + 1)
     unfolding syncGroup
-    sync-more {after} {v} h e w =
+    sync-more {after} {v} h is w =
         let ms = sync hash n in
         let next : j < length ms = omega (arith, length-sync hash n) in
+        let e : v ≡ syncGroup n hash j = group-at hash n j word v h (u .word-is) is in
         let front : bits (drop j ms) ≡ threeOf v ++ bits (drop (j + 1) ms) =
         rw (add-one, drop-cons ms j m000 next) (ap (λ (x : ℕ). threeOf x ++ bits (drop (suc j) ms)) (sym e)) in
-        record { left = left-more (threeOf v) w (omega arith) (subst (Left (bitsOf before) at (bits ms) (bitsOf out) (at + 3 * j)) front (u .left)) }
+        record { word-is = u .word-is; left = left-more (threeOf v) w (omega arith) (subst (Left (bitsOf before) at (bits ms) (bitsOf out) (at + 3 * j)) front (u .left)) }
 
     pub sync-all : 10 ≤ j → SyncWritten n hash before at out
     sync-all h =

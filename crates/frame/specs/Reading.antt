@@ -33,7 +33,8 @@ pub record RowGives (n : FS) (row : List ℕ) (dc : ℕ) (m : List ℕ) (hash : 
   pub bits-are : bits (modulated n (framePairs row dc) .groups) ≡ m
   pub next-is : nextHash n row dc ≡ hash
 
--- the strict reader's answer on m: a dc word, with its row in the slice, or that no 1,268 bits give m, with the slice as it was
+-- what is found in m and # of the next sync: a dc word, with its row in the slice, or that no 1,268 bits give them, with the slice as it was;
+-- the reader then answers 11
 pub record StrictlyRead (n : FS) (m : List ℕ) (hash : Bool) (before : List ℕ) (answer : FrameRead) (after : List ℕ) : Type 0 where
   pub found : (dc : ℕ) → answer ≡ Found dc → RowGives n after dc m hash
   pub none : answer ≡ NoFrame → (after ≡ before) × ((b : List ℕ) → BitsGive n b m hash → ⊥)

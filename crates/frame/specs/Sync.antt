@@ -1,10 +1,9 @@
 -- Frame syncs by number, and as they are read (13.17.4, Figures 39 and 41).
 use mathlib.Core.Bool.{Bool}
 use mathlib.Core.List.{List, [], _∷_}
-use Prim.Native.Nat.{ℕ}
+use Prim.Native.Nat.{ℕ, _*_, _-_, _/_, _%_, _^_}
 use lib.Dec.{eqb}
 use lib.ListN.{getD, take, drop}
-use Rattle.modulation.specs.Modulation.{m000, threeNumber}
 use Rattle.modulation.specs.Bits.{bits}
 use Rattle.modulation.specs.Sync.{FS, FS0, FS1, FS2, FS3, FS4, FS5, FS6, sync}
 use Rattle.frame.specs.Same.{same}
@@ -23,9 +22,9 @@ fsNumber FS4 = 4
 fsNumber FS5 = 5
 fsNumber FS6 = 6
 
--- group j of ten, as a number
-unfoldable pub syncGroup : FS → Bool → ℕ → ℕ
-syncGroup n hash j = threeNumber (getD (sync hash n) j m000)
+-- group j of a number of 30 bits
+abbrev pub groupOf : ℕ → ℕ → ℕ
+groupOf word j = word / 2 ^ (27 - 3 * j) % 8
 
 -- # of the sync from bit `at` on
 abbrev pub hashAt : List ℕ → ℕ → Bool

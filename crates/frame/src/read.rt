@@ -12,7 +12,8 @@ ghost use Rattle.demodulator.specs.Words.{Words};
 ghost use Rattle.frame.specs.Sync.{fs};
 ghost use Rattle.frame.specs.Reading.{StrictlyRead, Taken};
 
-// What the strict reader finds: the dc word, or that no 1,268 bits give the frame and # of the next sync.
+// What the strict reader finds: the dc word, or that no 1,268 bits give the frame and # of the next sync. It has no number of its own: 11 is the
+// reader's answer.
 pub enum FrameRead {
     Found(u32),
     NoFrame,

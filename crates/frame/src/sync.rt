@@ -7,7 +7,7 @@ ghost use Rattle.bits.specs.Bits.{bitsOf, number as numberOf};
 ghost use Rattle.modulation.specs.Bits.{bits};
 ghost use Rattle.modulation.specs.Modulation.{lastBit};
 ghost use Rattle.modulation.specs.Sync.{sync, syncId, syncNumber};
-ghost use Rattle.frame.specs.Sync.{fs, fsNumber, syncGroup, hashAt, syncRight};
+ghost use Rattle.frame.specs.Sync.{fs, fsNumber, groupOf, hashAt, syncRight};
 ghost use Rattle.frame.specs.Written.{SyncWritten};
 
 // The sync numbers of recording frames 0 to 30 of an address unit.
@@ -78,12 +78,12 @@ pub fn sync_word(hash: bool, number: usize) -> u64
     SYNC_BODY + id
 }
 
-// Group j of its ten.
-fn sync_group(hash: bool, number: usize, j: usize) -> u8
-    requires { ⌜ (number < 7) × (j < 10) ⌝ }
-    ensures { λ r. ⌜ r ≡ syncGroup (fs number) hash j ⌝ }
+// Group j of the ten of a word of 30 bits.
+fn group_of(word: u64, j: usize) -> u8
+    requires { ⌜ j < 10 ⌝ }
+    ensures { λ r. ⌜ r ≡ groupOf word j ⌝ }
 {
-    ((sync_word(hash, number) >> (27 - 3 * j)) % 8) as u8
+    ((word >> (27 - 3 * j)) % 8) as u8
 }
 
 // The last bit of a frame sync.
@@ -99,9 +99,10 @@ pub fn write_sync(hash: bool, number: usize, image: &mut [u8], at: usize)
     requires { ⌜ (number < 7) × (at + 30 < 18446744073709551616) ⌝ }
     ensures { λ _. ⌜ SyncWritten (fs number) hash (now (image .entry)) at (now (image .exit)) ⌝ }
 {
+    let word = sync_word(hash, number);
     let mut j = 0;
     while j < 10 {
-        bits::write_three(image, at + 3 * j, sync_group(hash, number, j));
+        bits::write_three(image, at + 3 * j, group_of(word, j));
         j += 1;
     }
 }
@@ -119,10 +120,11 @@ pub fn sync_right(image: &[u8], at: usize, number: usize) -> bool
     ensures { λ r. ⌜ r ≡ syncRight (fs number) (bitsOf (now (image .entry))) at ⌝ }
 {
     let hash = hash_at(image, at);
+    let wanted = sync_word(hash, number);
     let mut j = 0;
     while j < 10 {
-        let step = bits::read_three(image, at + 3 * j);
-        if step.value != sync_group(hash, number, j) {
+        let step = bit_reader::step_from(image, at + 3 * j);
+        if step.value != group_of(wanted, j) {
             return false;
         }
         j += 1;

@@ -204,11 +204,10 @@ fn flips_line(seen: Flips) {
     end_line();
 }
 
-// The frame read as it was written, with the other #, and with bits flipped.
-fn read_lines(steps: &Table, image: &mut [u8], at: usize, sync: usize, next: bool, input: &[u8])
+// The frame read as it was written, and with the other #.
+fn two_reads(steps: &Table, image: &[u8], at: usize, sync: usize, next: bool, input: &[u8])
     requires { ⌜ (now steps ≡ table) × (((length (now image) ≡ 245) × (length (now input) ≡ 161)) × ((at < 16) × (sync < 7))) ⌝ }
 {
-    sync_line(image, at, sync);
     read_line(b"read ", steps, image, at, sync, next, input);
     read_line(
         b"read with the other # ",
@@ -219,6 +218,14 @@ fn read_lines(steps: &Table, image: &mut [u8], at: usize, sync: usize, next: boo
         !next,
         input,
     );
+}
+
+// The sync with bits flipped, the frame as it was written, and with bits flipped.
+fn read_lines(steps: &Table, image: &mut [u8], at: usize, sync: usize, next: bool, input: &[u8])
+    requires { ⌜ (now steps ≡ table) × (((length (now image) ≡ 245) × (length (now input) ≡ 161)) × ((at < 16) × (sync < 7))) ⌝ }
+{
+    sync_line(image, at, sync);
+    two_reads(steps, image, at, sync, next, input);
     flips_line(flip_all(steps, image, at, sync, next, input));
 }
 

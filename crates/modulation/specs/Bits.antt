@@ -48,7 +48,8 @@ abbrev pub ones : List ℕ → ℕ
 ones [] = 0
 ones (x ∷ l) = x + ones l
 
--- the data bits ds give the modulation bits l, after the bit before, and a next sync with # hash
+-- the data bits ds, however many, give the modulation bits l behind the bit before, and # of the next sync. Answer 11 of document 01 is that
+-- no 1,268 bits do (frame, BitsGive)
 pub record Gives (before : Bool) (ds : List Two) (l : List ℕ) (hash : Bool) : Type 0 where
   pub same-bits : bits (modulate before ds .groups) ≡ l
   pub same-end : modulate before ds .terminated ≡ hash

@@ -8,28 +8,31 @@ use Rattle.frame.proofs.sync.sync_right.Statement.{statement}
 use Rattle.frame.proofs.sync.sync_right.Tie as tie
 
 abbrev Inv-loop : tie.InvT-loop
-Inv-loop image at number hash j₀ j = Agrees (fs number) hash image at j
+Inv-loop image at number hash wanted j₀ j = Agrees (fs number) hash image at wanted j
 
 abbrev μ-loop : tie.MeasureT-loop
-μ-loop image at number hash j₀ j = 10 - j
+μ-loop image at number hash wanted j₀ j = 10 - j
 
 hash-at-requires : tie.Need-hash-at-requires Inv-loop μ-loop
 hash-at-requires c κs = search needs
 
+sync-word-requires : tie.Need-sync-word-requires Inv-loop μ-loop
+sync-word-requires c κs = search needs
+
 loop-holds : tie.Need-loop-holds Inv-loop μ-loop
 loop-holds c = search (agrees-none, needs)
 
-mul-read-three : tie.Need-mul-read-three Inv-loop μ-loop
-mul-read-three c = search needs
+mul-step-from : tie.Need-mul-step-from Inv-loop μ-loop
+mul-step-from c = search needs
 
-add-read-three : tie.Need-add-read-three Inv-loop μ-loop
-add-read-three c = search needs
+add-step-from : tie.Need-add-step-from Inv-loop μ-loop
+add-step-from c = search needs
 
-read-three-requires : tie.Need-read-three-requires Inv-loop μ-loop
-read-three-requires c κs = search needs
+step-from-requires : tie.Need-step-from-requires Inv-loop μ-loop
+step-from-requires c κs = search needs
 
-sync-group-requires : tie.Need-sync-group-requires Inv-loop μ-loop
-sync-group-requires c κs = search needs
+group-of-requires : tie.Need-group-of-requires Inv-loop μ-loop
+group-of-requires c κs = search needs
 
 returns : tie.Need-returns Inv-loop μ-loop
 returns c = search (agrees-not)
@@ -44,7 +47,7 @@ loop-again : tie.Need-loop-again Inv-loop μ-loop
 loop-again c =
     let grouped = c .before .before in
     let stepped = grouped .before in
-    agrees-more (stepped .before .before .loop .inv) (omega arith) (stepped .read-three .ensures) (grouped .sync-group .ensures) (c .if1 .left)
+    agrees-more (stepped .before .before .loop .inv) (omega arith) (stepped .step-from .ensures) (grouped .group-of .ensures) (c .if1 .left)
 
 returns-2 : tie.Need-returns-2 Inv-loop μ-loop
 returns-2 c = search (agrees-all)
@@ -56,11 +59,12 @@ sync-right-spec =
     Inv-loop
     μ-loop
     hash-at-requires
+    sync-word-requires
     loop-holds
-    mul-read-three
-    add-read-three
-    read-three-requires
-    sync-group-requires
+    mul-step-from
+    add-step-from
+    step-from-requires
+    group-of-requires
     returns
     add-j
     loop-less

@@ -1,5 +1,6 @@
 -- `write_sync` meets its contract: group by group (Writing). Assumes nothing.
 use Prim.Native.Nat.{_-_}
+use native.Mathlib.Omega.{arith}
 use borrow.Author.Needs.{needs}
 use Rattle.frame.specs.Sync.{fs}
 use Rattle.frame.proofs.Writing.{SyncUpto, sync-none, sync-more, sync-all, sync-length}
@@ -7,13 +8,16 @@ use Rattle.frame.proofs.sync.write_sync.Statement.{statement}
 use Rattle.frame.proofs.sync.write_sync.Tie as tie
 
 abbrev Inv-loop : tie.InvT-loop
-Inv-loop hash number image₀ at j₀ image j = SyncUpto (fs number) hash image₀ at image j
+Inv-loop hash number image₀ at word j₀ image j = SyncUpto (fs number) hash image₀ at word image j
 
 abbrev μ-loop : tie.MeasureT-loop
-μ-loop hash number image₀ at j₀ image j = 10 - j
+μ-loop hash number image₀ at word j₀ image j = 10 - j
+
+sync-word-requires : tie.Need-sync-word-requires Inv-loop μ-loop
+sync-word-requires c κs = search needs
 
 loop-holds : tie.Need-loop-holds Inv-loop μ-loop
-loop-holds c = sync-none
+loop-holds c = search (sync-none)
 
 mul-write-three : tie.Need-mul-write-three Inv-loop μ-loop
 mul-write-three c = search needs
@@ -21,8 +25,8 @@ mul-write-three c = search needs
 add-write-three : tie.Need-add-write-three Inv-loop μ-loop
 add-write-three c = search needs
 
-sync-group-requires : tie.Need-sync-group-requires Inv-loop μ-loop
-sync-group-requires c κs = search needs
+group-of-requires : tie.Need-group-of-requires Inv-loop μ-loop
+group-of-requires c κs = search needs
 
 write-three-requires : tie.Need-write-three-requires Inv-loop μ-loop
 write-three-requires c κs = search needs
@@ -34,7 +38,11 @@ loop-less : tie.Need-loop-less Inv-loop μ-loop
 loop-less c = search needs
 
 loop-again : tie.Need-loop-again Inv-loop μ-loop
-loop-again c = search (sync-more)
+loop-again c =
+    let written = c .before .before in
+    let grouped = written .before in
+    let turn = grouped .before .before .before in
+    sync-more (turn .loop .inv) (omega arith) (grouped .group-of .ensures) (written .write-three .ensures)
 
 same-length : tie.Need-same-length Inv-loop μ-loop
 same-length c = search (sync-length)
@@ -48,10 +56,11 @@ write-sync-spec =
     (tie.spec
     Inv-loop
     μ-loop
+    sync-word-requires
     loop-holds
     mul-write-three
     add-write-three
-    sync-group-requires
+    group-of-requires
     write-three-requires
     add-j
     loop-less

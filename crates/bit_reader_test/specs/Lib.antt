@@ -1,0 +1,2 @@
+-- Steps of one image reader.
+pub mod Steps
