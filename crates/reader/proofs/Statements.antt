@@ -36,7 +36,7 @@ use Rattle.image.proofs.Demand3.{image-bits, image-size}
 use Rattle.image.proofs.Statements.{zeros, zeros-accepted}
 use Rattle.reader.specs.Reading.{lastZero, wrongSync, firstWrongSync, modulatedAt, hashBehind, noFrame, firstNoFrame, frameBitsIn, clusterIn}
 use Rattle.reader.specs.Outcome.{framesAnswer, psnAnswer, blockAnswer, dataAnswer, psnOf, clusterAnswer, imageAnswer, Lent, Outcome, accepted, cleared, judgedOutcome, sizesAnswer, outcome}
-use Rattle.reader.specs.Promise.{Fitting, asInput, IsReturned, ReadsExactly}
+use Rattle.reader.specs.Promise.{Fitting, asInput, ReadsExactly}
 use Rattle.reader.proofs.Clusters.{read-psn, reads-done, done-reads}
 use Rattle.reader.proofs.Writing.{last-zero, right-syncs, all-frames, cluster-there, dc-there}
 use Rattle.reader.proofs.Accepting.{Passes, length-work, bytes-work, length-dc, dc-small, image-there}
