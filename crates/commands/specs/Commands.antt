@@ -1,9 +1,11 @@
 -- What encode, decode and mark say, whether what they made is kept, and what they leave in the slices that they are lent.
 use mathlib.Core.Bool.{Bool, cond}
-use mathlib.Core.List.{List}
+use mathlib.Core.List.{List, []}
 use Prim.Native.Nat.{ℕ}
+use lib.Dec.{eqb}
+use lib.ListN.{length}
 use Rattle.answer.specs.Answer.{isDone}
-use Rattle.notation.specs.Words.{wordsRead, bytesRead}
+use Rattle.notation.specs.Words.{wordsOf, bytesRead}
 use Rattle.writer.specs.Outcome as writer
 use Rattle.reader.specs.Outcome as reader
 use Rattle.marker.specs.Marked.{marked}
@@ -22,9 +24,12 @@ pub record Encoded : Type 0 where
 abbrev pub encodedBy : writer.Outcome → Encoded
 encodedBy o = record { keep = isDone (o .answer); text = textOf (answerText (o .answer)); image = o .image }
 
--- dc as bytes; zeros where there are not 1,984 of them
+abbrev pub encodedWords : ℕ → List ℕ → List ℕ → List ℕ → List ℕ → Encoded
+encodedWords psn user side words image = encodedBy (writer.outcome (record { user = user; psn = psn; side = side; dc = words }) image (zeros 76880))
+
+-- the words of dc, which has 1,984 bytes; else none, and 3 refuses
 unfoldable pub encoded : ℕ → List ℕ → List ℕ → List ℕ → List ℕ → Encoded
-encoded psn user side dc image = encodedBy (writer.outcome (record { user = user; psn = psn; side = side; dc = wordsRead dc (zeros 496) }) image (zeros 76880))
+encoded psn user side dc image = encodedWords psn user side (cond (eqb (length dc) 1984) (wordsOf dc) []) image
 
 -- ---- decode
 
@@ -45,8 +50,12 @@ decodedBy o dc = record {
   dc = cond (isDone (o .answer)) (bytesRead (o .lent .dc) dc) dc;
 }
 
+abbrev pub decodedWords : List ℕ → List ℕ → List ℕ → List ℕ → List ℕ → Decoded
+decodedWords image user side words dc = decodedBy (reader.outcome image (record { user = user; side = side; dc = words; work = zeros 76880 })) dc
+
+-- into a dc slice of 1,984 bytes; into another no words go, and 3 refuses
 unfoldable pub decoded : List ℕ → List ℕ → List ℕ → List ℕ → Decoded
-decoded image user side dc = decodedBy (reader.outcome image (record { user = user; side = side; dc = zeros 496; work = zeros 76880 })) dc
+decoded image user side dc = decodedWords image user side (cond (eqb (length dc) 1984) (zeros 496) []) dc
 
 -- ---- mark
 

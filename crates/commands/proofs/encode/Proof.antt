@@ -1,14 +1,31 @@
--- `encode` meets its contract: what the writer leaves (Commands).
-use Rattle.commands.proofs.Commands.{encode-is}
+-- `encode` meets its contract: the words of its bytes, or none (Commands).
+use Rattle.commands.proofs.Commands.{encode-words, encode-none}
 use borrow.Author.Needs.{needs}
 use Rattle.commands.proofs.encode.Statement.{statement}
 use Rattle.commands.proofs.encode.Tie as tie
+use Rattle.commands.proofs.encode.Reads as reads
+use Rattle.commands.proofs.encode.Lts as lts
+use Rattle.commands.proofs.dc_words.Reads as dc-words-reads
+use Rattle.commands.proofs.encode_words.Reads as encode-words-reads
+use Rattle.notation.proofs.words_of.Reads as words-of-reads
 
 dc-words-requires : tie.Need-dc-words-requires
 dc-words-requires c κs = search needs
 
-work-bytes-requires : tie.Need-work-bytes-requires
-work-bytes-requires c κs = search needs
+array-share-prefix-words : tie.Need-array-share-prefix-words
+array-share-prefix-words c = search needs
+
+slice-aggregate-encode-words : tie.Need-slice-aggregate-encode-words
+slice-aggregate-encode-words c = search needs
+
+encode-words-requires : tie.Need-encode-words-requires
+encode-words-requires c κs = search needs
+
+same-length : tie.Need-same-length
+same-length c = search needs
+
+returns : tie.Need-returns
+returns c = search (encode-none)
 
 slice-aggregate-words-of : tie.Need-slice-aggregate-words-of
 slice-aggregate-words-of c = search needs
@@ -16,39 +33,31 @@ slice-aggregate-words-of c = search needs
 words-of-requires : tie.Need-words-of-requires
 words-of-requires c κs = search needs
 
-slice-aggregate-write-image : tie.Need-slice-aggregate-write-image
-slice-aggregate-write-image c = search needs
+slice-aggregate-encode-words-2 : tie.Need-slice-aggregate-encode-words-2
+slice-aggregate-encode-words-2 c = search needs
 
-slice-aggregate-write-image-2 : tie.Need-slice-aggregate-write-image-2
-slice-aggregate-write-image-2 c = search needs
+encode-words-requires-2 : tie.Need-encode-words-requires-2
+encode-words-requires-2 c κs = search needs
 
-write-image-requires : tie.Need-write-image-requires
-write-image-requires c κs = search needs
+same-length-2 : tie.Need-same-length-2
+same-length-2 c = search needs
 
-is-done-requires : tie.Need-is-done-requires
-is-done-requires c κs = search needs
-
-answer-text-requires : tie.Need-answer-text-requires
-answer-text-requires c κs = search needs
-
-same-length : tie.Need-same-length
-same-length c = search needs
-
-returns : tie.Need-returns
-returns c = search (encode-is)
+returns-2 : tie.Need-returns-2
+returns-2 c = search (encode-words)
 
 pub encode-spec : {M : Type 1} → statement M
 encode-spec =
     tie.close
     (tie.spec
     dc-words-requires
-    work-bytes-requires
+    array-share-prefix-words
+    slice-aggregate-encode-words
+    encode-words-requires
+    same-length
+    returns
     slice-aggregate-words-of
     words-of-requires
-    slice-aggregate-write-image
-    slice-aggregate-write-image-2
-    write-image-requires
-    is-done-requires
-    answer-text-requires
-    same-length
-    returns)
+    slice-aggregate-encode-words-2
+    encode-words-requires-2
+    same-length-2
+    returns-2)
