@@ -3,7 +3,7 @@ use report::Text;
 ghost use mathlib.Core.Path.{_≡_};
 ghost use Rattle.io.specs.Counts.{Counts};
 
-// The first size of the bytes.
+// The first size of the bytes. A text has no more than fit (report, proofs/Words).
 fn write(bytes: &[u8], size: usize) {
     if size <= bytes.len() {
         io::write_all(1, &bytes[..size]);

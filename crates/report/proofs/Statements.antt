@@ -2,7 +2,7 @@
 use mathlib.Core.Path.{_≡_, refl, sym, ap, _∙_}
 use mathlib.Core.Bool.{Bool, true, false, cond}
 use mathlib.Core.List.{List, [], _∷_, _++_, append-assoc}
-use Prim.Native.Nat.{ℕ, zero, suc, _+_, _-_, _*_, _/_, _%_, _^_, _≤_, _<_}
+use Prim.Native.Nat.{ℕ, zero, suc, _+_, _-_, _/_, _%_, _^_, _<_}
 use native.Mathlib.Omega.{arith}
 use borrow.Author.Tests.{ltb-true}
 use lib.Dec.{ltb}
@@ -15,7 +15,7 @@ use Rattle.marker.specs.declared.Verdict.{Verdict}
 use Rattle.marker.specs.declared.Verdict.the-variants.{Pass, Refused, OtherPsn, OtherUser, OtherSide}
 use Rattle.report.specs.declared.Text.{Text}
 use Rattle.report.specs.Text.{the, zeros, textOf}
-use Rattle.report.specs.Numbers.{decimalTo, decimal, hexadecimal}
+use Rattle.report.specs.Numbers.{decimalTo, decimal}
 use Rattle.report.specs.Words.{meaning, answerText, verdictText, rowsFrom, tallyText}
 use Rattle.report.proofs.Distinct.{decimal-digits, split, decimal-same, number-small, same-answer}
 
@@ -23,7 +23,6 @@ use Rattle.report.proofs.Distinct.{decimal-digits, split, decimal-same,
 pub text-same : (a b : List ℕ) → textOf a ≡ textOf b → a ≡ b
 unfolding textOf
 text-same a b e =
-    let size : length a ≡ length b = ap (λ (t : Text). t .size) e in
     sym (take-append-seam a (zeros (256 - length a))) ∙ ap (λ (t : Text). take (t .size) (t .bytes)) e ∙ take-append-seam b (zeros (256 - length b))
 
 -- a number begins with a digit, 48 to 57
