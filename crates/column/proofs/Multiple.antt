@@ -263,7 +263,7 @@ pub multiple-right : (r : ℕ) (column : List ℕ) → MultipleOf (generator r) 
 multiple-right r column m = has-roots r column .1 (multiple-roots r column m)
 
 module _ (r : ℕ) (few : r ≤ 255) where
-  -- no other bytes behind a message bytes behind it
+  -- only the parity, behind a message, makes a multiple
   pub multiple-parity : (message p : List ℕ) → Bytes message → Bytes p → length p ≡ r → MultipleOf (generator r) (message ++ p) → p ≡ parity r message
   multiple-parity message p bm bp size m = roots-parity r few message p bm bp size (multiple-roots r (message ++ p) m)
 

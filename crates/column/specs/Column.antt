@@ -70,8 +70,8 @@ unfoldable pub multiplied : List ℕ → List ℕ → List ℕ
 multiplied [] g = tabulate (length g - 1) (λ _. 0)
 multiplied (c ∷ q) g = sums (scaled c g ++ tabulate (length q) (λ _. 0)) (0 ∷ multiplied q g)
 
--- the column, as a polynomial, is a multiple of g(x) (13.7, 13.9.2.2, 13.12: of the generator). It is exactly where it has the generator's roots
--- (proofs/Multiple: right-multiple, multiple-right).
+-- the column, as a polynomial, is a multiple of g(x) (13.7, 13.9.2.2, 13.12: of the generator). A column of at least as
+-- many bytes as the generator has roots is one exactly where it has them (proofs/Multiple: right-multiple, multiple-right).
 pub record MultipleOf (g column : List ℕ) : Type 0 where
   pub quotient : List ℕ
   pub bytes : Bytes quotient

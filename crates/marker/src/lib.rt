@@ -9,6 +9,7 @@ ghost use Rattle.reader.specs.Outcome.{Lent, outcome};
 ghost use Rattle.reader.specs.Promise.{Fitting};
 ghost use Rattle.marker.specs.Marked.{givenAnswer, firstOther, compared, judged, Marked, marked, IsImageOf};
 
+// Document 01 has no number for it; `Refused` carries the reader's answer.
 pub enum Verdict {
     Pass,
     // The reader's answer; or 1 or 2, where the given user bytes or side data have another length.

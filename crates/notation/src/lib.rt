@@ -10,7 +10,7 @@ ghost use Rattle.notation.specs.Names.{isDash, partAdded, partLength};
 ghost use Rattle.notation.specs.Psn.{digitOf, psnOf};
 ghost use Rattle.notation.specs.Words.{wordFrom, wordAt, byteOf, wordsRead, bytesRead};
 
-// A PSN, or a text that is not eight hexadecimal digits.
+// A PSN, or a text that is not eight hexadecimal digits. Document 01 has no number for it.
 pub enum PsnText {
     Number(Psn),
     NoNumber,
