@@ -1,5 +1,5 @@
 # bdre: its own usage, the paths by which it finds one file under two names, and what it says where it cannot build.
-usage=$(sed -n "/^    cat <<'END'$/,/^END$/p" "$root/bdre" | sed '1d;$d')
+usage=$(cat help.txt)
 begin "bdre: help, version, usage"
 bdre_ends 0 "$usage" '' --help
 bdre_ends 0 "bdre $(sed -n 's/^#define BDRE_VERSION "\(.*\)".*/\1/p' "$root/include/bdre.h")" '' --version
@@ -21,7 +21,17 @@ one_file './user: it is read and is to be written' encode "$psn" user side dc ./
 one_file 'folder/../side: it is read and is to be written' encode "$psn" user side dc folder/../side
 one_file 'user: it is read and is to be written' encode "$psn" link side dc user
 one_file './image: it is read and is to be written' decode image ./image s d
+one_file './dc: it is read and is to be written' encode "$psn" user side dc ./dc
+one_file './image: it is read and is to be written' decode image u ./image d
+one_file './image: it is read and is to be written' decode image u s ./image
 one_file 'folder/../u: it is to be written twice' decode image u folder/../u d
+one_file './u: it is to be written twice' decode image u s ./u
+one_file './s: it is to be written twice' decode image u s ./s
+one_file './u.part: it is to be written twice' decode image u ./u.part d
+one_file './u: it is to be written twice' decode image u.part ./u d
+begin "bdre encode: bad usage before names"
+all_but none
+bdre_ends 2 'usage: a PSN is eight hexadecimal digits' '' encode zz user - - user
 
 begin "bdre: no toolchain"
 rm "$room/home/target/bdre.built"
@@ -37,13 +47,33 @@ lines "bdre: proving and building the programs; this takes some minutes, once
 bdre: they were not built; see $room/home/target/bdre.log" >"$room/complain"
 run_once "bdre tally" 1 env PATH="$room/tools" "$room/home/bdre" tally
 
-begin "bdre: the programs are proved"
-printf '#!/bin/sh\nexit 0\n' >"$room/tools/rt"
+# Built once, then again when a source is newer, also one that is changed while it is built.
+building="bdre: proving and building the programs; this takes some minutes, once"
+builds() {
+    begin "bdre: $1"
+    lines "$2" >"$room/complain"
+    rm -f "$room/asked"
+    run_once "bdre tally" 1 env PATH="$room/tools" "$room/home/bdre" tally
+    if [ -n "$2" ]; then
+        [ "$(cat "$room/asked")" = 'check encode decode mark tally' ] || fail "$title: rt was asked for something else"
+    elif [ -e "$room/asked" ]; then
+        fail "$title: rt was asked for nothing new"
+    fi
+}
+fake_rt() {
+    printf '#!/bin/sh\necho "$@" >>"%s"\n%s\n' "$room/asked" "$1" >"$room/tools/rt"
+}
 lines refused >"$room/say"
-lines "bdre: proving and building the programs; this takes some minutes, once" >"$room/complain"
-run_once "bdre tally" 1 env PATH="$room/tools" "$room/home/bdre" tally
-: >"$room/complain"
-run_once "bdre tally" 1 env PATH="$room/tools" "$room/home/bdre" tally
+fake_rt ''
+builds "the programs are proved" "$building"
+builds "they are proved already" ''
+sleep 0.1
+: >"$room/home/crates/source.rt"
+fake_rt "/bin/sleep 0.1; : >'$room/home/crates/source.rt'"
+builds "a source is newer" "$building"
+fake_rt ''
+builds "a source was changed meanwhile" "$building"
+builds "all is proved again" ''
 
 begin "bdre: the demonstration"
 cp demo.txt "$room/say"

@@ -11,11 +11,25 @@ given user "$vectors/zero.user"
 left image "$vectors/zero.image"
 ends 0 '0 0' '' encode "$(psn_of zero)" user - - image
 
-begin "encode, side data zero alone"
-given user "$vectors/zero.user"
-given dc "$vectors/zero.dc"
-left image "$vectors/zero.image"
-ends 0 '0 0' '' encode "$(psn_of zero)" user - dc image
+# One of them zero, the other not: no outside image has that, so what is made is read back, and its image is the only one that is read so.
+one_zero() {
+    begin "encode, $1"
+    given user "$vectors/zero.user"
+    given side "$2"
+    given dc "$3"
+    (cd "$room/before" && "$room/home/target/bin/encode" "$(psn_of zero)" user "$4" "$5" "$room/made") >/dev/null
+    left image "$room/made"
+    ends 0 '0 0' '' encode "$(psn_of zero)" user "$4" "$5" image
+    begin "decode, $1"
+    given image "$room/made"
+    left user "$vectors/zero.user"
+    left side "$2"
+    left dc "$3"
+    ends 0 "$(psn_of zero)" '' decode image user side dc
+    rm "$room/made"
+}
+one_zero "side data zero alone" "$vectors/zero.side" "$vectors/zone1.dc" - dc
+one_zero "dc words zero alone" "$vectors/zone1.side" "$vectors/zero.dc" side -
 
 begin "encode, an image is there already"
 given_cluster zone1
@@ -23,9 +37,16 @@ cp "$vectors/zone0.image" "$room/before/image"
 left image "$vectors/zone1.image"
 ends 0 '0 0' '' encode "$(psn_of zone1)" user side dc image
 
+# What a refused cluster leaves alone: an older image, and what another run is writing.
+given_older() {
+    given image "$vectors/zone0.image"
+    given image.part "$vectors/zone2.side"
+}
+
 refused_psn() {
     begin "encode $1"
     given_cluster zone1
+    given_older
     ends 1 "$2" '' encode "$1" user side dc image
 }
 refused_psn 00100010 '6 0
@@ -39,6 +60,7 @@ done
 
 refused_word() {
     begin "encode, dc word $1"
+    given_older
     given user "$vectors/zone1.user"
     given side "$vectors/zone1.side"
     changed "$vectors/zone1.dc" "$room/dc" $((4 * $1)) 16

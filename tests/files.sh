@@ -99,6 +99,14 @@ no_name decode image u s ''
 no_name mark "$psn" '' side image
 no_name mark "$psn" user '' image
 no_name mark "$psn" user side ''
+# A name of 5,000 bytes, and one of 4,093, to which .part cannot be added.
+long_name() {
+    printf './%.0s' $(seq "$1")
+    printf 'x'
+}
+no_name encode "$psn" "$(long_name 2500)" side dc made
+no_name encode "$psn" user side dc "$(long_name 2046)"
+no_name decode image u "$(long_name 2046)" d
 
 # `-` stands for zeros where side data or dc words are read, and nowhere else.
 begin "encode: - for user bytes"
@@ -109,6 +117,15 @@ all_but none
 ends 1 '' '-: No such file or directory' mark "$psn" - side image
 begin "decode: - for the image"
 ends 1 '' '-: No such file or directory' decode - u s d
+begin "mark: - for the image"
+all_but none
+ends 1 '' '-: No such file or directory' mark "$psn" user side -
+begin "decode: user bytes into a file called -"
+all_but none
+left - "$vectors/zone1.user"
+left s "$vectors/zone1.side"
+left d "$vectors/zone1.dc"
+ends 0 "$psn" '' decode image - s d
 
 # What is in the way of a result: then no result is left, and no part of one.
 in_the_way() {
@@ -116,6 +133,7 @@ in_the_way() {
     all_but none
     printf 'another run' >"$room/another"
     given "$2" "$room/another"
+    given "${2%.part}" "$room/another"
     program=$1
     line=$2
     shift 2
@@ -164,12 +182,17 @@ lines '' >"$room/say"
 lines 'made.part: Permission denied' >"$room/complain"
 as=
 [ "$(id -u)" -ne 0 ] || as='setpriv --reuid=65534 --regid=65534 --clear-groups'
-run_once encode 0 $as "$room/home/target/bin/encode" "$psn" user side dc made
+if [ -z "$as" ] || command -v setpriv >/dev/null; then
+    run_once encode 0 $as "$room/home/target/bin/encode" "$psn" user side dc made
+else
+    echo "tests: no setpriv here, so a folder that may not be written is not tried"
+fi
 chmod 755 "$room/before" "$room/now"
 
 # A file that cannot be written whole: no part of it is left.
 begin "encode: no room for the image"
 all_but none
+given made "$vectors/zone0.image"
 lines 'made.part: File too large' >"$room/complain"
 run_once encode 0 sh -c 'trap "" XFSZ && ulimit -f 100 && exec "$@"' - "$room/home/target/bin/encode" "$psn" user side dc made
 begin "decode: no room for the user bytes"
@@ -186,6 +209,10 @@ read_and_written() {
     shift 2
     ends 1 '' "$line: it is read and is to be written" "$program" "$@"
 }
+begin "encode: names are compared before files are read"
+ends 1 '' 'none: it is read and is to be written' encode "$psn" none none none none
+begin "decode: names are compared before files are read"
+ends 1 '' 'none: it is read and is to be written' decode none none none none
 read_and_written encode user "$psn" user side dc user
 read_and_written encode side "$psn" user side dc side
 read_and_written encode dc "$psn" user side dc dc
@@ -200,6 +227,19 @@ written_twice() {
 written_twice image made made d
 written_twice image made s made
 written_twice image u made made
+part_written_twice() {
+    begin "decode: a result that is another's part: $*"
+    all_but none
+    line=$1
+    shift
+    ends 1 '' "$line: it is to be written twice" decode "$@"
+}
+part_written_twice u image u.part u d
+part_written_twice a image a.part s a
+part_written_twice d image u d.part d
+part_written_twice u.part image u u.part d
+part_written_twice u.part image u s u.part
+part_written_twice s.part image u s s.part
 
 begin "encode: an image called -"
 all_but none

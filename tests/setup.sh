@@ -1,5 +1,6 @@
 # What the tests of the programs share. A case prepares a folder, says what is to be left in it, and runs a program twice: by itself and behind bdre.
 # Compared are what is printed, what is said on standard error, bdre's exit status, and every file of the folder.
+umask 022
 vectors=$root/crates/image_test/data
 tallies=$root/crates/gaps_test/stdin
 room=$(mktemp -d)
@@ -132,7 +133,7 @@ od -An -v -tu1 "$vectors/zone1.damage" | tr -s ' ' '\n' | awk '
 
 # The PSN of an outside cluster.
 psn_of() {
-    sed -n "s/^$1 //p" psns
+    sed -n "s/^$1 //p" "$root/tests/psns"
 }
 
 # The first byte in which two files differ, counted from 0.

@@ -36,6 +36,10 @@ done <<'END'
 END
 
 record 0 >"$room/frame"
+begin "tally: input in two parts"
+lines "$(table 204 144 98 48 47 14 7 2)" >"$room/say"
+: >"$room/complain"
+run_once tally 0 sh -c '{ head -c 100 "$1" && sleep 0.2 && tail -c +101 "$1"; } | "$2"' - "$room/frame" "$room/home/target/bin/tally"
 with() {
     changed "$room/frame" "$room/input" "$2" "$3"
     tallied "$1" "$4" "$5"

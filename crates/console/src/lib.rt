@@ -89,10 +89,33 @@ pub fn not_over_unless_dash(i: usize, j: usize) -> bool {
     not_over(i, j)
 }
 
-// Whether arguments i and j, which are both to be written, are two names.
-pub fn not_twice(i: usize, j: usize) -> bool {
+// Whether argument i is the name under which argument j is written before it is whole.
+fn is_part_of(i: usize, j: usize) -> bool {
+    let mut name = io::buffer();
+    let mut other = io::buffer();
+    let m = os::arg(i, &mut name);
+    let n = os::arg(j, &mut other);
+    let k = notation::add_part(&mut other, n);
+    if k == 0 {
+        return false;
+    }
+    notation::same_name(&name[..m], &other[..k])
+}
+
+fn clash(i: usize, j: usize) -> bool {
     if same_argument(i, j) {
-        complain_of(i, b": it is to be written twice");
+        return true;
+    }
+    if is_part_of(i, j) {
+        return true;
+    }
+    is_part_of(j, i)
+}
+
+// Whether arguments i and j, which are both to be written, are two names, and neither is the other's NAME.part.
+pub fn not_twice(i: usize, j: usize) -> bool {
+    if clash(i, j) {
+        complain_of(j, b": it is to be written twice");
         return false;
     }
     true
