@@ -79,15 +79,19 @@ run_once() {
     cases=$((cases + 1))
 }
 
+# What is to be printed and complained of; without an input of the case's own, standard input is empty.
+expect() {
+    lines "$1" >"$room/say"
+    lines "$2" >"$room/complain"
+    [ -e "$room/input" ] || : >"$room/input"
+}
+
 # ends STATUS PRINTED COMPLAINED PROGRAM ARGUMENTS: what a program is to do, by itself and behind bdre.
 ends() {
     behind=$1
-    lines "$2" >"$room/say"
-    lines "$3" >"$room/complain"
-    shift 3
-    [ -e "$room/input" ] || : >"$room/input"
-    name=$1
-    shift
+    expect "$2" "$3"
+    name=$4
+    shift 4
     run_once "$name" 0 "$room/home/target/bin/$name" "$@"
     run_once "bdre $name" "$behind" "$room/home/bdre" "$name" "$@"
 }
@@ -95,10 +99,8 @@ ends() {
 # Only behind bdre.
 bdre_ends() {
     behind=$1
-    lines "$2" >"$room/say"
-    lines "$3" >"$room/complain"
+    expect "$2" "$3"
     shift 3
-    [ -e "$room/input" ] || : >"$room/input"
     run_once "bdre $*" "$behind" "$room/home/bdre" "$@"
 }
 

@@ -93,7 +93,7 @@ begun-often (zero ∷ l) b n z = begun-often l (tail-bits 0 l b) n (suc z)
 begun-often (suc zero ∷ l) b n z = ap (λ (c : ℕ). cond (eqb z n) (suc c) c) (begun-often l (tail-bits 1 l b) n 0)
 begun-often (suc (suc x) ∷ l) b n z = absurd (omega (arith, b 0))
 
--- THE COUNT of a gap length is the number of places i with neighbouring ones at i and i + n + 1
+-- the count of a gap length is the number of places i with neighbouring ones at i and i + n + 1
 pub counted-often : (l : List ℕ) → Bits l → (n : ℕ) → count n (gaps l) ≡ howMany (length l) (gapAt l n)
 unfolding howMany
 counted-often [] b n = refl

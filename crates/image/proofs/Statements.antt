@@ -103,7 +103,7 @@ module _ (input : Input) (n : ℕ) (h : n < 496) where
         bytes-input (ownHash input n) (ownNumber n) (ownRow input n) (ownDc input n) row-size number-small dc-small
         (bytes-row (cluster input) (bytes-cluster (input .user) (input .psn) (input .side) (is .user) (is .psn) (is .side)) n)
 
-    -- THE TALLY of frame n: the gap counts of these bits
+    -- the tally of frame n: the gap counts of these bits
     pub image-tallied : tallied (frameInput input n) ≡ record { accepted = true; counts = gapCounts (frameBitsOf input n) }
     image-tallied =
         frame-tallied (ownHash input n) (ownNumber n) (ownRow input n) (ownDc input n) row-size number-small dc-small
