@@ -8,7 +8,7 @@ use Rattle.laws.proofs.Finite.{both, both-left, both-right}
 use Rattle.modulation.specs.Modulation.{Two, d00, d01, d10, d11, Three, threeNumber, Modulated, modulate}
 use Rattle.modulation.specs.Machine.{Wait, w, w00, w0000, w000000, w000010, w11, w1101, w110111, w11011100, w1101110000, Step, step, stop, machine}
 use Rattle.modulation.proofs.Machine.{machine-is}
-use Rattle.modulation.proofs.Tests.{T-true}
+use Rattle.laws.proofs.Booleans.{T-true}
 use Rattle.demodulator.specs.Automaton.{reads, ends, start, next, ending, stateAfter, accepts}
 
 -- p holds of each of the list

@@ -10,7 +10,7 @@ use lib.Dec.{T, eqb, eqb→eq, leb, leb→le, ltb, ltb→lt}
 use lib.ListN.{length}
 use Rattle.laws.proofs.Finite.{all, all-at, all₂, all₂-at, all₃, all₃-at}
 use Rattle.modulation.specs.Modulation.{Three, threeNumber}
-use Rattle.modulation.proofs.Tests.{implies, given}
+use Rattle.laws.proofs.Booleans.{implies, given}
 use Rattle.modulation.proofs.Fronts.{three-below}
 use Rattle.demodulator.specs.Automaton.{reads, ends, next, added, ending, stateAfter, numberAfter}
 use Rattle.demodulator.specs.Table.{After, limit, Held, NextWord, LastWord}

@@ -1,5 +1,4 @@
 -- The two theorems are Complete and Sound; the other files lead from them to the code's words.
-pub mod Groups
 pub mod Complete
 pub mod Sound
 pub mod Entries

@@ -14,11 +14,11 @@ use Rattle.modulation.specs.Modulation.{Two, Three, Modulated, modulate}
 use Rattle.modulation.specs.Bits.{pairs, bits, Gives}
 use Rattle.modulation.proofs.Bits.{bits-injective, pairs-dataBits}
 use Rattle.modulation.proofs.Size.{size}
-use Rattle.demodulator.specs.Groups.{Inside, groupsAt, frameAt}
-use Rattle.demodulator.proofs.Groups.{length-groupsAt, bits-groupsAt}
+use Rattle.modulation.specs.Groups.{Inside, groupsAt, frameAt}
+use Rattle.modulation.proofs.Groups.{length-groupsAt, bits-groupsAt}
 use Rattle.demodulator.specs.Automaton.{start, ending, stateAfter, numberAfter, accepts, numberOf}
 use Rattle.demodulator.specs.Table.{After, Held, NextWord, LastWord}
-use Rattle.demodulator.specs.Words.{bitsIn, Words, WordsRead}
+use Rattle.modulation.specs.Words.{bitsIn, Words, WordsRead}
 use Rattle.demodulator.proofs.Complete.{after-append, complete}
 use Rattle.demodulator.proofs.Sound.{sound}
 use Rattle.demodulator.proofs.Entries.{number-append, number-shift, start-small}

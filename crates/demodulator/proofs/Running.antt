@@ -5,8 +5,8 @@ use Prim.Native.Nat.{ℕ, _+_, _*_, _-_, _/_, _%_, _^_, _<_, _≤_}
 use native.Mathlib.Omega.{arith}
 use lib.ListN.{length}
 use Rattle.modulation.specs.Modulation.{Three}
-use Rattle.demodulator.specs.Groups.{groupsAt}
-use Rattle.demodulator.proofs.Groups.{length-groupsAt}
+use Rattle.modulation.specs.Groups.{groupsAt}
+use Rattle.modulation.proofs.Groups.{length-groupsAt}
 use Rattle.demodulator.specs.Automaton.{stateAfter, numberAfter}
 use Rattle.demodulator.specs.Table.{After}
 use Rattle.demodulator.proofs.Entries.{after-more, number-bound}

@@ -13,7 +13,7 @@ use Rattle.modulation.specs.Modulation.{Two, twoNumber, Three, m000, m001, m010
 use Rattle.modulation.specs.Pairs.{twoOf}
 use Rattle.modulation.specs.Machine.{Wait, w, w00, w0000, w000000, w000010, w11, w1101, w110111, w11011100, w1101110000, Step, step, stop, put, machine}
 use Rattle.modulation.proofs.Machine.{machine-is}
-use Rattle.modulation.proofs.Tests.{T-true, true-T, beq-same, implies, given}
+use Rattle.laws.proofs.Booleans.{T-true, true-T, beq-same, implies, given}
 use Rattle.modulation.proofs.Fronts.{three-injective, starts-split}
 use Rattle.demodulator.specs.Automaton.{reads, ends, start, next, added, ending, stateAfter, numberAfter, accepts, numberOf, onto}
 use Rattle.demodulator.proofs.Complete.{each, among, each-at}

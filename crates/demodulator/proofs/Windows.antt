@@ -11,7 +11,7 @@ use Rattle.bits.proofs.Read.{eight-sum}
 use Rattle.modulation.specs.Modulation.{Three, threeNumber}
 use Rattle.modulation.specs.Bits.{three}
 use Rattle.modulation.proofs.Fronts.{three-injective}
-use Rattle.demodulator.specs.Groups.{groupsAt}
+use Rattle.modulation.specs.Groups.{groupsAt}
 use Rattle.demodulator.specs.Table.{group, twoGroups, threeGroups}
 
 -- ---- groups by number

@@ -7,9 +7,9 @@ ghost use mathlib.Core.Path.{_≡_};
 ghost use Prim.Native.Nat.{_+_, _*_, _-_, _/_, _%_, _<_, _≤_};
 ghost use lib.ListN.{length, take, drop};
 ghost use Rattle.bits.specs.Bits.{bitsOf};
-ghost use Rattle.demodulator.specs.Groups.{Inside, groupsAt};
+ghost use Rattle.modulation.specs.Groups.{Inside, groupsAt};
 ghost use Rattle.demodulator.specs.Automaton.{reads, start, ending};
-ghost use Rattle.demodulator.specs.Words.{Words, WordsRead};
+ghost use Rattle.modulation.specs.Words.{Words, WordsRead};
 ghost use Rattle.demodulator.specs.Table.{twoGroups, threeGroups, more, tableEntry, table, Twos, After, Held, NextWord, LastWord};
 
 // Two groups at each state, then three.

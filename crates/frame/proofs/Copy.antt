@@ -11,9 +11,9 @@ use lib.Seq.{sets, drop-cons, getD-take, length-take-le, take-at, sets-eq}
 use Rattle.bits.specs.Bits.{bitsOf}
 use Rattle.bits.proofs.Bits.{length-bits, bits-bits}
 use Rattle.modulation.specs.Sync.{FS}
-use Rattle.frame.proofs.Writing.{Left, left-none, left-more, left-all, left-length, same-slice}
+use Rattle.frame_sync.proofs.Writing.{Left, left-none, left-more, left-all, left-length, same-slice}
 use Rattle.frame.specs.Frame.{frame}
-use Rattle.frame.specs.Written.{FrameWritten}
+use Rattle.frame.specs.steps.Written.{FrameWritten}
 use Rattle.frame.proofs.Frame.{length-frame}
 
 -- k of the first 1,932 bits of the bytes are copied

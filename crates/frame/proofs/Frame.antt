@@ -13,13 +13,13 @@ use Rattle.modulation.specs.Sync.{FS, sync, syncId}
 use Rattle.modulation.specs.Stream.{modulated}
 use Rattle.modulation.proofs.Bits.{bits-append}
 use Rattle.modulation.proofs.Theorems.{size-of-a-frame}
-use Rattle.frame.specs.FrameBits.{frameBits}
-use Rattle.frame.specs.Sync.{hashAt, syncRight}
+use Rattle.frame_bits.specs.FrameBits.{frameBits}
+use Rattle.frame_sync.specs.Sync.{hashAt, syncRight}
 use Rattle.frame.specs.Frame.{framePairs, frame, nextHash}
 use Rattle.frame.specs.Reading.{RowGives}
-use Rattle.frame.proofs.FrameBits.{length-frame-bits}
-use Rattle.frame.proofs.SyncTables.{length-sync-bits}
-use Rattle.frame.proofs.SyncRight.{sync-as-read}
+use Rattle.frame_bits.proofs.FrameBits.{length-frame-bits}
+use Rattle.frame_sync.proofs.SyncTables.{length-sync-bits}
+use Rattle.frame_sync.proofs.SyncRight.{sync-as-read}
 use Rattle.frame.proofs.Reading.{row-gives}
 
 pub length-modulated : (n : FS) (row : List ℕ) (dc : ℕ) → length (bits (modulated n (framePairs row dc) .groups)) ≡ 1902

@@ -15,13 +15,13 @@ use Rattle.modulation.specs.Modulation.{Modulated, modulate}
 use Rattle.modulation.specs.Bits.{bits}
 use Rattle.modulation.specs.Sync.{sync}
 use Rattle.modulation.specs.Stream.{modulated}
-use Rattle.frame.specs.Sync.{fs}
+use Rattle.frame_sync.specs.Sync.{fs}
 use Rattle.frame.specs.Frame.{framePairs, frame}
-use Rattle.frame.specs.Written.{FrameWritten}
+use Rattle.frame.specs.steps.Written.{FrameWritten}
 use Rattle.frame.proofs.Frame.{length-frame, frame-parts}
 use Rattle.modulator.specs.Put.{FramePut}
 use Rattle.modulator.proofs.Put.{join-bits}
-use Rattle.frame.proofs.SyncTables.{sync-bits, sync-odd, sync-small}
+use Rattle.frame_sync.proofs.SyncTables.{sync-bits, sync-odd, sync-small}
 
 -- ---- bits of parts
 

@@ -15,21 +15,21 @@ use Rattle.modulation.specs.Bits.{pairs, dataBits, groups, bits, Gives}
 use Rattle.modulation.specs.Sync.{FS, syncId}
 use Rattle.modulation.specs.Stream.{modulated}
 use Rattle.modulation.specs.Demodulator.{demodulate}
-use Rattle.demodulator.specs.Words.{bitsIn, WordsRead}
+use Rattle.modulation.specs.Words.{bitsIn, WordsRead}
 use Rattle.modulation.proofs.Bits.{length-bits, groups-bits, length-pairs, length-dataBits, pairs-dataBits}
 use Rattle.modulation.proofs.Fronts.{bits-dataBits}
 use Rattle.modulation.proofs.Size.{size}
-use Rattle.modulation.proofs.Tests.{and-left, and-right, and-true, true-T, beq-same, beq-refl}
+use Rattle.laws.proofs.Booleans.{and-left, and-right, and-true, true-T, beq-same, beq-refl}
 use Rattle.modulation.proofs.Theorems.{comes-back, injective}
-use Rattle.frame.specs.FrameBits.{frameBits, rowOf, dcOf}
+use Rattle.frame_bits.specs.FrameBits.{frameBits, rowOf, dcOf}
 use Rattle.frame.specs.Frame.{framePairs, nextHash}
-use Rattle.frame.specs.Same.{same}
-use Rattle.frame.specs.declared.read.FrameRead.{FrameRead}
-use Rattle.frame.specs.declared.read.FrameRead.the-variants.{Found, NoFrame}
+use Rattle.laws.specs.Same.{same}
+use Rattle.frame.specs.declared.FrameRead.{FrameRead}
+use Rattle.frame.specs.declared.FrameRead.the-variants.{Found, NoFrame}
 use Rattle.frame.specs.Reading.{BitsGive, RowGives, StrictlyRead, Taken, bitsRead, readable, frameRead, rowRead}
-use Rattle.frame.proofs.Same.{same-true, same-refl}
-use Rattle.frame.proofs.FrameBits.{length-frame-bits, frame-bits-bits, frame-bits-back, frame-bits-inj, length-row, bytes-row, dc-word-lt}
-use Rattle.frame.proofs.Unweaving.{length-words-bits, words-bits-bits}
+use Rattle.laws.proofs.Same.{same-true, same-refl}
+use Rattle.frame_bits.proofs.FrameBits.{length-frame-bits, frame-bits-bits, frame-bits-back, frame-bits-inj, length-row, bytes-row, dc-word-lt}
+use Rattle.frame_bits.proofs.Unweaving.{length-words-bits, words-bits-bits}
 
 -- ---- bits, and row and dc word
 

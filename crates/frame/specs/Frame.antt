@@ -6,7 +6,7 @@ use Rattle.modulation.specs.Modulation.{Two, Three}
 use Rattle.modulation.specs.Bits.{pairs, bits}
 use Rattle.modulation.specs.Sync.{FS, sync}
 use Rattle.modulation.specs.Stream.{modulated}
-use Rattle.frame.specs.FrameBits.{frameBits}
+use Rattle.frame_bits.specs.FrameBits.{frameBits}
 
 -- the data bits of a frame, two by two
 abbrev pub framePairs : List ℕ → ℕ → List Two

@@ -12,12 +12,12 @@ use Rattle.modulation.specs.Bits.{pairs, dataBits, groups, bits, Gives}
 use Rattle.modulation.specs.Sync.{FS, syncId}
 use Rattle.modulation.specs.Stream.{modulated}
 use Rattle.modulation.specs.Demodulator.{demodulate}
-use Rattle.demodulator.specs.Words.{bitsIn}
-use Rattle.frame.specs.Same.{same}
-use Rattle.frame.specs.FrameBits.{rowOf, dcOf}
+use Rattle.modulation.specs.Words.{bitsIn}
+use Rattle.laws.specs.Same.{same}
+use Rattle.frame_bits.specs.FrameBits.{rowOf, dcOf}
 use Rattle.frame.specs.Frame.{framePairs, nextHash}
-use Rattle.frame.specs.declared.read.FrameRead.{FrameRead}
-use Rattle.frame.specs.declared.read.FrameRead.the-variants.{Found, NoFrame}
+use Rattle.frame.specs.declared.FrameRead.{FrameRead}
+use Rattle.frame.specs.declared.FrameRead.the-variants.{Found, NoFrame}
 
 -- the 1,268 bits b give the modulation bits m behind sync n, and # of the next sync
 pub record BitsGive (n : FS) (b m : List ℕ) (hash : Bool) : Type 0 where

@@ -1,15 +1,16 @@
-// Recording frames (13.15, 13.17.4): a row of 155 bytes and a dc word to 1,932 modulation bits, and back.
-mod read;
-mod sync;
-mod weave;
-mod write;
+// Recording frames (13.15, 13.17.4): a row of 155 bytes and a dc word to 1,932 modulation bits, and back. `steps` writes and reads them, for the
+// crates of this repository.
+pub mod steps;
 
-pub use read::FrameRead;
-pub use read::TwoRead;
-pub use read::read_frame;
-pub use read::read_two;
-pub use sync::hash_at;
-pub use sync::sync_number;
-pub use sync::sync_right;
-pub use sync::write_sync;
-pub use write::write_frame;
+// What the strict reader finds: the dc word, or that no 1,268 bits give the frame and # of the next sync. It has no number of its own: 11 is the
+// reader's answer.
+pub enum FrameRead {
+    Found(u32),
+    NoFrame,
+}
+
+// What is found of two frames.
+pub struct TwoRead {
+    pub first: FrameRead,
+    pub second: FrameRead,
+}

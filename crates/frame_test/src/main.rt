@@ -39,7 +39,7 @@ fn bytes_line(text: &[u8], bytes: &[u8]) {
 fn sync_numbers() {
     io::write_all(1, b"sync numbers");
     for n in 0..62usize {
-        spaced(frame::sync_number(n) as u64);
+        spaced(frame_sync::sync_number(n) as u64);
     }
     end_line();
 }
@@ -103,7 +103,7 @@ fn read_line(
 {
     io::write_all(1, text);
     let mut row = no_row();
-    let read = frame::read_frame(steps, image, at, sync, hash, &mut row);
+    let read = frame::steps::read_frame(steps, image, at, sync, hash, &mut row);
     match read {
         FrameRead::Found(dc) => {
             io::print_hex(1, dc as u64, 8);
@@ -131,7 +131,7 @@ fn sync_line(image: &mut [u8], at: usize, sync: usize)
     io::write_all(1, b"sync with a bit flipped ");
     for k in 0..30usize {
         flip(image, at + k);
-        io::print_decimal(1, flag(frame::sync_right(image, at, sync)));
+        io::print_decimal(1, flag(frame_sync::steps::sync_right(image, at, sync)));
         flip(image, at + k);
     }
     end_line();
@@ -159,7 +159,7 @@ fn flip_one(
 {
     flip(image, bit);
     let mut row = no_row();
-    let read = frame::read_frame(steps, image, at, sync, hash, &mut row);
+    let read = frame::steps::read_frame(steps, image, at, sync, hash, &mut row);
     flip(image, bit);
     match read {
         FrameRead::Found(dc) => Flips {
@@ -236,7 +236,7 @@ fn written(input: &[u8], at: usize, image: &mut [u8]) -> bool
     let head = head_of(input);
     let mut table = modulator::no_table();
     modulator::fill_table(&mut table);
-    frame::write_frame(
+    frame::steps::write_frame(
         &table,
         &input[6..161],
         head.dc,
@@ -255,7 +255,7 @@ fn frame_lines(steps: &Table, input: &[u8], at: usize)
     let mut image = blank();
     let next = written(input, at, &mut image);
     bytes_line(b"image ", &image);
-    number(b"# ", flag(frame::hash_at(&image, at)));
+    number(b"# ", flag(frame_sync::hash_at(&image, at)));
     number(b" next # ", flag(next));
     end_line();
     read_lines(steps, &mut image, at, sync, next, input);

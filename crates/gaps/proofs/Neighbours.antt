@@ -14,7 +14,7 @@ use lib.Seq.{getD-drop}
 use Rattle.laws.proofs.Tabulate.{getD-tabulate}
 use Rattle.bits.specs.Bits.{Bits}
 use Rattle.modulation.specs.Gaps.{Neighbours}
-use Rattle.modulation.proofs.Tests.{and-left, and-right}
+use Rattle.laws.proofs.Booleans.{and-left, and-right}
 use Rattle.gaps.specs.Gaps.{gapsAfter, gaps, count, gapCounts, endsGap, gapAt, howMany}
 
 -- ---- the first one of a list

@@ -9,7 +9,7 @@ use lib.Dec.{eqb, ltb}
 use lib.ListN.{length, getD, take, drop, length-drop}
 use lib.Seq.{take-all}
 use Rattle.laws.specs.Bytes.{Bytes}
-use Rattle.frame.specs.Sync.{fs}
+use Rattle.frame_sync.specs.Sync.{fs}
 use Rattle.frame.specs.Frame.{frame}
 use Rattle.frame.proofs.Frame.{length-frame}
 use Rattle.gaps.specs.declared.Tally.{Tally}

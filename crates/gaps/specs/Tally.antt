@@ -4,7 +4,7 @@ use mathlib.Core.List.{List, _∷_}
 use Prim.Native.Nat.{ℕ, _+_, _*_, _/_, _%_, _^_}
 use lib.Dec.{eqb, ltb}
 use lib.ListN.{length, getD, drop, replicate}
-use Rattle.frame.specs.Sync.{fs}
+use Rattle.frame_sync.specs.Sync.{fs}
 use Rattle.frame.specs.Frame.{frame}
 use Rattle.gaps.specs.declared.Tally.{Tally}
 use Rattle.gaps.specs.Gaps.{gapCounts}

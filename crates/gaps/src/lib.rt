@@ -3,7 +3,7 @@ ghost use mathlib.Core.Path.{_≡_};
 ghost use Prim.Native.Nat.{_*_, _<_, _≤_};
 ghost use lib.ListN.{length, take};
 ghost use Rattle.bits.specs.Bits.{bitsOf};
-ghost use Rattle.frame.specs.Sync.{fs};
+ghost use Rattle.frame_sync.specs.Sync.{fs};
 ghost use Rattle.frame.specs.Frame.{frame};
 ghost use Rattle.gaps.specs.Gaps.{gapCounts, BitCounted, Counts};
 ghost use Rattle.gaps.specs.Tally.{dcIn, refusal, tallied};
@@ -62,7 +62,7 @@ pub fn frame_counts(row: &[u8], dc: u32, number: usize, hash: bool) -> [u32; 8]
     let mut table = modulator::no_table();
     modulator::fill_table(&mut table);
     let mut image = blank();
-    frame::write_frame(&table, row, dc, number, hash, &mut image, 0);
+    frame::steps::write_frame(&table, row, dc, number, hash, &mut image, 0);
     gap_counts(&image, 1932)
 }
 

@@ -18,9 +18,9 @@ use Rattle.modulation.proofs.Fronts.{bits-groups}
 use Rattle.modulation.proofs.Streams.{length-stream}
 use Rattle.modulation.proofs.Limits.{long-gaps, spaced, no-seven}
 use Rattle.modulation.proofs.Unique.{unique}
-use Rattle.frame.specs.FrameBits.{frameBits}
+use Rattle.frame_bits.specs.FrameBits.{frameBits}
 use Rattle.frame.specs.Frame.{framePairs}
-use Rattle.frame.proofs.FrameBits.{length-frame-bits, frame-bits-bits, frame-bits-inj}
+use Rattle.frame_bits.proofs.FrameBits.{length-frame-bits, frame-bits-bits, frame-bits-inj}
 use Rattle.cluster.specs.EccCluster.{rowOf}
 use Rattle.cluster.proofs.Statements.{length-cluster, bytes-cluster, cluster-inj}
 use Rattle.image.specs.Image.{Input, IsAccepted, cluster, recording, imageBitsFrom, imageBits, image}

@@ -10,8 +10,8 @@ use Rattle.laws.specs.Bytes.{Bytes}
 use Rattle.laws.proofs.Bytes.{bytes-take, bytes-drop}
 use Rattle.modulation.specs.Stream.{Full}
 use Rattle.modulation.proofs.Bits.{length-pairs}
-use Rattle.frame.specs.FrameBits.{frameBits}
-use Rattle.frame.proofs.FrameBits.{length-frame-bits}
+use Rattle.frame_bits.specs.FrameBits.{frameBits}
+use Rattle.frame_bits.proofs.FrameBits.{length-frame-bits}
 use Rattle.cluster.specs.EccCluster.{rowOf}
 use Rattle.image.specs.Image.{Input, recordingOf, recording, cluster}
 

@@ -15,10 +15,10 @@ use Rattle.bits.specs.Bits.{Bits, bitsOf}
 use Rattle.modulation.specs.Sync.{FS, syncNumber}
 use Rattle.modulation.specs.Stream.{hash}
 use Rattle.modulation.proofs.Streams.{frame-bits}
-use Rattle.frame.specs.Sync.{fsNumber}
+use Rattle.frame_sync.specs.Sync.{fsNumber}
 use Rattle.frame.specs.Frame.{frame}
 use Rattle.frame.proofs.Frame.{length-frame}
-use Rattle.frame.proofs.SyncTables.{fs-number, number-at}
+use Rattle.frame_sync.proofs.SyncTables.{fs-number, number-at}
 use Rattle.gaps.specs.declared.Tally.{Tally}
 use Rattle.gaps.specs.Gaps.{gapCounts, gapAt, howMany}
 use Rattle.gaps.specs.Tally.{tallied, inputOf}

@@ -6,3 +6,5 @@ pub mod Scatter
 pub mod First
 pub mod Bytes
 pub mod Xor
+pub mod Booleans
+pub mod Same

@@ -13,7 +13,7 @@ use Rattle.bits.specs.Bits.{Bits, number, bitsOfNumber}
 use Rattle.bits.proofs.Number.{bits-of-number}
 use Rattle.modulation.specs.Modulation.{Two, d00, d01, d10, d11, twoNumber, Three, m000, m001, m010, m011, m100, m101, m110, m111, threeNumber, starts}
 use Rattle.modulation.specs.Bits.{two, pairs, dataBits, three, bits}
-use Rattle.modulation.proofs.Tests.{and-left, and-right, and-true, same-tests}
+use Rattle.laws.proofs.Booleans.{and-left, and-right, and-true, same-tests}
 use Rattle.modulation.proofs.Bits.{pairs-dataBits, length-dataBits}
 
 -- ---- pairs and groups are determined by their numbers

@@ -1,5 +1,4 @@
 -- The theorems are in Theorems; the other files lead there, and to the proofs of the functions.
-pub mod Tests
 pub mod Bits
 pub mod Fronts
 pub mod Words
@@ -15,3 +14,4 @@ pub mod Limits
 pub mod Unique
 pub mod Syncs
 pub mod Theorems
+pub mod Groups

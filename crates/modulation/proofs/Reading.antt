@@ -12,7 +12,7 @@ use Rattle.laws.specs.First.{first}
 use Rattle.laws.proofs.Finite.{all, all-at}
 use Rattle.modulation.specs.Modulation.{Two, d00, d01, d10, d11, twoNumber, Three, m000, m001, m010, m100, m101, Row, When, always, after-one, after-zero, before-010, at-end, rowAt, starts, startsWith010, allowed, Modulated, terminates, modulateFrom, modulate}
 use Rattle.modulation.specs.Demodulator.{agrees, rowRead}
-use Rattle.modulation.proofs.Tests.{and-right, implies, given}
+use Rattle.laws.proofs.Booleans.{and-right, implies, given}
 use Rattle.modulation.proofs.Words.{nextBit, Word, modulate-none}
 use Rattle.modulation.specs.Machine.{put, plain}
 use Rattle.modulation.proofs.Machine.{followed, not-followed}

@@ -11,7 +11,7 @@ use Rattle.modulation.specs.Modulation.{Two, d00, d01, d10, d11, Three, 
 use Rattle.modulation.specs.Bits.{bits}
 use Rattle.modulation.specs.Sync.{FS, FS0, FS1, FS2, FS3, FS4, FS5, FS6, syncId}
 use Rattle.modulation.specs.Stream.{modulated}
-use Rattle.modulation.proofs.Tests.{implies, T-true, given}
+use Rattle.laws.proofs.Booleans.{implies, T-true, given}
 use Rattle.modulation.proofs.Bits.{bits-append}
 use Rattle.modulation.specs.Machine.{Wait, w, w00, w0000, w000000, w000010, w11, w1101, w110111, w11011100, w1101110000, step, stop, machine}
 use Rattle.modulation.proofs.Machine.{machine-is}

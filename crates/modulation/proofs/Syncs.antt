@@ -10,7 +10,7 @@ use lib.Dec.{eqb, eqb→eq}
 use lib.ListN.{getD}
 use Rattle.laws.proofs.Finite.{all, all₂, all₃, all-at, all₃-at}
 use Rattle.modulation.specs.Sync.{FS, FS0, FS1, FS2, FS3, FS4, FS5, FS6, syncNumbers, syncNumber}
-use Rattle.modulation.proofs.Tests.{implies, given}
+use Rattle.laws.proofs.Booleans.{implies, given}
 
 -- ---- Figure 41: frame 0, then on each line a frame and the one 15 behind it
 

@@ -16,7 +16,7 @@ use Rattle.modulation.specs.Sync.{FS, FS0, sync, syncNumber}
 use Rattle.modulation.specs.Stream.{Recording, modulated, run, stream, Full}
 use Rattle.modulation.specs.Gaps.{LongGaps, Spaced, NoSeven}
 use Rattle.modulation.specs.Demodulator.{demodulate}
-use Rattle.modulation.proofs.Tests.{implies, given, beq-same}
+use Rattle.laws.proofs.Booleans.{implies, given, beq-same}
 use Rattle.modulation.proofs.Bits.{bits-injective, length-bits, length-pairs, dataBits-pairs, pairs-injective}
 use Rattle.modulation.proofs.Words.{First, Word, word-at}
 use Rattle.modulation.proofs.Words

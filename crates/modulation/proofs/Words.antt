@@ -11,7 +11,7 @@ use lib.ListN.{length, getD, drop, length-append}
 use Rattle.laws.proofs.Finite.{all, all-at}
 use Rattle.modulation.specs.Modulation.{Two, d00, d01, d10, d11, twoNumber, Row, rows, noRow, rowAt, starts, fits, choose, Rest, behind, Modulated, terminates, lastBit, modulateFrom, modulate}
 use Rattle.modulation.proofs.Fronts.{two-injective, starts-split}
-use Rattle.modulation.proofs.Tests.{and-left}
+use Rattle.laws.proofs.Booleans.{and-left}
 
 -- ---- the first row that passes
 

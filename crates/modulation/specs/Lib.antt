@@ -7,3 +7,5 @@ pub mod Sync
 pub mod Stream
 pub mod Gaps
 pub mod Demodulator
+pub mod Groups
+pub mod Words

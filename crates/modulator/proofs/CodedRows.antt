@@ -12,7 +12,7 @@ use Rattle.bits.specs.Bits.{number}
 use Rattle.modulation.specs.Modulation.{When, always, after-one, after-zero, before-010, at-end, rowAt, startsWith010, lastBit, terminates}
 use Rattle.modulation.specs.Bits.{dataBits, bits}
 use Rattle.modulation.proofs.Bits.{length-bits}
-use Rattle.modulation.proofs.Tests.{beq-same}
+use Rattle.laws.proofs.Booleans.{beq-same}
 use Rattle.modulator.specs.declared.conversion.Row.{Row as CodeRow}
 use Rattle.modulator.specs.declared.conversion.When.{When as CodeWhen}
 use Rattle.modulator.specs.declared.conversion.When.the-variants.{Always, AfterOne, AfterZero, Before010, AtEnd}

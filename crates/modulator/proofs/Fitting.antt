@@ -10,7 +10,7 @@ use lib.Dec.{eqb, leb}
 use lib.ListN.{length, drop}
 use lib.Seq.{drop-nil}
 use Rattle.modulation.specs.Modulation.{Two, twoNumber, When, before-010, at-end, rowAt, starts, startsWith010, allowed, fits, Modulated, modulateFrom, modulate}
-use Rattle.modulation.proofs.Tests.{and-left}
+use Rattle.laws.proofs.Booleans.{and-left}
 use Rattle.modulation.proofs.Fronts.{pairs-start}
 use Rattle.modulation.proofs.Words.{drop-behind, skip, nextBit}
 use Rattle.modulator.specs.declared.conversion.Row.{Row as CodeRow}

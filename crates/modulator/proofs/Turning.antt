@@ -14,7 +14,8 @@ use Rattle.bits.proofs.Number.{length-bits-of, number-of-bits}
 use Rattle.modulation.specs.Modulation.{Two, Modulated, modulate}
 use Rattle.modulation.specs.Bits.{bits}
 use Rattle.modulation.proofs.Machine.{machine-is}
-use Rattle.modulator.specs.Table.{byteEntry, lastEntry, nibblePairs, bytePairs}
+use Rattle.modulator.specs.Table.{byteEntry, lastEntry}
+use Rattle.modulation.specs.Pairs.{nibblePairs, bytePairs}
 use Rattle.modulator.specs.Put.{Put, FramePut}
 use Rattle.modulator.proofs.Runs.{from, byte-moves}
 use Rattle.modulator.proofs.Holding.{Holding, hold-none, hold-more, hold-put, hold-lt, last-bits, last-lt, last-end}

@@ -20,14 +20,14 @@ use Rattle.modulation.specs.Bits.{bits}
 use Rattle.modulation.specs.Sync.{sync, syncNumber}
 use Rattle.modulation.specs.Stream.{Recording, hash, recorded, run, stream}
 use Rattle.modulation.proofs.Bits.{bits-append}
-use Rattle.modulation.proofs.Tests.{and-left, and-right}
-use Rattle.frame.specs.FrameBits.{rowOf}
+use Rattle.laws.proofs.Booleans.{and-left, and-right}
+use Rattle.frame_bits.specs.FrameBits.{rowOf}
 use Rattle.frame.specs.Frame.{frame}
-use Rattle.frame.specs.Sync.{hashAt, syncRight}
+use Rattle.frame_sync.specs.Sync.{hashAt, syncRight}
 use Rattle.frame.specs.Reading.{RowGives}
 use Rattle.frame.proofs.Frame.{frame-as-read}
 use Rattle.frame.proofs.Reading.{bits-row, readable-gives}
-use Rattle.frame.proofs.SyncRight.{sync-as-read}
+use Rattle.frame_sync.proofs.SyncRight.{sync-as-read}
 use Rattle.cluster.specs.EccCluster as Ecc
 use Rattle.image.specs.Image.{recordingOf, imageBitsFrom, image}
 use Rattle.image.proofs.Recordings.{length-row}

@@ -11,13 +11,13 @@ use lib.Seq.{getD-append-add}
 use Rattle.laws.proofs.First.{Passed, passed-none, passed-more, first-here, first-past}
 use Rattle.laws.proofs.Fill.{Upto, upto-none, upto-more, upto-part, upto-all}
 use Rattle.modulation.specs.Sync.{FS, syncNumber}
-use Rattle.frame.specs.FrameBits.{rowOf}
-use Rattle.frame.specs.Sync.{fs, fsNumber}
-use Rattle.frame.specs.declared.read.FrameRead.{FrameRead}
-use Rattle.frame.specs.declared.read.FrameRead.the-variants.{Found, NoFrame}
+use Rattle.frame_bits.specs.FrameBits.{rowOf}
+use Rattle.frame_sync.specs.Sync.{fs, fsNumber}
+use Rattle.frame.specs.declared.FrameRead.{FrameRead}
+use Rattle.frame.specs.declared.FrameRead.the-variants.{Found, NoFrame}
 use Rattle.frame.specs.Reading.{StrictlyRead, readable, frameRead, rowRead}
-use Rattle.frame.proofs.SyncTables.{fs-number}
-use Rattle.frame.proofs.FrameBits.{length-row}
+use Rattle.frame_sync.proofs.SyncTables.{fs-number}
+use Rattle.frame_bits.proofs.FrameBits.{length-row}
 use Rattle.frame.proofs.Reading.{readable-gives, read-is, found-is, no-found}
 use Rattle.reader.specs.Reading.{modulatedAt, hashBehind, noFrame, firstNoFrame, frameBitsIn, clusterByte, clusterIn, dcWordIn, dcIn}
 use Rattle.reader.specs.Read.{FrameAnswer, TwoFrames, FramesRead}

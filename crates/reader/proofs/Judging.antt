@@ -9,8 +9,8 @@ use lib.Dec.{eqb}
 use lib.ListN.{getD}
 use Rattle.laws.proofs.First.{passed-none, first-here}
 use Rattle.modulation.specs.Sync.{FS, syncNumber}
-use Rattle.frame.specs.Sync.{fs, fsNumber, hashAt, syncRight}
-use Rattle.frame.proofs.SyncTables.{fs-number}
+use Rattle.frame_sync.specs.Sync.{fs, fsNumber, hashAt, syncRight}
+use Rattle.frame_sync.proofs.SyncTables.{fs-number}
 use Rattle.answer.specs.declared.Answer.{Answer}
 use Rattle.answer.specs.declared.Answer.the-variants.{Done, LastBits, Sync, Frame, BisColumn, AddressUnit, NoPsn, LdcColumn, Sector}
 use Rattle.answer.specs.Answer.{isDone, andThen, lowest}

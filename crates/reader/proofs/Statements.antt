@@ -18,9 +18,9 @@ use Rattle.answer.specs.Answer.{numberOf, isDone, andThen, lowest}
 use Rattle.answer.proofs.Tests.{number-zero, done-is, done-not, then-both, then-done, lowest-end, lowest-done, right-lengths, lengths-done, lengths-number, Sizes}
 use Rattle.modulation.specs.Bits.{bits}
 use Rattle.modulation.specs.Sync.{sync, syncNumber}
-use Rattle.modulation.proofs.Tests.{and-left, and-right}
-use Rattle.frame.specs.Sync.{hashAt, syncRight}
-use Rattle.frame.proofs.SyncRight.{sync-as-read, hash-as-read, sync-is-right}
+use Rattle.laws.proofs.Booleans.{and-left, and-right}
+use Rattle.frame_sync.specs.Sync.{hashAt, syncRight}
+use Rattle.frame_sync.proofs.SyncRight.{sync-as-read, hash-as-read, sync-is-right}
 use Rattle.frame.specs.Reading.{BitsGive, readable}
 use Rattle.frame.proofs.Reading.{bits-read, readable-iff}
 use Rattle.sector.specs.Scrambling.{scramblingOf}

@@ -16,14 +16,14 @@ use Rattle.modulation.specs.Bits.{bits}
 use Rattle.modulation.specs.Sync.{sync, syncNumber}
 use Rattle.modulation.specs.Stream.{Recording, hash, stream}
 use Rattle.modulation.proofs.Streams.{frame-bits, sync-bits}
-use Rattle.frame.specs.FrameBits.{frameBits, rowOf, dcOf}
+use Rattle.frame_bits.specs.FrameBits.{frameBits, rowOf, dcOf}
 use Rattle.frame.specs.Frame.{frame}
-use Rattle.frame.specs.Sync.{hashAt}
+use Rattle.frame_sync.specs.Sync.{hashAt}
 use Rattle.frame.specs.Reading.{RowGives}
-use Rattle.frame.proofs.FrameBits.{row-back, dc-word-back}
+use Rattle.frame_bits.proofs.FrameBits.{row-back, dc-word-back}
 use Rattle.frame.proofs.Frame.{read-body}
 use Rattle.frame.proofs.Reading.{row-bits, bits-read, gives-readable}
-use Rattle.frame.proofs.SyncRight.{hash-as-read, sync-is-right}
+use Rattle.frame_sync.proofs.SyncRight.{hash-as-read, sync-is-right}
 use Rattle.cluster.specs.EccCluster as Ecc
 use Rattle.cluster.proofs.Statements.{length-cluster, bytes-cluster}
 use Rattle.image.specs.Image.{Input, IsAccepted, cluster, recording, imageBitsFrom, imageBits, image}

@@ -5,9 +5,9 @@ use mathlib.Core.List.{List, _++_}
 use Prim.Native.Nat.{ℕ, _+_, _*_, _≤_}
 use lib.ListN.{length, take, drop}
 use Rattle.laws.specs.Tabulate.{tabulate}
-use Rattle.frame.specs.FrameBits.{rowOf}
-use Rattle.frame.specs.declared.read.FrameRead.{FrameRead}
-use Rattle.frame.specs.declared.read.FrameRead.the-variants.{Found, NoFrame}
+use Rattle.frame_bits.specs.FrameBits.{rowOf}
+use Rattle.frame.specs.declared.FrameRead.{FrameRead}
+use Rattle.frame.specs.declared.FrameRead.the-variants.{Found, NoFrame}
 use Rattle.answer.specs.declared.Answer.the-variants.{Done}
 use Rattle.answer.specs.declared.Answer.{Answer}
 use Rattle.answer.specs.Answer.{isDone}

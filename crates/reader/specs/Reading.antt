@@ -7,8 +7,8 @@ use lib.ListN.{getD, take, drop}
 use Rattle.laws.specs.First.{first}
 use Rattle.laws.specs.Tabulate.{tabulate}
 use Rattle.modulation.specs.Sync.{syncNumber}
-use Rattle.frame.specs.FrameBits.{rowOf, dcOf}
-use Rattle.frame.specs.Sync.{hashAt, syncRight}
+use Rattle.frame_bits.specs.FrameBits.{rowOf, dcOf}
+use Rattle.frame_sync.specs.Sync.{hashAt, syncRight}
 use Rattle.frame.specs.Reading.{bitsRead, readable}
 
 -- ---- 9: the last two bits are zero

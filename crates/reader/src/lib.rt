@@ -50,13 +50,13 @@ fn first_wrong_sync(image: &[u8]) -> usize
     requires { ⌜ length (now image) ≡ 119788 ⌝ }
     ensures { λ r. ⌜ r ≡ firstWrongSync (bitsOf (now (image .entry))) ⌝ }
 {
-    if frame::hash_at(image, 0) {
+    if frame_sync::hash_at(image, 0) {
         return 0;
     }
     let mut sync = 0;
     while sync < 497 {
-        let number = frame::sync_number(sync);
-        if !frame::sync_right(image, 1932 * sync, number) {
+        let number = frame_sync::sync_number(sync);
+        if !frame_sync::steps::sync_right(image, 1932 * sync, number) {
             return sync;
         }
         sync += 1;
@@ -69,13 +69,13 @@ fn read_two(steps: &Table, image: &[u8], n: usize, work: &mut [u8]) -> TwoRead
     requires { ⌜ (now steps ≡ table) × ((length (now image) ≡ 119788) × ((n + 1 < 496) × (length (now work) ≡ 76880))) ⌝ }
     ensures { λ r. ⌜ TwoFrames (bitsOf (now (image .entry))) n (now (work .entry)) (r .first) (r .second) (now (work .exit)) ⌝ }
 {
-    let hash = frame::hash_at(image, 1932 * (n + 1));
-    let sign = frame::hash_at(image, 1932 * (n + 2));
-    let first = frame::sync_number(n);
-    let second = frame::sync_number(n + 1);
+    let hash = frame_sync::hash_at(image, 1932 * (n + 1));
+    let sign = frame_sync::hash_at(image, 1932 * (n + 2));
+    let first = frame_sync::sync_number(n);
+    let second = frame_sync::sync_number(n + 1);
     let start = 155 * n;
     let end = start + 310;
-    frame::read_two(
+    frame::steps::read_two(
         steps,
         image,
         1932 * n,

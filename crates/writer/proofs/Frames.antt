@@ -18,10 +18,11 @@ use Rattle.modulation.specs.Sync.{FS, sync, syncNumber}
 use Rattle.modulation.specs.Stream as Stream
 use Rattle.modulation.proofs.Bits.{bits-append, length-bits}
 use Rattle.modulation.proofs.Streams.{length-sync, length-recorded}
-use Rattle.frame.specs.Sync.{fs, fsNumber}
+use Rattle.frame_sync.specs.Sync.{fs, fsNumber}
 use Rattle.frame.specs.Frame.{frame, frameGroups}
-use Rattle.frame.specs.Written.{SyncWritten, FrameWritten}
-use Rattle.frame.proofs.SyncTables.{fs-number}
+use Rattle.frame.specs.steps.Written.{FrameWritten}
+use Rattle.frame_sync.specs.steps.Written.{SyncWritten}
+use Rattle.frame_sync.proofs.SyncTables.{fs-number}
 use Rattle.cluster.specs.EccCluster.{eccCluster, rowOf, shownRow}
 use Rattle.image.specs.Image.{Input, cluster, recordingOf, imageBitsFrom, image}
 use Rattle.image.proofs.Recordings.{length-row, full-of}

@@ -8,7 +8,7 @@ ghost use Prim.Native.Nat.{_*_, _<_};
 ghost use lib.ListN.{length, getD};
 ghost use Rattle.answer.specs.Answer.{numberOf, andThen, lengthsAnswer};
 ghost use Rattle.modulation.specs.Sync.{syncNumber};
-ghost use Rattle.frame.specs.Written.{FrameWritten};
+ghost use Rattle.frame.specs.steps.Written.{FrameWritten};
 ghost use Rattle.modulator.specs.Table.{lentTable};
 ghost use Rattle.cluster.specs.EccCluster.{rowOf};
 ghost use Rattle.image.specs.Image.{Input};
@@ -37,8 +37,8 @@ fn put_frame(table: &Table, work: &[u8], dc: &[u32], n: usize, hash: bool, image
     ensures { λ r. ⌜ FrameWritten (syncNumber n) hash (rowOf (now (work .entry)) n) (getD (now (dc .entry)) n 0) (now (image .entry)) (1932 * n) (now (image .exit)) r ⌝ }
 {
     let row = cluster::row(work, n);
-    let number = frame::sync_number(n);
-    frame::write_frame(table, row, dc[n], number, hash, image, 1932 * n)
+    let number = frame_sync::sync_number(n);
+    frame::steps::write_frame(table, row, dc[n], number, hash, image, 1932 * n)
 }
 
 // The 496 frames; the answer is # of the sync that follows.
@@ -63,7 +63,7 @@ fn put_image(work: &[u8], dc: &[u32], image: &mut [u8])
     ensures { λ _. ⌜ ImageWritten (now (work .entry)) (now (dc .entry)) (now (image .exit)) ⌝ }
 {
     let hash = put_frames(work, dc, image);
-    frame::write_sync(hash, 0, image, 958272);
+    frame_sync::steps::write_sync(hash, 0, image, 958272);
     bits::write_bit(image, 958302, 0);
     bits::write_bit(image, 958303, 0);
 }

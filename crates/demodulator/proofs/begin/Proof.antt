@@ -4,7 +4,7 @@ use Prim.Native.Nat.{ℕ, _+_}
 use native.Mathlib.Omega.{arith}
 use borrow.Author.Needs.{needs}
 use Rattle.bits.specs.Bits.{bitsOf}
-use Rattle.demodulator.specs.Groups.{groupsAt}
+use Rattle.modulation.specs.Groups.{groupsAt}
 use Rattle.demodulator.specs.Table.{After}
 use Rattle.demodulator.proofs.Running.{more-read, still-small}
 use Rattle.demodulator.proofs.begin.Statement.{statement}

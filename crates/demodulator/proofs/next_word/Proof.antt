@@ -2,7 +2,7 @@
 use Prim.Native.Nat.{_+_, _*_}
 use borrow.Author.Needs.{needs}
 use Rattle.bits.specs.Bits.{bitsOf}
-use Rattle.demodulator.proofs.Groups.{length-groupsAt}
+use Rattle.modulation.proofs.Groups.{length-groupsAt}
 use Rattle.demodulator.proofs.Held.{next-word}
 use Rattle.demodulator.proofs.next_word.Statement.{statement}
 use Rattle.demodulator.proofs.next_word.Tie as tie

@@ -4,7 +4,7 @@ use Prim.Native.Nat.{_+_, _-_, _*_}
 use native.Mathlib.Omega.{arith}
 use borrow.Author.Needs.{needs}
 use Rattle.bits.specs.Bits.{bitsOf}
-use Rattle.frame.specs.Sync.{hashAt}
+use Rattle.frame_sync.specs.Sync.{hashAt}
 use Rattle.reader.proofs.Frames.{frame-answer, row-is, two-rows}
 use Rattle.reader.proofs.read_two.Statement.{statement}
 use Rattle.reader.proofs.read_two.Tie as tie

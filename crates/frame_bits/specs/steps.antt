@@ -1,0 +1,3 @@
+-- The bits of a recording frame.
+pub mod Words
+pub mod Slices

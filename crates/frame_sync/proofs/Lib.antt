@@ -1,0 +1,4 @@
+-- Frame syncs.
+pub mod SyncTables
+pub mod SyncRight
+pub mod Writing

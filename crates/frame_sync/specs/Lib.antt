@@ -1,0 +1,3 @@
+-- Frame syncs.
+pub mod Sync
+pub mod steps
