@@ -10,10 +10,14 @@ use lib.Pow.{pow-add}
 use lib.Seq.{ext-getD, getD-append-add}
 use Rattle.laws.specs.Bytes.{Bytes}
 use Rattle.laws.specs.Tabulate.{tabulate}
-use Rattle.bits.specs.Bits.{bitsOf, bitsOfNumber, number, packed}
-use Rattle.bits.proofs.Bits.{length-bits, bit-in, bits-bits}
-use Rattle.bits.proofs.Number.{number-of-bits, bits-of-number}
+use Rattle.bits.specs.Bits.{bitsOf, bitsOfNumber, number, packed, Bits}
+use Rattle.bits.proofs.Bits.{length-bits, bit-in, bits-bits, bits-then}
+use Rattle.bits.proofs.Number.{number-of-bits, bits-of-number, length-bits-of, getD-bits-of}
 use Rattle.bits.proofs.Pack.{packed-bits}
+use native.Mathlib.Nat.{mod-eq-of-lt}
+use native.Mathlib.Nat.{mod-lt}
+use native.Mathlib.Nat.{zero-lt-suc}
+use lib.ListN.{List·getD-eq-default}
 
 pub bits-append : (a b : List ℕ) → bitsOf (a ++ b) ≡ bitsOf a ++ bitsOf b
 bits-append a b = ext-getD 0 (bitsOf (a ++ b)) (bitsOf a ++ bitsOf b) (omega (arith, size, length-append (bitsOf a) (bitsOf b), length-bits a, length-bits b)) at
@@ -72,3 +76,20 @@ bytes-equal a b ba bb size e = sym (packed-bits a ba) ∙ ap packed same ∙ pac
         sym (bits-of-number (bitsOf a) (bits-bits a))
         ∙ ap₂ bitsOfNumber (length-bits a ∙ ap (λ (n : ℕ). 8 * n) size ∙ sym (length-bits b)) e
         ∙ bits-of-number (bitsOf b) (bits-bits b)
+
+pub number-bits : (n v : ℕ) → Bits (bitsOfNumber n v)
+number-bits n v i =
+    elim (decLt i n) [
+      | yes h ↦ rw (getD-bits-of n v i h) (mod-lt (v / 2 ^ (n - 1 - i)) (zero-lt-suc 1))
+      | no h ↦ rw (List·getD-eq-default (bitsOfNumber n v) 0 {n = i} (omega (arith, length-bits-of n v))) (omega arith)
+    ]
+
+-- a number of n bits behind which one of m bits stands
+pub join-bits : (n m x y : ℕ) → x < 2 ^ n → y < 2 ^ m → bitsOfNumber (n + m) (x * 2 ^ m + y) ≡ bitsOfNumber n x ++ bitsOfNumber m y
+join-bits n m x y hx hy =
+    let size : length (bitsOfNumber n x ++ bitsOfNumber m y) ≡ n + m = omega (arith, length-append (bitsOfNumber n x) (bitsOfNumber m y), length-bits-of n x, length-bits-of m y) in
+    let value : number (bitsOfNumber n x ++ bitsOfNumber m y) ≡ x * 2 ^ m + y =
+    number-append (bitsOfNumber n x) (bitsOfNumber m y)
+    ∙ ap₂ (λ (k a : ℕ). number (bitsOfNumber n x) * 2 ^ k + a) (length-bits-of m y) (number-of-bits m y ∙ mod-eq-of-lt hy)
+    ∙ ap (λ (a : ℕ). a * 2 ^ m + y) (number-of-bits n x ∙ mod-eq-of-lt hx) in
+    sym (ap₂ bitsOfNumber size value) ∙ bits-of-number (bitsOfNumber n x ++ bitsOfNumber m y) (bits-then (bitsOfNumber n x) (bitsOfNumber m y) (number-bits n x) (number-bits m y))

@@ -12,9 +12,10 @@ use Rattle.laws.proofs.Finite.{all, all-at, all₂, all₂-at, all₃, all₃-a
 use Rattle.modulation.specs.Modulation.{Three, threeNumber}
 use Rattle.laws.proofs.Booleans.{implies, given}
 use Rattle.modulation.proofs.Fronts.{three-below}
-use Rattle.demodulator.specs.Automaton.{reads, ends, next, added, ending, stateAfter, numberAfter}
-use Rattle.demodulator.specs.Table.{After, limit, Held, NextWord, LastWord}
-use Rattle.demodulator.proofs.Entries.{entry-state, limit-pos, number-limit, number-shift, state-small}
+use Rattle.automaton.specs.Automaton.{reads, ends, next, added, ending, stateAfter, numberAfter}
+use Rattle.automaton.specs.steps.Table.{After, limit}
+use Rattle.demodulator.specs.steps.Held.{Held, NextWord, LastWord}
+use Rattle.automaton.proofs.Entries.{entry-state, limit-pos, number-limit, number-shift, state-small}
 
 -- the pending bits of a are zeros
 abbrev Aligned : ℕ → ℕ → Type 0

@@ -1,7 +1,4 @@
 -- The two theorems are Complete and Sound; the other files lead from them to the code's words.
-pub mod Complete
-pub mod Sound
-pub mod Entries
 pub mod Windows
 pub mod Running
 pub mod Held

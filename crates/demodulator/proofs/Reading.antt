@@ -16,12 +16,13 @@ use Rattle.modulation.proofs.Bits.{bits-injective, pairs-dataBits}
 use Rattle.modulation.proofs.Size.{size}
 use Rattle.modulation.specs.Groups.{Inside, groupsAt, frameAt}
 use Rattle.modulation.proofs.Groups.{length-groupsAt, bits-groupsAt}
-use Rattle.demodulator.specs.Automaton.{start, ending, stateAfter, numberAfter, accepts, numberOf}
-use Rattle.demodulator.specs.Table.{After, Held, NextWord, LastWord}
+use Rattle.automaton.specs.Automaton.{start, ending, stateAfter, numberAfter, accepts, numberOf}
+use Rattle.automaton.specs.steps.Table.{After}
+use Rattle.demodulator.specs.steps.Held.{Held, NextWord, LastWord}
 use Rattle.modulation.specs.Words.{bitsIn, Words, WordsRead}
-use Rattle.demodulator.proofs.Complete.{after-append, complete}
-use Rattle.demodulator.proofs.Sound.{sound}
-use Rattle.demodulator.proofs.Entries.{number-append, number-shift, start-small}
+use Rattle.automaton.proofs.Complete.{after-append, complete}
+use Rattle.automaton.proofs.Sound.{sound}
+use Rattle.automaton.proofs.Entries.{number-append, number-shift, start-small}
 use Rattle.demodulator.proofs.Held.{read-number, read-state, held-first}
 use Rattle.demodulator.proofs.Windows.{groups-append}
 use Rattle.demodulator.proofs.Running.{read-bound}

@@ -7,9 +7,9 @@ use lib.ListN.{length}
 use Rattle.modulation.specs.Modulation.{Three}
 use Rattle.modulation.specs.Groups.{groupsAt}
 use Rattle.modulation.proofs.Groups.{length-groupsAt}
-use Rattle.demodulator.specs.Automaton.{stateAfter, numberAfter}
-use Rattle.demodulator.specs.Table.{After}
-use Rattle.demodulator.proofs.Entries.{after-more, number-bound}
+use Rattle.automaton.specs.Automaton.{stateAfter, numberAfter}
+use Rattle.automaton.specs.steps.Table.{After}
+use Rattle.automaton.proofs.Entries.{after-more, number-bound}
 use Rattle.demodulator.proofs.Windows.{groups-append}
 
 pub none-read : (b : List ℕ) (at s : ℕ) → s < 18 → After (groupsAt b at (3 * 0)) s s

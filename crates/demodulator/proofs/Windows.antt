@@ -12,7 +12,7 @@ use Rattle.modulation.specs.Modulation.{Three, threeNumber}
 use Rattle.modulation.specs.Bits.{three}
 use Rattle.modulation.proofs.Fronts.{three-injective}
 use Rattle.modulation.specs.Groups.{groupsAt}
-use Rattle.demodulator.specs.Table.{group, twoGroups, threeGroups}
+use Rattle.automaton.specs.steps.Table.{group, twoGroups, threeGroups}
 
 -- ---- groups by number
 

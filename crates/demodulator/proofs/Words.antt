@@ -14,9 +14,9 @@ use Rattle.modulation.specs.Modulation.{Two, twoNumber}
 use Rattle.modulation.specs.Bits.{dataBits}
 use Rattle.modulation.proofs.Bits.{length-dataBits}
 use Rattle.modulation.proofs.Fronts.{bits-dataBits}
-use Rattle.demodulator.specs.Automaton.{onto}
+use Rattle.automaton.specs.Automaton.{onto}
 use Rattle.modulation.specs.Words.{bitsIn}
-use Rattle.demodulator.proofs.Sound.{plain, onto-shift}
+use Rattle.automaton.proofs.Sound.{plain, onto-shift}
 
 -- ---- the first n words as a number
 

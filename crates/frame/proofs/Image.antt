@@ -10,7 +10,7 @@ use lib.Seq.{sets, sets-eq, take-at, drop-at, take-add, drop-drop, drop-cons, ta
 use Rattle.laws.specs.Tabulate.{tabulate}
 use Rattle.bits.specs.Bits.{bitsOf, number, bitsOfNumber}
 use Rattle.bits.proofs.Bits.{length-bits}
-use Rattle.bits.proofs.Concat.{bits-append}
+use Rattle.bits.proofs.Concat.{bits-append, join-bits}
 use Rattle.modulation.specs.Modulation.{Modulated, modulate}
 use Rattle.modulation.specs.Bits.{bits}
 use Rattle.modulation.specs.Sync.{sync}
@@ -19,8 +19,7 @@ use Rattle.frame_sync.specs.Sync.{fs}
 use Rattle.frame.specs.Frame.{framePairs, frame}
 use Rattle.frame.specs.steps.Written.{FrameWritten}
 use Rattle.frame.proofs.Frame.{length-frame, frame-parts}
-use Rattle.modulator.specs.Put.{FramePut}
-use Rattle.modulator.proofs.Put.{join-bits}
+use Rattle.modulator.specs.steps.Put.{FramePut}
 use Rattle.frame_sync.proofs.SyncTables.{sync-bits, sync-odd, sync-small}
 
 -- ---- bits of parts

@@ -1,11 +1,11 @@
 // Frames of a known cluster written into slices of 245 bytes, from bit 8 on and then a bit later each, read back and damaged. Standard input
 // holds seven records of 161 bytes: #, sync number, dc word, row.
-use demodulator::Table;
+use automaton::Table;
 use frame::FrameRead;
 ghost use mathlib.Core.Path.{_≡_};
 ghost use Prim.Native.Nat.{_<_};
 ghost use lib.ListN.{length};
-ghost use Rattle.demodulator.specs.Table.{table};
+ghost use Rattle.automaton.specs.steps.Table.{table};
 
 fn wide(byte: u8) -> u64 {
     byte as u64
@@ -234,8 +234,8 @@ fn written(input: &[u8], at: usize, image: &mut [u8]) -> bool
     requires { ⌜ (length (now input) ≡ 161) × (at < 16) ⌝ }
 {
     let head = head_of(input);
-    let mut table = modulator::no_table();
-    modulator::fill_table(&mut table);
+    let mut table = modulator::steps::no_table();
+    modulator::steps::fill_table(&mut table);
     frame::steps::write_frame(
         &table,
         &input[6..161],
@@ -275,8 +275,8 @@ fn no_record() -> [u8; 161]
 
 fn main() {
     sync_numbers();
-    let mut steps = demodulator::no_table();
-    demodulator::fill_table(&mut steps);
+    let mut steps = automaton::steps::no_table();
+    automaton::steps::fill_table(&mut steps);
     let mut input = no_record();
     for k in 0..7usize {
         read_record(&mut input);

@@ -59,8 +59,8 @@ pub fn frame_counts(row: &[u8], dc: u32, number: usize, hash: bool) -> [u32; 8]
     requires { ⌜ (length (now row) ≡ 155) × (number < 7) ⌝ }
     ensures { λ r. ⌜ r ≡ gapCounts (frame hash (fs number) (now (row .entry)) dc) ⌝ }
 {
-    let mut table = modulator::no_table();
-    modulator::fill_table(&mut table);
+    let mut table = modulator::steps::no_table();
+    modulator::steps::fill_table(&mut table);
     let mut image = blank();
     frame::steps::write_frame(&table, row, dc, number, hash, &mut image, 0);
     gap_counts(&image, 1932)

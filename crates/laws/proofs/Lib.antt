@@ -8,3 +8,4 @@ pub mod Bytes
 pub mod Xor
 pub mod Booleans
 pub mod Same
+pub mod Shifts

@@ -19,9 +19,9 @@ use Rattle.modulation.proofs.Bits.{bits-append, length-bits}
 use Rattle.modulation.proofs.Fronts.{bits-groups}
 use Rattle.modulation.specs.Machine.{waiting, stop, put}
 use Rattle.modulation.proofs.Machine.{machine-is}
-use Rattle.modulator.specs.Few.{fewPairs, Given}
-use Rattle.modulator.specs.Table.{waitOf, bitOf, waits, WaitingNumber, stepEntry, stopEntry}
-use Rattle.modulator.proofs.FewPairs.{few-back}
+use Rattle.conversion.specs.steps.Few.{fewPairs, Given}
+use Rattle.modulator.specs.steps.Table.{waitOf, bitOf, waits, WaitingNumber, stepEntry, stopEntry}
+use Rattle.conversion.proofs.FewPairs.{few-back}
 use Rattle.modulator.proofs.Runs.{step-moves}
 use Rattle.modulator.proofs.Holding.{stop-sized}
 

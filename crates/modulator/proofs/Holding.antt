@@ -19,7 +19,7 @@ use Rattle.modulation.specs.Bits.{bits}
 use Rattle.modulation.proofs.Bits.{bits-append, length-bits}
 use Rattle.modulation.proofs.Fronts.{bits-groups}
 use Rattle.modulation.specs.Machine.{stop, put}
-use Rattle.modulator.specs.Table.{waitOf, bitOf, waits, stopEntry, nibbleEntry, lastEntry}
+use Rattle.modulator.specs.steps.Table.{waitOf, bitOf, waits, stopEntry, nibbleEntry, lastEntry}
 use Rattle.modulation.specs.Pairs.{nibblePairs}
 use Rattle.modulator.proofs.Runs.{shifted, from, Moves, moves-on, nibble-moves}
 

@@ -1,26 +1,17 @@
 -- Bytes put one after the other are the bits of a number. Assumes nothing.
 use mathlib.Core.List.{List, [], _∷_, _++_}
 use mathlib.Core.Path.{_≡_, refl, sym, ap, ap₂, _∙_}
-use Prim.Native.Nat.{ℕ, suc, _+_, _*_, _-_, _/_, _%_, _^_, _<_, _≤_}
-use native.Mathlib.Nat.{mod-lt, mod-eq-of-lt, zero-lt-suc}
-use native.Mathlib.Decide.{decLt}
+use Prim.Native.Nat.{ℕ, suc, _+_, _*_, _-_, _/_, _%_, _^_, _≤_}
 use native.Mathlib.Omega.{arith}
-use lib.ListN.{length, set, take, length-append, List·getD-eq-default}
+use lib.ListN.{length, set, take}
 use lib.Seq.{sets, length-sets}
 use lib.Pow.{mod-pow-add}
 use Rattle.laws.proofs.Fill.{sets-front}
-use Rattle.bits.specs.Bits.{Bits, bitsOf, number, bitsOfNumber}
-use Rattle.bits.proofs.Bits.{length-bits, bits-bits, bits-then}
-use Rattle.bits.proofs.Number.{length-bits-of, getD-bits-of, number-of-bits, bits-of-number}
-use Rattle.bits.proofs.Concat.{bits-append, number-append, number-bytes, number-byte}
-use Rattle.modulator.specs.Put.{Put}
-
-pub number-bits : (n v : ℕ) → Bits (bitsOfNumber n v)
-number-bits n v i =
-    elim (decLt i n) [
-      | yes h ↦ rw (getD-bits-of n v i h) (mod-lt (v / 2 ^ (n - 1 - i)) (zero-lt-suc 1))
-      | no h ↦ rw (List·getD-eq-default (bitsOfNumber n v) 0 {n = i} (omega (arith, length-bits-of n v))) (omega arith)
-    ]
+use Rattle.bits.specs.Bits.{bitsOf, number, bitsOfNumber}
+use Rattle.bits.proofs.Bits.{length-bits, bits-bits}
+use Rattle.bits.proofs.Number.{length-bits-of, number-of-bits, bits-of-number}
+use Rattle.bits.proofs.Concat.{bits-append, number-bytes, number-byte, number-bits}
+use Rattle.modulator.specs.steps.Put.{Put}
 
 -- bytes that make v, modulo 2 to the number of their bits, are its bits
 bytes-are : (vs : List ℕ) (n v : ℕ) → 8 * length vs ≡ n → number (bitsOf vs) ≡ v % 2 ^ n → bitsOf vs ≡ bitsOfNumber n v
@@ -77,13 +68,3 @@ put-five l at v a b c d e h ea eb ec ed ee =
     rw (one, two, three, four)
     (put-all l (a ∷ b ∷ c ∷ d ∷ e ∷ []) at 5 v refl h
     (byte-in a (b ∷ c ∷ d ∷ e ∷ []) v ea (byte-in b (c ∷ d ∷ e ∷ []) v eb (byte-in c (d ∷ e ∷ []) v ec (byte-in d (e ∷ []) v ed (last-in e v ee))))))
-
--- a number of n bits behind which one of m bits stands
-pub join-bits : (n m x y : ℕ) → x < 2 ^ n → y < 2 ^ m → bitsOfNumber (n + m) (x * 2 ^ m + y) ≡ bitsOfNumber n x ++ bitsOfNumber m y
-join-bits n m x y hx hy =
-    let size : length (bitsOfNumber n x ++ bitsOfNumber m y) ≡ n + m = omega (arith, length-append (bitsOfNumber n x) (bitsOfNumber m y), length-bits-of n x, length-bits-of m y) in
-    let value : number (bitsOfNumber n x ++ bitsOfNumber m y) ≡ x * 2 ^ m + y =
-    number-append (bitsOfNumber n x) (bitsOfNumber m y)
-    ∙ ap₂ (λ (k a : ℕ). number (bitsOfNumber n x) * 2 ^ k + a) (length-bits-of m y) (number-of-bits m y ∙ mod-eq-of-lt hy)
-    ∙ ap (λ (a : ℕ). a * 2 ^ m + y) (number-of-bits n x ∙ mod-eq-of-lt hx) in
-    sym (ap₂ bitsOfNumber size value) ∙ bits-of-number (bitsOfNumber n x ++ bitsOfNumber m y) (bits-then (bitsOfNumber n x) (bitsOfNumber m y) (number-bits n x) (number-bits m y))

@@ -15,7 +15,7 @@ use Rattle.modulation.specs.Bits.{bits}
 use Rattle.modulation.specs.Pairs.{twoOf, nibblePairs, bytePairs}
 use Rattle.modulation.proofs.Bits.{bits-append, length-bits}
 use Rattle.modulation.specs.Machine.{Wait, w, w00, w0000, w000000, w000010, w11, w1101, w110111, w11011100, w1101110000, waiting, Step, step, put, machine}
-use Rattle.modulator.specs.Table.{waitOf, bitOf, stateNumber, waits, stepEntry, joined, nibbleEntry, byteEntry}
+use Rattle.modulator.specs.steps.Table.{waitOf, bitOf, stateNumber, waits, stepEntry, joined, nibbleEntry, byteEntry}
 
 -- ---- numbers with groups behind them
 

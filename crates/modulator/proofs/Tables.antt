@@ -6,7 +6,7 @@ use native.Mathlib.Nat.{lt-of-lt-of-le}
 use native.Mathlib.Omega.{arith}
 use borrow.Author.Tests.{lt-ltb, le-ltb}
 use lib.ListN.{length, getD}
-use lib.Pow.{shl-exact, shl-lt, pow-pos, pow-mono}
+use lib.Pow.{shl-exact, shl-lt, pow-mono}
 use Rattle.laws.specs.Tabulate.{tabulate}
 use Rattle.laws.proofs.Tabulate.{getD-tabulate}
 use Rattle.laws.proofs.Finite.{all, bounded-below}
@@ -16,7 +16,7 @@ use Rattle.modulation.specs.Modulation.{Two}
 use Rattle.modulation.specs.Bits.{bits}
 use Rattle.modulation.proofs.Bits.{length-bits}
 use Rattle.modulation.proofs.Fronts.{bits-groups}
-use Rattle.modulator.specs.Table.{waits, stepEntry, stopEntry, joined, nibbleEntry, byteEntry, lastEntry, entryAt, stepTable, stopTable, nibbleTable, lentTable}
+use Rattle.modulator.specs.steps.Table.{waits, stepEntry, stopEntry, joined, nibbleEntry, byteEntry, lastEntry, entryAt, stepTable, stopTable, nibbleTable, lentTable}
 use Rattle.modulator.proofs.Runs.{Moves, moves-on, step-moves, nibble-moves}
 use Rattle.modulator.proofs.Holding.{few-wait}
 
@@ -125,12 +125,6 @@ module _ (s x : ℕ) {a b t : ℕ} where
   last-made ea et eb = rw (eb, et, ea)
 
 -- ---- a shifted 1
-
-pub weight : (width k : ℕ) → k < width → 1 * 2 ^ k % 2 ^ width ≡ 2 ^ k
-weight width k h = shl-exact {a = 1} 1 k width (omega arith) (omega arith) ∙ omega arith
-
-pub weight-some : (width k : ℕ) → k < width → 0 < 1 * 2 ^ k % 2 ^ width
-weight-some width k h = rw (weight width k h) (pow-pos k)
 
 -- bits put k places higher, where there is room
 module _ (v lag last : ℕ) (h : v < 2 ^ (lag + 6)) (few : lag ≤ 34) where

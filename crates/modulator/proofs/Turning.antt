@@ -14,12 +14,12 @@ use Rattle.bits.proofs.Number.{length-bits-of, number-of-bits}
 use Rattle.modulation.specs.Modulation.{Two, Modulated, modulate}
 use Rattle.modulation.specs.Bits.{bits}
 use Rattle.modulation.proofs.Machine.{machine-is}
-use Rattle.modulator.specs.Table.{byteEntry, lastEntry}
+use Rattle.modulator.specs.steps.Table.{byteEntry, lastEntry}
 use Rattle.modulation.specs.Pairs.{nibblePairs, bytePairs}
-use Rattle.modulator.specs.Put.{Put, FramePut}
+use Rattle.modulator.specs.steps.Put.{Put, FramePut}
 use Rattle.modulator.proofs.Runs.{from, byte-moves}
 use Rattle.modulator.proofs.Holding.{Holding, hold-none, hold-more, hold-put, hold-lt, last-bits, last-lt, last-end}
-use Rattle.modulator.proofs.Put.{number-bits, join-bits}
+use Rattle.bits.proofs.Concat.{number-bits, join-bits}
 
 -- the machine starts with nothing that waits
 start-is : (s : ℕ) (ds : List Two) → s < 2 → from s ds ≡ modulate (eqb s 1) ds

@@ -1,5 +1,2 @@
 -- The rows in the code's table, what is found by them, the table made of them, and what a modulated frame leaves in a slice.
-pub mod Rows
-pub mod Few
-pub mod Table
-pub mod Put
+pub mod steps

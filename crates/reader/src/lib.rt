@@ -3,7 +3,7 @@ use address::Psn;
 use answer::Answer;
 use bis::PsnFound;
 use column::Remainders;
-use demodulator::Table;
+use automaton::Table;
 use frame::FrameRead;
 use frame::TwoRead;
 ghost use mathlib.Core.Path.{_≡_};
@@ -11,7 +11,7 @@ ghost use Prim.Native.Nat.{_+_, _<_};
 ghost use lib.ListN.{length};
 ghost use Rattle.bits.specs.Bits.{bitsOf};
 ghost use Rattle.answer.specs.Answer.{numberOf};
-ghost use Rattle.demodulator.specs.Table.{table};
+ghost use Rattle.automaton.specs.steps.Table.{table};
 ghost use Rattle.column.specs.Remainders.{AreRemainders};
 ghost use Rattle.sector.specs.Scrambling.{scramblingOf};
 ghost use Rattle.cluster.specs.Multiplex.{bisIn};
@@ -92,8 +92,8 @@ fn read_frames(image: &[u8], dc: &mut [u32], work: &mut [u8]) -> usize
     requires { ⌜ (length (now image) ≡ 119788) × ((length (now dc) ≡ 496) × (length (now work) ≡ 76880)) ⌝ }
     ensures { λ r. ⌜ FramesRead (bitsOf (now (image .entry))) r (now (dc .exit)) (now (work .exit)) ⌝ }
 {
-    let mut steps = demodulator::no_table();
-    demodulator::fill_table(&mut steps);
+    let mut steps = automaton::steps::no_table();
+    automaton::steps::fill_table(&mut steps);
     let mut n = 0;
     while n < 496 {
         let two = read_two(&steps, image, n, work);

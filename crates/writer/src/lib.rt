@@ -9,7 +9,7 @@ ghost use lib.ListN.{length, getD};
 ghost use Rattle.answer.specs.Answer.{numberOf, andThen, lengthsAnswer};
 ghost use Rattle.modulation.specs.Sync.{syncNumber};
 ghost use Rattle.frame.specs.steps.Written.{FrameWritten};
-ghost use Rattle.modulator.specs.Table.{lentTable};
+ghost use Rattle.modulator.specs.steps.Table.{lentTable};
 ghost use Rattle.cluster.specs.EccCluster.{rowOf};
 ghost use Rattle.image.specs.Image.{Input};
 ghost use Rattle.writer.specs.Written.{FramesWritten, ImageWritten, Passed, Filled};
@@ -46,8 +46,8 @@ fn put_frames(work: &[u8], dc: &[u32], image: &mut [u8]) -> bool
     requires { ⌜ ((length (now work) ≡ 76880) × (length (now dc) ≡ 496)) × (length (now image) ≡ 119788) ⌝ }
     ensures { λ r. ⌜ FramesWritten (now (work .entry)) (now (dc .entry)) (now (image .entry)) 496 (now (image .exit)) r ⌝ }
 {
-    let mut table = modulator::no_table();
-    modulator::fill_table(&mut table);
+    let mut table = modulator::steps::no_table();
+    modulator::steps::fill_table(&mut table);
     let mut hash = false;
     let mut n = 0;
     while n < 496 {

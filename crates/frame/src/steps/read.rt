@@ -2,13 +2,13 @@
 use crate::FrameRead;
 use crate::TwoRead;
 use demodulator::Found;
-use demodulator::Table;
+use automaton::Table;
 use frame_sync::steps::sync_end;
 ghost use mathlib.Core.Path.{_≡_};
 ghost use Prim.Native.Nat.{_+_, _*_, _<_, _≤_};
 ghost use lib.ListN.{length, take, drop};
 ghost use Rattle.bits.specs.Bits.{bitsOf};
-ghost use Rattle.demodulator.specs.Table.{table};
+ghost use Rattle.automaton.specs.steps.Table.{table};
 ghost use Rattle.modulation.specs.Words.{Words};
 ghost use Rattle.frame_sync.specs.Sync.{fs};
 ghost use Rattle.frame.specs.Reading.{StrictlyRead, Taken};
@@ -26,7 +26,7 @@ fn take_frame(words: &[u64; 29], found: bool, row: &mut [u8]) -> FrameRead
 }
 
 // The frame whose sync stands at bit `at`; `hash` is # of the next sync. A frame found leaves its row in the slice. The table is lent:
-// demodulator::fill_table makes it.
+// automaton::steps::fill_table makes it.
 pub fn read_frame(
     steps: &Table,
     image: &[u8],
@@ -39,7 +39,7 @@ pub fn read_frame(
     ensures { λ r. ⌜ StrictlyRead (fs number) (take 1902 (drop (at + 30) (bitsOf (now (image .entry))))) hash (now (row .entry)) r (now (row .exit)) ⌝ }
 {
     let mut words = frame_bits::steps::no_words();
-    let found = demodulator::read_words(steps, image, at + 30, sync_end(number), hash, &mut words);
+    let found = demodulator::steps::read_words(steps, image, at + 30, sync_end(number), hash, &mut words);
     take_frame(&words, found, row)
 }
 
@@ -74,7 +74,7 @@ pub fn read_two(
 {
     let mut words = frame_bits::steps::no_words();
     let mut more = frame_bits::steps::no_words();
-    let found = demodulator::read_two(
+    let found = demodulator::steps::read_two(
         steps,
         image,
         at + 30,

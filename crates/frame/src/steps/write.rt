@@ -8,8 +8,8 @@ ghost use Rattle.frame.specs.Frame.{framePairs};
 ghost use Rattle.bits.specs.Bits.{bitsOf};
 ghost use Rattle.frame_sync.specs.Sync.{fs};
 ghost use Rattle.frame.specs.steps.Written.{FrameWritten};
-ghost use Rattle.modulator.specs.Table.{lentTable};
-ghost use Rattle.modulator.specs.Put.{FramePut};
+ghost use Rattle.modulator.specs.steps.Table.{lentTable};
+ghost use Rattle.modulator.specs.steps.Put.{FramePut};
 ghost use Rattle.modulation.specs.Bits.{pairs};
 ghost use Rattle.modulation.specs.Words.{bitsIn, Words};
 ghost use Rattle.frame.specs.steps.Around.{Around};
@@ -27,24 +27,24 @@ fn modulate_words(
     requires { ⌜ ((now table ≡ lentTable) × (Words (now words) × (length (now out) ≡ 242))) × Around first lag last ⌝ }
     ensures { λ r. ⌜ FramePut first lag last (pairs (bitsIn (now (words .entry)))) (now (out .exit)) r ⌝ }
 {
-    let mut state = modulator::odd(first);
+    let mut state = modulator::steps::odd(first);
     let mut held = first;
     let mut place = 20;
     let mut k = 0;
     while k < 79 {
         let sixteen = frame_bits::steps::sixteen_at(words, place);
-        let one = modulator::byte_at(table, state, sixteen / 256);
-        let two = modulator::byte_at(table, modulator::state(one), sixteen % 256);
-        let all = modulator::more(modulator::more(held, one), two);
-        modulator::put_three(out, 3 * k, modulator::high(all, lag));
-        held = modulator::low(all, lag);
-        state = modulator::state(two);
+        let one = modulator::steps::byte_at(table, state, sixteen / 256);
+        let two = modulator::steps::byte_at(table, modulator::steps::state(one), sixteen % 256);
+        let all = modulator::steps::more(modulator::steps::more(held, one), two);
+        modulator::steps::put_three(out, 3 * k, modulator::steps::high(all, lag));
+        held = modulator::steps::low(all, lag);
+        state = modulator::steps::state(two);
         place = frame_bits::steps::sixteen_on(place);
         k += 1;
     }
-    let end = modulator::last_at(table, state, frame_bits::steps::last_two(words));
-    let all = modulator::ended(held, end);
-    modulator::put_five(out, 237, modulator::closed(all, lag, last));
+    let end = modulator::steps::last_at(table, state, frame_bits::steps::last_two(words));
+    let all = modulator::steps::ended(held, end);
+    modulator::steps::put_five(out, 237, modulator::steps::closed(all, lag, last));
     end % 2 == 1
 }
 

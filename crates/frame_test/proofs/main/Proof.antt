@@ -3,7 +3,7 @@ use mathlib.Core.Path.{_≡_}
 use Prim.Native.Nat.{_-_, _≤_}
 use borrow.Author.Needs.{needs}
 use lib.ListN.{length}
-use Rattle.demodulator.specs.Table.{table}
+use Rattle.automaton.specs.steps.Table.{table}
 use Rattle.frame_test.proofs.main.Statement.{statement}
 use Rattle.frame_test.proofs.main.Tie as tie
 

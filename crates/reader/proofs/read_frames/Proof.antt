@@ -5,7 +5,7 @@ use native.Mathlib.Omega.{arith}
 use borrow.Author.Needs.{needs}
 use lib.ListN.{length-set}
 use Rattle.bits.specs.Bits.{bitsOf}
-use Rattle.demodulator.specs.Table.{table}
+use Rattle.automaton.specs.steps.Table.{table}
 use Rattle.reader.proofs.Frames.{Below, below-none, below-more, below-stop, below-stop-next, below-all}
 use Rattle.reader.proofs.read_frames.Statement.{statement}
 use Rattle.reader.proofs.read_frames.Tie as tie

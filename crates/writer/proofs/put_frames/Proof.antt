@@ -3,7 +3,7 @@ use mathlib.Core.Path.{_≡_}
 use native.Mathlib.Omega.{arith}
 use Prim.Native.Nat.{_-_, _≤_}
 use borrow.Author.Needs.{needs}
-use Rattle.modulator.specs.Table.{lentTable}
+use Rattle.modulator.specs.steps.Table.{lentTable}
 use Rattle.writer.specs.Written.{FramesWritten}
 use Rattle.writer.proofs.Frames.{frames-none, frames-more, frames-end}
 use Rattle.writer.proofs.put_frames.Statement.{statement}

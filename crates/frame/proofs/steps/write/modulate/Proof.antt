@@ -3,7 +3,7 @@ use mathlib.Core.List.{List}
 use mathlib.Core.Path.{subst}
 use Prim.Native.Nat.{ℕ}
 use Rattle.modulation.specs.Bits.{pairs}
-use Rattle.modulator.specs.Put.{FramePut}
+use Rattle.modulator.specs.steps.Put.{FramePut}
 use borrow.Author.Needs.{needs}
 use Rattle.frame.proofs.steps.write.modulate.Statement.{statement}
 use Rattle.frame.proofs.steps.write.modulate.Tie as tie

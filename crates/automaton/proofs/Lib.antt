@@ -1,0 +1,4 @@
+-- The demodulating automaton.
+pub mod Complete
+pub mod Sound
+pub mod Entries

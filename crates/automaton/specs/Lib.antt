@@ -1,0 +1,3 @@
+-- The demodulating automaton.
+pub mod Automaton
+pub mod steps

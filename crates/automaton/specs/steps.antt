@@ -1,0 +1,2 @@
+-- The demodulating automaton.
+pub mod Table

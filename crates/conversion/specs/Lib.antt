@@ -1,0 +1,2 @@
+-- The rows of Figure 38 as numbers, and a few pairs modulated by them.
+pub mod steps

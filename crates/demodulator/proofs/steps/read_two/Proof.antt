@@ -1,0 +1,88 @@
+-- `read_two` meets its contract: a word of each frame a turn, and the answers (Reading). Assumes nothing.
+use Prim.Native.Nat.{_-_}
+use borrow.Author.Needs.{needs}
+use Rattle.bits.specs.Bits.{bitsOf}
+use Rattle.demodulator.proofs.Reading.{Reading, reading-none, reading-more, reading-all}
+use Rattle.demodulator.proofs.steps.read_two.Statement.{statement}
+use Rattle.demodulator.proofs.steps.read_two.Tie as tie
+
+abbrev Inv-loop : tie.InvT-loop
+Inv-loop made bytes at also before prior hash sign words₀ more₀ x₀ y₀ i₀ words more x y i = Reading (bitsOf bytes) at before words x i × Reading (bitsOf bytes) also prior more y i
+
+abbrev μ-loop : tie.MeasureT-loop
+μ-loop made bytes at also before prior hash sign words₀ more₀ x₀ y₀ i₀ words more x y i = 27 - i
+
+begin-requires : tie.Need-begin-requires Inv-loop μ-loop
+begin-requires c κs = search needs
+
+begin-requires-2 : tie.Need-begin-requires-2 Inv-loop μ-loop
+begin-requires-2 c κs = search needs
+
+loop-holds : tie.Need-loop-holds Inv-loop μ-loop
+loop-holds c = search (reading-none)
+
+next-word-requires : tie.Need-next-word-requires Inv-loop μ-loop
+next-word-requires c κs = search needs
+
+next-word-requires-2 : tie.Need-next-word-requires-2 Inv-loop μ-loop
+next-word-requires-2 c κs = search needs
+
+mul-words : tie.Need-mul-words Inv-loop μ-loop
+mul-words c = search needs
+
+element-write-words : tie.Need-element-write-words Inv-loop μ-loop
+element-write-words c = search needs
+
+mul-more : tie.Need-mul-more Inv-loop μ-loop
+mul-more c = search needs
+
+element-write-more : tie.Need-element-write-more Inv-loop μ-loop
+element-write-more c = search needs
+
+add-i : tie.Need-add-i Inv-loop μ-loop
+add-i c = search needs
+
+loop-less : tie.Need-loop-less Inv-loop μ-loop
+loop-less c = search needs
+
+loop-again : tie.Need-loop-again Inv-loop μ-loop
+loop-again c = search (reading-more)
+
+last-word-requires : tie.Need-last-word-requires Inv-loop μ-loop
+last-word-requires c κs = search needs
+
+last-word-requires-2 : tie.Need-last-word-requires-2 Inv-loop μ-loop
+last-word-requires-2 c κs = search needs
+
+element-write-words-2 : tie.Need-element-write-words-2 Inv-loop μ-loop
+element-write-words-2 c = search needs
+
+element-write-more-2 : tie.Need-element-write-more-2 Inv-loop μ-loop
+element-write-more-2 c = search needs
+
+returns : tie.Need-returns Inv-loop μ-loop
+returns c = search (reading-all)
+
+pub read-two-spec : {M : Type 1} → statement M
+read-two-spec =
+    tie.close
+    (tie.spec
+    Inv-loop
+    μ-loop
+    begin-requires
+    begin-requires-2
+    loop-holds
+    next-word-requires
+    next-word-requires-2
+    mul-words
+    element-write-words
+    mul-more
+    element-write-more
+    add-i
+    loop-less
+    loop-again
+    last-word-requires
+    last-word-requires-2
+    element-write-words-2
+    element-write-more-2
+    returns)

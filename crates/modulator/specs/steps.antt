@@ -1,0 +1,3 @@
+-- x
+pub mod Table
+pub mod Put
