@@ -7,12 +7,14 @@ use native.Mathlib.Omega.{arith}
 use borrow.Author.Tests.{eq-eqb, eqb-true, le-leb}
 use lib.Dec.{eqb}
 use Rattle.address.specs.declared.AunAnswer.{AunAnswer}
+use Rattle.address.specs.declared.PsnAnswer.{PsnAnswer}
 use Rattle.address.specs.declared.Judged.{Judged}
 use Rattle.address.specs.declared.Judged.the-variants.{Accepted, NoMultiple, NoZone}
 use Rattle.address.specs.Zones.{inDataZone, firstOfCluster}
 use Rattle.address.specs.Judged.{judged, ifAccepted}
 use Rattle.address.specs.Conversions.{aunOf, psnToAun, aunToPsn}
 use Rattle.address.proofs.Judging.{past-zones}
+use mathlib.Core.Path.{sym}
 
 both-accept : (m z : Bool) → cond m (cond z Accepted NoZone) NoMultiple ≡ Accepted → (m ≡ true) × (z ≡ true)
 both-accept true true e = (refl, refl)
@@ -59,3 +61,16 @@ aun-answered psn y h accepted e =
     ap (λ (u : AunAnswer). u .aun .0) e
     ∙ ap (λ (b : Bool). cond b (ifAccepted (judged psn) (aunOf psn y)) 0) (le-leb y 15 (omega arith))
     ∙ ap (λ (j : Judged). ifAccepted j (aunOf psn y)) accepted
+
+even-accepted : (even : Bool) (j : Judged) → cond even j NoMultiple ≡ Accepted → j ≡ Accepted
+even-accepted true j e = e
+even-accepted false j e = let no : _≡_ {A = ℕ} 0 1 = cc in absurd (omega arith)
+
+-- a PSN that is answered of an AUN, and accepted
+pub answered-accepted : (a : ℕ) {answer : PsnAnswer} → answer ≡ aunToPsn a → answer .judged ≡ Accepted → judged (answer .psn .0) ≡ Accepted
+unfolding aunToPsn
+answered-accepted a {answer} answered e =
+    let j : cond (eqb (a % 2) 0) (judged (a / 32 * 32)) NoMultiple ≡ Accepted = sym (ap (λ (x : PsnAnswer). x .judged) answered) ∙ e in
+    ap (λ (x : PsnAnswer). judged (x .psn .0)) answered
+    ∙ ap (λ (k : Judged). judged (ifAccepted k (a / 32 * 32))) j
+    ∙ even-accepted (eqb (a % 2) 0) (judged (a / 32 * 32)) j

@@ -12,10 +12,9 @@ use Rattle.address.specs.declared.Judged.the-variants.{Accepted, NoMultiple, No
 use Rattle.address.specs.declared.Psn.{Psn}
 use Rattle.address.specs.Judged.{judged}
 use Rattle.address.specs.Conversions.{aunOf, aunToPsn}
-use Rattle.address.proofs.Accepted.{unit-zero, answered-back}
+use Rattle.address.proofs.Accepted.{unit-zero, answered-back, answered-accepted}
 use Rattle.bis.specs.declared.PsnFound.the-variants.{Found, NotFound}
 use Rattle.bis.specs.Reading.{aunAt, IsPsnOf, isAccepted, otherUnit, firstOtherUnit, foundIf, psnIn}
-use Rattle.bis.proofs.Reading.{answered-accepted}
 
 -- ---- what is found
 

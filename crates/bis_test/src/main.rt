@@ -106,13 +106,13 @@ fn cluster_hash(block: Block) -> u64 {
 }
 
 fn print_reading(block: Block) {
-    print_number(b"first wrong column: ", bis::first_wrong_column(block));
+    print_number(b"first wrong column: ", bis_reader::first_wrong_column(block));
     print_number(
         b"first wrong address field: ",
-        bis::first_wrong_field(block),
+        bis_reader::first_wrong_field(block),
     );
     io::write_all(1, b"PSN: ");
-    match bis::psn_in(block) {
+    match bis_reader::psn_in(block) {
         PsnFound::Found(psn) => {
             io::print_hex(1, psn.0 as u64, 8);
         }
@@ -122,16 +122,16 @@ fn print_reading(block: Block) {
     }
     io::write_all(1, b"\n");
     let mut side = [0u8; 592];
-    bis::side_data(block, &mut side);
+    bis_reader::side_data(block, &mut side);
     print_hash(b"side data: ", hash_of(&side));
 }
 
 // The block of a cluster; zeros where the PSN is refused.
 fn block_of(psn: Psn, side: [u8; 592]) -> Block {
-    let mut table = column::no_remainders();
-    column::fill_remainders(&mut table);
+    let mut table = remainders::steps::no_remainders();
+    remainders::steps::fill_remainders(&mut table);
     match psn.judge() {
-        Judged::Accepted => bis::block(&table, psn, &side),
+        Judged::Accepted => bis_writer::steps::block(&table, psn, &side),
         Judged::NoMultiple => [[0u8; 62]; 24],
         Judged::NoZone => [[0u8; 62]; 24],
     }
@@ -140,10 +140,10 @@ fn block_of(psn: Psn, side: [u8; 592]) -> Block {
 fn show(psn: Psn, side: [u8; 592]) {
     let first = psn.aun(0);
     let last = psn.aun(15);
-    print_field(b"address field 0: ", bis::address_field(first.aun, side[0]));
+    print_field(b"address field 0: ", address_field::address_field(first.aun, side[0]));
     print_field(
         b"address field 15: ",
-        bis::address_field(last.aun, side[15]),
+        address_field::address_field(last.aun, side[15]),
     );
     let block = block_of(psn, side);
     print_hash(b"access block: ", access_hash(block));
@@ -200,7 +200,7 @@ fn with_auns(block: Block, psn: u32) -> Block {
     let mut out = block;
     let mut unit = 0u32;
     while unit < 16 {
-        let field = bis::address_field(Aun(psn / 32 * 32 + 2 * unit), 0);
+        let field = address_field::address_field(Aun(psn / 32 * 32 + 2 * unit), 0);
         let next = with_field(out, unit as usize, field);
         out = next;
         unit += 1;
@@ -214,13 +214,13 @@ fn show_wrong(block: Block) {
     wrong[23] = with_byte(block[23], 61, other(block[23][61]));
     print_reading(wrong);
     io::write_all(1, b"the flag byte of address unit 15 without its parity\n");
-    let mut field = bis::address_field(Aun(0x0010_001e), 0);
+    let mut field = address_field::address_field(Aun(0x0010_001e), 0);
     field[4] = 1;
     print_reading(with_field(block, 15, field));
     io::write_all(1, b"address unit 15 with the AUN of the next cluster's\n");
-    print_reading(with_field(block, 15, bis::address_field(Aun(0x0010_003e), 0)));
+    print_reading(with_field(block, 15, address_field::address_field(Aun(0x0010_003e), 0)));
     io::write_all(1, b"address unit 3 with AU0 ONE\n");
-    print_reading(with_field(block, 3, bis::address_field(Aun(0x0010_0007), 0)));
+    print_reading(with_field(block, 3, address_field::address_field(Aun(0x0010_0007), 0)));
     io::write_all(1, b"the AUNs of PSN 000FFFE0\n");
     print_reading(with_auns(block, 0x000f_ffe0));
     io::write_all(1, b"the AUNs of PSN 03EFFFE0\n");

@@ -18,9 +18,9 @@ use Rattle.column.specs.Column.{parity, hasRoots}
 use Rattle.address.specs.declared.Judged.the-variants.{Accepted}
 use Rattle.address.specs.Judged.{judged}
 use Rattle.sector.specs.DataFrame.{dataFrame, edcRight}
-use Rattle.sector.specs.Scrambling.{scramblingOf, scrambled}
+use Rattle.scrambling.specs.Scrambling.{scramblingOf, scrambled}
 use Rattle.sector.proofs.Frame.{length-sector, bytes-sector, sector-back, frame-right, getD-user, sector-accepted}
-use Rattle.sector.proofs.Stream.{length-scrambled, bytes-scrambled, bytes-scrambling}
+use Rattle.scrambling.proofs.Stream.{length-scrambled, bytes-scrambled, bytes-scrambling}
 use Rattle.ldc.specs.LdcCluster.{shifted, ldcByte}
 use Rattle.ldc.specs.LdcBlock.{dataByte, information, codeWord}
 use Rattle.ldc.specs.Places.{placeOf, at, wordIn, dataIn, frameIn}

@@ -7,7 +7,7 @@ use lib.Dec.{eqb, leb}
 use lib.ListN.{length, take, drop}
 use Rattle.laws.specs.Bytes.{Bytes}
 use Rattle.sector.specs.DataFrame.{dataFrame}
-use Rattle.sector.specs.Scrambling.{scramblingOf, scrambled}
+use Rattle.scrambling.specs.Scrambling.{scramblingOf, scrambled}
 use Rattle.ldc.specs.LdcCluster.{ldcByte}
 use Rattle.bis.specs.BisBlock.{bisBlock}
 use Rattle.cluster.specs.Multiplex.{multiplexed}

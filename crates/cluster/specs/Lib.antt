@@ -2,5 +2,3 @@
 pub mod Multiplex
 pub mod EccCluster
 pub mod Reading
-pub mod Written
-pub mod Eighth

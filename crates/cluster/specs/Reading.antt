@@ -8,7 +8,7 @@ use Rattle.laws.specs.First.{first}
 use Rattle.laws.specs.Tabulate.{tabulate}
 use Rattle.column.specs.Column.{hasRoots}
 use Rattle.sector.specs.DataFrame.{edcRight}
-use Rattle.sector.specs.Scrambling.{scramblingOf, scrambled}
+use Rattle.scrambling.specs.Scrambling.{scramblingOf, scrambled}
 use Rattle.ldc.specs.Places.{wordIn, frameIn}
 use Rattle.bis.specs.Reading as Bis
 use Rattle.cluster.specs.Multiplex.{ldcIn, bisIn}

@@ -10,5 +10,3 @@ pub mod Roots
 pub mod Parity
 pub mod Linear
 pub mod Multiple
-pub mod Eight
-pub mod Table

@@ -1,8 +1,8 @@
 // Columns of clusters that an independent program encoded, from standard input: three LDC columns, the first of them again with one root
 // taken from it, two BIS columns and four primary address fields, each with its parity. Prints the parity of what stands before it,
 // whether the column has its roots, and how many changes of one byte go unseen; of 32 roots also by the table of remainders.
-use column::Remainders;
-ghost use Rattle.column.specs.Remainders.{AreRemainders};
+use remainders::Remainders;
+ghost use Rattle.remainders.specs.steps.Remainders.{AreRemainders};
 
 fn print_bytes(bytes: &[u8]) {
     let mut i = 0;
@@ -18,7 +18,7 @@ fn has_roots(table: &Remainders, column: &[u8], roots: u8, looked: bool) -> bool
 {
     if looked {
         if 32 <= column.len() {
-            return column::is_code_word(table, column);
+            return code_word::steps::is_code_word(table, column);
         }
     }
     column::has_roots(column, roots)
@@ -72,7 +72,7 @@ fn agrees(table: &Remainders, message: &[u8; 8]) -> bool
     let mut divided = [0u8; 32];
     column::parity_32(message, &mut divided);
     let mut looked = [0u8; 32];
-    column::parity_32_by(table, message, &mut looked);
+    code_word::steps::parity_32_by(table, message, &mut looked);
     same(&divided, &looked)
 }
 
@@ -102,7 +102,7 @@ fn report_by(table: &Remainders, column: &mut [u8])
     }
     let m = n - 32;
     let mut parity = [0u8; 32];
-    column::parity_32_by(table, &column[..m], &mut parity);
+    code_word::steps::parity_32_by(table, &column[..m], &mut parity);
     print_bytes(&parity);
     print_roots(table, column, 32, true);
 }
@@ -198,7 +198,7 @@ fn report(table: &Remainders)
 }
 
 fn main() {
-    let mut table = column::no_remainders();
-    column::fill_remainders(&mut table);
+    let mut table = remainders::steps::no_remainders();
+    remainders::steps::fill_remainders(&mut table);
     report(&table);
 }

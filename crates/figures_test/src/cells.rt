@@ -26,7 +26,7 @@ fn place_of(row: usize, column: usize) -> usize {
     if 247 < row {
         return 76880;
     }
-    let place = ldc::locate(column, row);
+    let place = ldc::steps::locate(column, row);
     ldc_index(place.row, place.column)
 }
 
@@ -49,7 +49,7 @@ fn byte_of(word: usize, row: usize, column: usize) -> usize {
         return 248;
     }
     for n in 0..248usize {
-        let place = ldc::locate(word, n);
+        let place = ldc::steps::locate(word, n);
         if place.row == row {
             if place.column == column {
                 return n;
@@ -83,9 +83,9 @@ fn place_in(field: [u8; 9], byte: u8) -> usize {
 // The address field that is wrong in a block with one byte changed, and the place of that byte in it. In the cluster drawn by 2 the nine bytes
 // of each field differ.
 fn address_cell(changed: bis::Block, byte: u8, side: &[u8]) {
-    let unit = bis::first_wrong_field(changed);
+    let unit = bis_reader::first_wrong_field(changed);
     let aun = clusters::psn().aun((unit % 16) as u32);
-    let field = bis::address_field(aun.aun, byte_at(side, unit));
+    let field = address_field::address_field(aun.aun, byte_at(side, unit));
     entry(b" AF", place_in(field, byte), unit);
 }
 

@@ -78,7 +78,7 @@ pub fn block_in(work: &[u8]) -> bis::Block {
     if work.len() != 76880 {
         return no_block();
     }
-    cluster::bis_block(work)
+    bis_cluster::steps::bis_block(work)
 }
 
 // The byte in a row and a column of a BIS block.
@@ -91,9 +91,9 @@ pub fn word_in(work: &[u8]) -> usize {
     if work.len() != 76880 {
         return 304;
     }
-    let mut table = column::no_remainders();
-    column::fill_remainders(&mut table);
-    cluster::first_wrong_word(&table, work)
+    let mut table = remainders::steps::no_remainders();
+    remainders::steps::fill_remainders(&mut table);
+    cluster_reader::steps::first_wrong_word(&table, work)
 }
 
 // ---- drawn clusters
@@ -133,7 +133,7 @@ fn encode(user: &[u8], side: &[u8], work: &mut [u8]) {
     }
     let psn = psn();
     match psn.judge() {
-        Judged::Accepted => cluster::encode(user, psn, side, work),
+        Judged::Accepted => cluster_writer::steps::encode(user, psn, side, work),
         Judged::NoMultiple => {}
         Judged::NoZone => {}
     }
@@ -162,7 +162,7 @@ pub fn count(agreed: &mut [u8], was: u8, bytes: &[u8], byte: u8) {
 
 // The same in a scrambled data frame.
 fn count_frame(agreed: &mut [u8], was: u8, user: &[u8], byte: u8) {
-    let stream = sector::scrambling(psn());
+    let stream = scrambling::scrambling(psn());
     let mut frame = no_frame();
     sector::data_frame(user, &stream, &mut frame);
     count(agreed, was, &frame, byte);

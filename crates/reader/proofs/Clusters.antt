@@ -9,7 +9,7 @@ use Rattle.laws.proofs.First.{first-none, first-all}
 use Rattle.answer.specs.declared.Answer.the-variants.{Done, BisColumn, AddressUnit, LdcColumn, Sector}
 use Rattle.answer.specs.Answer.{numberOf, lowest}
 use Rattle.answer.proofs.Tests.{then-both, then-done, lowest-end, lowest-done}
-use Rattle.sector.specs.Scrambling.{scramblingOf}
+use Rattle.scrambling.specs.Scrambling.{scramblingOf}
 use Rattle.bis.specs.declared.PsnFound.{PsnFound}
 use Rattle.bis.specs.declared.PsnFound.the-variants.{Found, NotFound}
 use Rattle.bis.specs.Reading as Bis

@@ -11,7 +11,7 @@ use Rattle.answer.specs.declared.Answer.{Answer}
 use Rattle.answer.specs.declared.Answer.the-variants.{Done, LastBits, Sync, Frame}
 use Rattle.answer.specs.Answer.{isDone, lengthsAnswer}
 use Rattle.answer.proofs.Tests.{done-is, done-not, then-next, then-here, lengths-done}
-use Rattle.sector.specs.Scrambling.{scramblingOf}
+use Rattle.scrambling.specs.Scrambling.{scramblingOf}
 use Rattle.bis.specs.Reading.{psnIn, sideIn, sideOut}
 use Rattle.cluster.specs.Multiplex.{bisIn}
 use Rattle.cluster.specs.Reading.{userIn}

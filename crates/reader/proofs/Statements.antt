@@ -23,7 +23,7 @@ use Rattle.frame_sync.specs.Sync.{hashAt, syncRight}
 use Rattle.frame_sync.proofs.SyncRight.{sync-as-read, hash-as-read, sync-is-right}
 use Rattle.frame.specs.Reading.{BitsGive, readable}
 use Rattle.frame.proofs.Reading.{bits-read, readable-iff}
-use Rattle.sector.specs.Scrambling.{scramblingOf}
+use Rattle.scrambling.specs.Scrambling.{scramblingOf}
 use Rattle.bis.specs.declared.PsnFound.{PsnFound}
 use Rattle.bis.specs.declared.PsnFound.the-variants.{Found, NotFound}
 use Rattle.bis.specs.Reading as Bis

@@ -8,7 +8,7 @@ use Rattle.bits.specs.Bits.{bitsOf}
 use Rattle.answer.specs.declared.Answer.{Answer}
 use Rattle.answer.specs.declared.Answer.the-variants.{Done, LastBits, Sync, Frame, BisColumn, AddressUnit, NoPsn, LdcColumn, Sector}
 use Rattle.answer.specs.Answer.{isDone, andThen, lowest, lengthsAnswer}
-use Rattle.sector.specs.Scrambling.{scramblingOf}
+use Rattle.scrambling.specs.Scrambling.{scramblingOf}
 use Rattle.bis.specs.declared.PsnFound.{PsnFound}
 use Rattle.bis.specs.declared.PsnFound.the-variants.{Found, NotFound}
 use Rattle.bis.specs.Reading.{firstWrongColumn, firstWrongField, psnIn, sideIn}

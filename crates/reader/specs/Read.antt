@@ -11,7 +11,7 @@ use Rattle.frame.specs.declared.FrameRead.the-variants.{Found, NoFrame}
 use Rattle.answer.specs.declared.Answer.the-variants.{Done}
 use Rattle.answer.specs.declared.Answer.{Answer}
 use Rattle.answer.specs.Answer.{isDone}
-use Rattle.sector.specs.Scrambling.{scramblingOf}
+use Rattle.scrambling.specs.Scrambling.{scramblingOf}
 use Rattle.bis.specs.Reading.{psnIn, sideIn}
 use Rattle.cluster.specs.Reading.{userIn}
 use Rattle.reader.specs.Reading.{noFrame, frameBitsIn, dcWordIn, firstNoFrame, clusterIn, dcIn}

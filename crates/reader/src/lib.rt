@@ -2,7 +2,7 @@
 use address::Psn;
 use answer::Answer;
 use bis::PsnFound;
-use column::Remainders;
+use remainders::Remainders;
 use automaton::Table;
 use frame::FrameRead;
 use frame::TwoRead;
@@ -12,11 +12,11 @@ ghost use lib.ListN.{length};
 ghost use Rattle.bits.specs.Bits.{bitsOf};
 ghost use Rattle.answer.specs.Answer.{numberOf};
 ghost use Rattle.automaton.specs.steps.Table.{table};
-ghost use Rattle.column.specs.Remainders.{AreRemainders};
-ghost use Rattle.sector.specs.Scrambling.{scramblingOf};
+ghost use Rattle.remainders.specs.steps.Remainders.{AreRemainders};
+ghost use Rattle.scrambling.specs.Scrambling.{scramblingOf};
 ghost use Rattle.cluster.specs.Multiplex.{bisIn};
 ghost use Rattle.reader.specs.Reading.{lastZero, firstWrongSync};
-ghost use Rattle.reader.specs.Outcome.{dataAnswer, clusterAnswer, psnOf, Lent, Outcome, judgedOutcome, outcome};
+ghost use Rattle.reader.specs.Outcome.{dataAnswer, clusterAnswer, psnOf, judgedOutcome, outcome};
 ghost use Rattle.reader.specs.Promise.{ReadsExactly};
 ghost use Rattle.reader.specs.Read.{TwoFrames, FramesRead, FramesJudged, BlockJudged, Sized, Given, DataRead, WorkLeft};
 
@@ -136,15 +136,15 @@ fn judge_block(table: &Remainders, block: bis::Block) -> Read
     requires { ⌜ AreRemainders (now table) ⌝ }
     ensures { λ r. ⌜ BlockJudged block (r .answer) (r .psn .0) ⌝ }
 {
-    let column = bis::first_wrong_column_by(table, block);
+    let column = bis_reader::steps::first_wrong_column_by(table, block);
     if column < 24 {
         return refused(Answer::BisColumn(column));
     }
-    let unit = bis::first_wrong_field(block);
+    let unit = bis_reader::first_wrong_field(block);
     if unit < 16 {
         return refused(Answer::AddressUnit(unit));
     }
-    let found = bis::psn_in(block);
+    let found = bis_reader::psn_in(block);
     match found {
         PsnFound::Found(psn) => Read {
             answer: Answer::Done,
@@ -159,11 +159,11 @@ fn judge_data(table: &Remainders, work: &[u8], stream: &[u8]) -> Answer
     requires { ⌜ AreRemainders (now table) × (length (now work) ≡ 76880) ⌝ }
     ensures { λ r. ⌜ r ≡ dataAnswer (now (stream .entry)) (now (work .entry)) ⌝ }
 {
-    let word = cluster::first_wrong_word(table, work);
+    let word = cluster_reader::steps::first_wrong_word(table, work);
     if word < 304 {
         return Answer::LdcColumn(word);
     }
-    let sector = cluster::first_wrong_sector(work, stream);
+    let sector = cluster_reader::steps::first_wrong_sector(work, stream);
     if sector < 32 {
         return Answer::Sector(sector);
     }
@@ -183,8 +183,8 @@ fn give(
     requires { ⌜ ((length (now work) ≡ 76880) × (length (now user) ≡ 65536)) × ((length (now side) ≡ 592) × ((length (now words) ≡ 496) × (length (now dc) ≡ 496))) ⌝ }
     ensures { λ _. ⌜ Given (now (work .entry)) (now (stream .entry)) block (now (words .entry)) (now (user .exit)) (now (side .exit)) (now (dc .exit)) ⌝ }
 {
-    cluster::user_bytes(work, stream, user);
-    bis::side_data(block, side);
+    cluster_reader::steps::user_bytes(work, stream, user);
+    bis_reader::side_data(block, side);
     slices::copy_words(words, dc);
 }
 
@@ -202,7 +202,7 @@ fn read_data(
     requires { ⌜ AreRemainders (now table) × (((length (now work) ≡ 76880) × (length (now user) ≡ 65536)) × ((length (now side) ≡ 592) × ((length (now words) ≡ 496) × (length (now dc) ≡ 496)))) ⌝ }
     ensures { λ r. ⌜ DataRead (dataAnswer (scramblingOf (psn .0)) (now (work .entry))) (psn .0) block (now (work .entry)) (now (words .entry)) (now (user .entry)) (now (side .entry)) (now (dc .entry)) (r .answer) (r .psn .0) (now (user .exit)) (now (side .exit)) (now (dc .exit)) ⌝ }
 {
-    let stream = sector::scrambling(psn);
+    let stream = scrambling::scrambling(psn);
     let judged = judge_data(table, work, &stream);
     if judged.is_done() {
         give(work, &stream, block, words, user, side, dc);
@@ -225,9 +225,9 @@ fn read_cluster(
     requires { ⌜ ((length (now work) ≡ 76880) × (length (now user) ≡ 65536)) × ((length (now side) ≡ 592) × ((length (now words) ≡ 496) × (length (now dc) ≡ 496))) ⌝ }
     ensures { λ r. ⌜ DataRead (clusterAnswer (now (work .entry))) (psnOf (now (work .entry))) (bisIn (now (work .entry))) (now (work .entry)) (now (words .entry)) (now (user .entry)) (now (side .entry)) (now (dc .entry)) (r .answer) (r .psn .0) (now (user .exit)) (now (side .exit)) (now (dc .exit)) ⌝ }
 {
-    let block = cluster::bis_block(work);
-    let mut table = column::no_remainders();
-    column::fill_remainders(&mut table);
+    let block = bis_cluster::steps::bis_block(work);
+    let mut table = remainders::steps::no_remainders();
+    remainders::steps::fill_remainders(&mut table);
     let found = judge_block(&table, block);
     let judged = found.answer;
     let psn = found.psn;

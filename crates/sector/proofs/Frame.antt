@@ -11,12 +11,12 @@ use Rattle.laws.specs.Bytes.{Bytes}
 use Rattle.laws.proofs.Bytes.{bytes-append, bytes-drop}
 use Rattle.bits.specs.Bits.{bitsOf, number}
 use Rattle.bits.proofs.Bits.{length-bits}
-use Rattle.sector.specs.Edc.{MultipleOfG, edcOf, edcBytes}
-use Rattle.sector.specs.Scrambling.{scramblingOf, scrambled}
+use Rattle.edc.specs.Edc.{MultipleOfG, edcOf, edcBytes}
+use Rattle.scrambling.specs.Scrambling.{scramblingOf, scrambled}
 use Rattle.sector.specs.DataFrame.{dataFrame, sectorFrame, edcRight}
 use Rattle.bits.proofs.Concat.{bytes-equal}
-use Rattle.sector.proofs.Detection.{length-edc, bytes-edc, number-edc, edc-completes, edc-only, code-completes, complete-is-code}
-use Rattle.sector.proofs.Stream.{length-scrambled, bytes-scrambled, bytes-scrambling, scrambled-twice, scrambled-inj}
+use Rattle.edc.proofs.Detection.{length-edc, bytes-edc, number-edc, edc-completes, edc-only, code-completes, complete-is-code}
+use Rattle.scrambling.proofs.Stream.{length-scrambled, bytes-scrambled, bytes-scrambling, scrambled-twice, scrambled-inj}
 
 -- ---- the parts of a data frame
 

@@ -12,8 +12,8 @@ use Rattle.laws.specs.Tabulate.{tabulate}
 use Rattle.laws.proofs.Fill.{Upto, upto-more, upto-all}
 use Rattle.laws.proofs.Tabulate.{is-tabulate}
 use Rattle.bits.specs.Bits.{bitsOf, number}
-use Rattle.sector.specs.Edc.{edcOf, edcBytes}
-use Rattle.sector.specs.Scrambling.{scrambled}
+use Rattle.edc.specs.Edc.{edcOf, edcBytes}
+use Rattle.scrambling.specs.Scrambling.{scrambled}
 use Rattle.sector.specs.DataFrame.{dataFrame, edcRight, Framed, framed, framedOf}
 use Rattle.sector.proofs.Frame.{frame-size, getD-user, getD-code}
 

@@ -5,8 +5,8 @@ use Prim.Native.Nat.{ℕ}
 use lib.Dec.{eqb}
 use lib.ListN.{length, take, drop}
 use Rattle.bits.specs.Bits.{bitsOf, number}
-use Rattle.sector.specs.Edc.{edcOf, edcBytes}
-use Rattle.sector.specs.Scrambling.{scramblingOf, scrambled}
+use Rattle.edc.specs.Edc.{edcOf, edcBytes}
+use Rattle.scrambling.specs.Scrambling.{scramblingOf, scrambled}
 
 unfoldable pub dataFrame : List ℕ → List ℕ
 dataFrame user = user ++ edcBytes user

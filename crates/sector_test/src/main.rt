@@ -82,7 +82,7 @@ fn flag(set: bool) -> u64
 // The code of the first and of the last sector.
 fn end_code(s: usize, user: &[u8]) {
     if s % 31 == 0 {
-        line(b"error-detection code ", sector::edc(user) as u64, 8);
+        line(b"error-detection code ", edc::edc(user) as u64, 8);
     }
 }
 
@@ -93,7 +93,7 @@ fn sector(seen: Seen, drawn: bool, s: usize, stream: &[u8]) -> Seen {
     end_code(s, &user);
     let mut frame = no_frame();
     sector::data_frame(&user, stream, &mut frame);
-    sector::scramble(&mut frame, stream);
+    scrambling::scramble(&mut frame, stream);
     let frames = hash(seen.frames, &frame);
     let refused = flag(!sector::edc_right(&frame));
     let damaged = s % 32 * 66 + 5;
@@ -109,7 +109,7 @@ fn sector(seen: Seen, drawn: bool, s: usize, stream: &[u8]) -> Seen {
 
 // A cluster of bytes drawn, or of zeros.
 fn cluster(psn: u32, drawn: bool, seed: u64) {
-    let stream = sector::scrambling(Psn(psn));
+    let stream = scrambling::scrambling(Psn(psn));
     line(b"PSN ", psn as u64, 8);
     bytes_line(b"first scrambling bytes ", &stream[0..16]);
     line(b"scrambling bytes ", hash(NO_BYTES, &stream), 16);
@@ -132,13 +132,13 @@ fn last_byte(x: u8) {
     let mut user = no_user();
     user[2047] = x;
     line(b"last byte ", x as u64, 2);
-    line(b"error-detection code ", sector::edc(&user) as u64, 8);
+    line(b"error-detection code ", edc::edc(&user) as u64, 8);
 }
 
 // The scrambled data frame of a sector of zeros is the stream.
 fn zeros_scrambled() {
     let user = no_user();
-    let stream = sector::scrambling(Psn(0x0010_0000));
+    let stream = scrambling::scrambling(Psn(0x0010_0000));
     let mut frame = no_frame();
     let done = sector::data_frame(&user, &stream, &mut frame);
     line(b"data frame of zeros ", flag(done), 1);
@@ -148,9 +148,9 @@ fn zeros_scrambled() {
 // The bytes 1, 2, .. of other lengths, and what is refused.
 fn other_lengths() {
     let bytes: [u8; 13] = [1, 2, 3, 4, 5, 6, 7, 8, 9, 10, 11, 12, 13];
-    line(b"no byte ", sector::edc(&bytes[0..0]) as u64, 8);
-    line(b"one byte ", sector::edc(&bytes[0..1]) as u64, 8);
-    line(b"13 bytes ", sector::edc(&bytes) as u64, 8);
+    line(b"no byte ", edc::edc(&bytes[0..0]) as u64, 8);
+    line(b"one byte ", edc::edc(&bytes[0..1]) as u64, 8);
+    line(b"13 bytes ", edc::edc(&bytes) as u64, 8);
     let mut frame = no_frame();
     let done = sector::data_frame(&bytes, &bytes, &mut frame);
     line(b"data frame of 13 bytes ", flag(done), 1);

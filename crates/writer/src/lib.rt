@@ -11,9 +11,8 @@ ghost use Rattle.modulation.specs.Sync.{syncNumber};
 ghost use Rattle.frame.specs.steps.Written.{FrameWritten};
 ghost use Rattle.modulator.specs.steps.Table.{lentTable};
 ghost use Rattle.cluster.specs.EccCluster.{rowOf};
-ghost use Rattle.image.specs.Image.{Input};
 ghost use Rattle.writer.specs.Written.{FramesWritten, ImageWritten, Passed, Filled};
-ghost use Rattle.writer.specs.Outcome.{partsAnswer, firstTooLarge, Outcome, outcome};
+ghost use Rattle.writer.specs.Outcome.{partsAnswer, firstTooLarge, outcome};
 ghost use Rattle.writer.specs.Promise.{WritesExactly};
 
 // Test 8: the first dc word above 0FFFFFFFh, or 496.
@@ -104,7 +103,7 @@ fn write(user: &[u8], psn: Psn, side: &[u8], dc: &[u32], image: &mut [u8], work:
     requires { ⌜ Passed (record { user = now user; psn = psn .0; side = now side; dc = now dc }) (now image) (now work) ⌝ }
     ensures { λ _. ⌜ Filled (record { user = now (user .entry); psn = psn .0; side = now (side .entry); dc = now (dc .entry) }) (now (image .exit)) (now (work .exit)) ⌝ }
 {
-    cluster::encode(user, psn, side, work);
+    cluster_writer::steps::encode(user, psn, side, work);
     put_image(work, dc, image);
 }
 

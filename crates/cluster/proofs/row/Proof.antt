@@ -1,6 +1,6 @@
 -- `row` meets its contract, case by case of what is shown (Loops).
 use native.Mathlib.Omega.{arith}
-use Rattle.cluster.proofs.Loops.{row-of-no-cluster, row-past-the-end, row-shown}
+use Rattle.cluster.proofs.Rows.{row-of-no-cluster, row-past-the-end, row-shown}
 use borrow.Author.Needs.{needs}
 use Rattle.cluster.proofs.row.Statement.{statement}
 use Rattle.cluster.proofs.row.Tie as tie

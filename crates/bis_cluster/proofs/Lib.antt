@@ -1,0 +1,2 @@
+-- The BIS cluster in the ECC cluster.
+pub mod Loops

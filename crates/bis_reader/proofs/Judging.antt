@@ -1,0 +1,91 @@
+-- The steps by which the code reads a BIS block. Assumes nothing.
+use mathlib.Core.Path.{_≡_, refl, sym, ap, ap₂, _∙_}
+use mathlib.Core.Bool.{Bool, true, false, cond, not}
+use mathlib.Core.List.{List, []}
+use Prim.Native.Nat.{ℕ, _*_, _-_, _/_, _%_, _<_, _≤_}
+use native.Mathlib.Omega.{arith}
+use borrow.Author.Tests.{lt-ltb, le-ltb, eq-eqb, ne-eqb}
+use lib.Dec.{eqb, ltb}
+use lib.ListN.{length, getD}
+use Rattle.laws.proofs.Fill.{Upto, upto-all}
+use Rattle.column.specs.Column.{hasRoots}
+use Rattle.address.specs.declared.AunAnswer.{AunAnswer}
+use Rattle.address.specs.declared.Judged.{Judged}
+use Rattle.address.specs.declared.Judged.the-variants.{Accepted, NoMultiple, NoZone}
+use Rattle.address.specs.declared.PsnAnswer.{PsnAnswer}
+use Rattle.address.specs.Judged.{judged, ifAccepted}
+use Rattle.address.specs.Conversions.{aunOf, psnToAun, aunToPsn}
+use Rattle.address.proofs.Accepted.{aun-answered}
+use Rattle.bis.specs.AddressField.{flagIn}
+use Rattle.bis.specs.AccessBlock.{rowOfUC, columnOfUC}
+use Rattle.bis.specs.Reading.{wrongColumn, primaryIn, wrongField, aunAt, isAccepted, otherUnit, firstOtherUnit, foundIf, psnIn, sideByteIn, sideIn, sideOut}
+use Rattle.bis.specs.declared.PsnFound.the-variants.{Found, NotFound}
+
+-- ---- the tests at an index
+
+-- r is what the code finds of the roots
+pub column-judged : (block : List (List ℕ)) (C : ℕ) {r b : Bool} → r ≡ hasRoots 32 (getD block C []) → not r ≡ b → wrongColumn block C ≡ b
+unfolding wrongColumn
+column-judged block C found e = ap not (sym found) ∙ e
+
+pub field-judged : (block : List (List ℕ)) (y : ℕ) {primary : List ℕ} {r b : Bool} → primary ≡ primaryIn block y → r ≡ hasRoots 4 primary → not r ≡ b
+    → wrongField block y ≡ b
+unfolding wrongField
+field-judged block y read found e = ap (λ (l : List ℕ). not (hasRoots 4 l)) (sym read) ∙ ap not (sym found) ∙ e
+
+-- a is the AUN that is read, and unit what is answered of the PSN
+module _ (block : List (List ℕ)) (psn y : ℕ) {a : ℕ} {unit : AunAnswer} (read : a ≡ aunAt block y) (h : y < 16) (accepted : judged psn ≡ Accepted) (answered : unit ≡ psnToAun psn y) where
+  pub unit-differs : (a ≡ unit .aun .0 → ⊥) → otherUnit block psn y ≡ true
+  unfolding otherUnit
+  unit-differs differ = ap not (ne-eqb (aunAt block y) (aunOf psn y) (λ e. differ (read ∙ e ∙ sym (aun-answered psn y h accepted answered))))
+
+  pub unit-agrees : a ≡ unit .aun .0 → otherUnit block psn y ≡ false
+  unfolding otherUnit
+  unit-agrees e = ap not (eq-eqb (aunAt block y) (aunOf psn y) (sym read ∙ e ∙ aun-answered psn y h accepted answered))
+
+-- ---- the PSN
+
+-- a is the AUN of unit 0, and answer what is answered of it
+module _ (block : List (List ℕ)) {a : ℕ} {answer : PsnAnswer} (read : a ≡ aunAt block 0) (answered : answer ≡ aunToPsn a) where
+  found-by : (j : Judged) (b : Bool) → answer .judged ≡ j → ltb (firstOtherUnit block (answer .psn .0)) 16 ≡ b
+      → cond (isAccepted j) (cond b NotFound (Found (answer .psn))) NotFound ≡ psnIn block
+  unfolding psnIn
+  found-by j b e differ =
+      sym (ap₂ (λ (j : Judged) (b : Bool). cond (isAccepted j) (cond b NotFound (Found (answer .psn))) NotFound) e differ)
+      ∙ ap (foundIf block) (answered ∙ ap aunToPsn read)
+
+  pub psn-no-multiple : answer .judged ≡ NoMultiple → NotFound ≡ psnIn block
+  psn-no-multiple e = found-by NoMultiple (ltb (firstOtherUnit block (answer .psn .0)) 16) e refl
+
+  pub psn-no-zone : answer .judged ≡ NoZone → NotFound ≡ psnIn block
+  psn-no-zone e = found-by NoZone (ltb (firstOtherUnit block (answer .psn .0)) 16) e refl
+
+  module _ {u : ℕ} (e : answer .judged ≡ Accepted) (other : u ≡ firstOtherUnit block (answer .psn .0)) where
+    pub psn-differs : u < 16 → NotFound ≡ psnIn block
+    psn-differs h = found-by Accepted true e (ap (λ (v : ℕ). ltb v 16) (sym other) ∙ lt-ltb u 16 h)
+
+    pub psn-agrees : 16 ≤ u → Found (answer .psn) ≡ psnIn block
+    psn-agrees h = found-by Accepted false e (ap (λ (v : ℕ). ltb v 16) (sym other) ∙ le-ltb u 16 h)
+
+-- ---- a byte of the side data
+
+pub flag-byte : (block : List (List ℕ)) (k : ℕ) {primary : List ℕ} → k < 16 → primary ≡ primaryIn block k → getD primary 4 0 ≡ sideByteIn block k
+flag-byte block k h e = rw (lt-ltb k 16 h) (ap flagIn e)
+
+pub control-byte : (block : List (List ℕ)) (k : ℕ) → 16 ≤ k → getD (getD block (columnOfUC (k - 16)) []) (rowOfUC (k - 16)) 0 ≡ sideByteIn block k
+control-byte block k h = rw (le-ltb k 16 h)
+
+-- ---- the lent slice
+
+pub side-left : (block : List (List ℕ)) (lent : List ℕ) → (length lent ≡ 592 → ⊥) → lent ≡ sideOut block lent
+unfolding sideOut
+side-left block lent h = rw (ne-eqb (length lent) 592 h)
+
+pub side-given : (block : List (List ℕ)) (lent : List ℕ) → length lent ≡ 592 → sideOut block lent ≡ sideIn block
+unfolding sideOut
+side-given block lent size = rw (eq-eqb (length lent) 592 size)
+
+pub side-filled : (block : List (List ℕ)) (lent : List ℕ) {k : ℕ} {side : List ℕ} → length lent ≡ 592 → 592 ≤ k → Upto 0 (sideByteIn block) 592 k side
+    → side ≡ sideOut block lent
+unfolding sideIn
+side-filled block lent size h upto = upto-all h upto ∙ sym (side-given block lent size)

@@ -1,0 +1,7 @@
+-- The error-detection code.
+pub mod Polynomial
+pub mod Division
+pub mod Detection
+pub mod Quotient
+pub mod Loops
+pub mod Register

@@ -1,0 +1,2 @@
+-- The error-detection code.
+pub mod Edc

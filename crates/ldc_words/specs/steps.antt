@@ -1,0 +1,2 @@
+-- Code words of the LDC block.
+pub mod Eighth

@@ -1,0 +1,3 @@
+-- What bytes leave in the register.
+pub mod Eight
+pub mod Table

@@ -1,0 +1,2 @@
+-- Scrambling.
+pub mod Stream
