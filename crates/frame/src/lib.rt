@@ -14,3 +14,8 @@ pub struct TwoRead {
     pub first: FrameRead,
     pub second: FrameRead,
 }
+
+// What a frame hands on to the next: # of its sync.
+pub struct State {
+    pub hash: bool,
+}

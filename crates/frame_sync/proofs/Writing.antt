@@ -17,16 +17,7 @@ use Rattle.modulation.proofs.Streams.{length-sync}
 use Rattle.frame_sync.specs.Sync.{groupOf}
 use Rattle.frame_sync.specs.steps.Written.{SyncWritten}
 use Rattle.frame_sync.proofs.SyncTables.{syncGroup, group-at}
-
-sets-append : (vs ws l : List ℕ) (i : ℕ) → sets l i (vs ++ ws) ≡ sets (sets l i vs) (i + length vs) ws
-sets-append [] ws l i = ap (λ (k : ℕ). sets l k ws) (none i)
-  where
-    none : (i : ℕ) → i ≡ i + 0
-    none i = omega arith
-sets-append (v ∷ vs) ws l i = sets-append vs ws (set l i v) (suc i) ∙ ap (λ (k : ℕ). sets (sets (set l i v) (suc i) vs) k ws) (one-on i (length vs))
-  where
-    one-on : (i n : ℕ) → suc i + n ≡ i + suc n
-    one-on i n = omega arith
+use Rattle.laws.proofs.Fill.{sets-append}
 
 -- of `all`, to be written over `first` from `at` on, vs are still to be written over l, from p on
 pub record Left (first : List ℕ) (at : ℕ) (all l : List ℕ) (p : ℕ) (vs : List ℕ) : Type 0 where

@@ -1,7 +1,7 @@
 -- A loop that fills a list from the front, an element or a part a turn. Assumes nothing.
 use mathlib.Core.Path.{_≡_, refl, sym, ap, _∙_}
-use mathlib.Core.List.{List, _++_}
-use Prim.Native.Nat.{ℕ, _+_, _-_, _<_, _≤_}
+use mathlib.Core.List.{List, _++_, [], _∷_}
+use Prim.Native.Nat.{ℕ, _+_, _-_, _<_, _≤_, suc}
 use native.Mathlib.Nat.{not-suc-le-zero}
 use native.Mathlib.Decide.{decLt}
 use native.Mathlib.Omega.{arith}
@@ -10,6 +10,8 @@ use lib.ListN.{length, getD, set, take, drop, length-set, length-append, length-
 use lib.Seq.{sets, sets-eq, take-at, getD-set-same, getD-set-other, length-take-le, getD-take, getD-append-add}
 use Rattle.laws.specs.Tabulate.{tabulate}
 use Rattle.laws.proofs.Tabulate.{is-tabulate}
+use mathlib.Core.List.{_∷_}
+use Prim.Native.Nat.{suc}
 
 -- l has n elements, of which the first i are f's; d is what `getD` gives past the end
 pub record Upto {A : Type 0} (d : A) (f : ℕ → A) (n i : ℕ) (l : List A) : Type 0 where
@@ -79,3 +81,14 @@ pub sets-front : (l vs : List ℕ) (i n : ℕ) → n ≡ i + length vs → n ≤
 sets-front l vs i n e h =
     ap (take n) (sets-eq vs l i (omega arith))
     ∙ take-at (take i l ++ vs) (drop (i + length vs) l) n (length-append (take i l) vs ∙ omega (arith, length-take-le i l (omega arith)))
+
+-- a list written in two parts
+pub sets-append : (vs ws l : List ℕ) (i : ℕ) → sets l i (vs ++ ws) ≡ sets (sets l i vs) (i + length vs) ws
+sets-append [] ws l i = ap (λ (k : ℕ). sets l k ws) (none i)
+  where
+    none : (i : ℕ) → i ≡ i + 0
+    none i = omega arith
+sets-append (v ∷ vs) ws l i = sets-append vs ws (set l i v) (suc i) ∙ ap (λ (k : ℕ). sets (sets (set l i v) (suc i) vs) k ws) (one-on i (length vs))
+  where
+    one-on : (i n : ℕ) → suc i + n ≡ i + suc n
+    one-on i n = omega arith

@@ -100,3 +100,7 @@ unfolding first
 first-ext zero p q agree = refl
 first-ext (suc n) p q agree =
     ap₂ (λ (b : Bool) (k : ℕ). cond b zero (suc k)) (agree zero (omega arith)) (first-ext n (λ k. p (suc k)) (λ k. q (suc k)) (λ k h. agree (suc k) (omega arith)))
+
+-- a search that comes to its end comes there exactly
+pub ended : (n : ℕ) (p : ℕ → Bool) → n ≤ first n p → first n p ≡ n
+ended n p h = first-none n p (record { fails = first-all n p h })

@@ -1,4 +1,5 @@
 // A recording frame written (13.15, 13.17): its row and dc word, woven to words, to modulation bits by the modulator's table.
+use crate::State;
 use modulator::Table;
 ghost use mathlib.Core.Path.{_≡_};
 ghost use Prim.Native.Nat.{_+_, _*_, _%_, _<_, _≤_};
@@ -109,27 +110,28 @@ fn copy_bits(bytes: &[u8], image: &mut [u8], at: usize)
     }
 }
 
-// The frame of a row and a dc word, from bit `at` of the image on; `hash` is # of its sync, and the answer is # of the next one. What would
-// stand past the end is not written. For the crates of this repository.
+// The frame of a row and a dc word, from bit `at` of the image on; `state` is what the frame before it handed on, and the answer what this one hands
+// on. What would stand past the end is not written.
 pub fn write_frame(
     table: &Table,
     row: &[u8],
     dc: u32,
     number: usize,
-    hash: bool,
+    state: State,
     image: &mut [u8],
     at: usize,
-) -> bool
+) -> State
     requires { ⌜ ((now table ≡ lentTable) × (length (now row) ≡ 155)) × ((number < 7) × (at + 1932 < 18446744073709551616)) ⌝ }
-    ensures { λ r. ⌜ FrameWritten (fs number) hash (now (row .entry)) dc (now (image .entry)) at (now (image .exit)) r ⌝ }
+    ensures { λ r. ⌜ FrameWritten (fs number) (state .hash) (now (row .entry)) dc (now (image .entry)) at (now (image .exit)) (r .hash) ⌝ }
 {
     if at % 4 == 0 {
         if at / 8 + 242 <= image.len() {
-            return write_whole(table, row, dc, number, hash, image, at);
+            let next = write_whole(table, row, dc, number, state.hash, image, at);
+            return State { hash: next };
         }
     }
     let mut frame = blank();
-    let next = write_whole(table, row, dc, number, hash, &mut frame, 0);
+    let next = write_whole(table, row, dc, number, state.hash, &mut frame, 0);
     copy_bits(&frame, image, at);
-    next
+    State { hash: next }
 }
