@@ -24,7 +24,8 @@ use Rattle.frame_bits.proofs.FrameBits.{length-frame-bits, frame-bits-bits, fra
 use Rattle.cluster.specs.EccCluster.{rowOf}
 use Rattle.cluster.proofs.Statements.{length-cluster, bytes-cluster, cluster-inj}
 use Rattle.image.specs.Image.{Input, IsAccepted, cluster, recording, imageBitsFrom, imageBits, image}
-use Rattle.image.proofs.Recordings.{length-row, bytes-row, rows-same, full}
+use Rattle.image.proofs.Recordings.{full}
+use Rattle.cluster.proofs.Rows.{length-row, bytes-row, rows-same}
 
 -- ---- equal images come from equal inputs
 

@@ -28,7 +28,8 @@ use Rattle.gaps.proofs.TallyCases.{bytes-input, frame-tallied}
 use Rattle.cluster.specs.EccCluster.{rowOf}
 use Rattle.cluster.proofs.Statements.{length-cluster, bytes-cluster}
 use Rattle.image.specs.Image.{Input, IsAccepted, cluster, recording, imageBitsFrom, imageBits, image}
-use Rattle.image.proofs.Recordings.{length-row, bytes-row, full}
+use Rattle.image.proofs.Recordings.{full}
+use Rattle.cluster.proofs.Rows.{length-row, bytes-row}
 use Rattle.image.proofs.Demand3.{image-size, image-bits}
 
 -- ---- an accepted input

@@ -8,11 +8,10 @@ use Rattle.bits.specs.Bits.{packed}
 use Rattle.address.specs.declared.Judged.the-variants.{Accepted}
 use Rattle.address.specs.Judged.{judged}
 use Rattle.modulation.specs.Bits.{bits}
-use Rattle.modulation.specs.Sync.{syncNumber}
 use Rattle.modulation.specs.Stream.{Recording, stream}
-use Rattle.frame.specs.Frame.{framePairs}
 use Rattle.bis.specs.AccessBlock.{Side}
-use Rattle.cluster.specs.EccCluster.{User, eccCluster, rowOf}
+use Rattle.cluster.specs.EccCluster.{User, eccCluster}
+use Rattle.recording.specs.Recording.{recordingOf}
 
 -- what an image is made of; side data is document 01's term for the flag bytes and the user control data (the demand's control data)
 pub record Input : Type 0 where
@@ -37,10 +36,7 @@ pub record IsAccepted (input : Input) : Type 0 where
 abbrev pub cluster : Input → List ℕ
 cluster input = eccCluster (input .user) (input .psn) (input .side)
 
--- the recording of an ECC cluster: its row n, with dc word n, behind the sync of frame n (Figure 41); # of the first sync is given
-abbrev pub recordingOf : Bool → List ℕ → List ℕ → Recording
-recordingOf first work dc = record { first = first; number = syncNumber; frames = λ n. framePairs (rowOf work n) (getD dc n 0) }
-
+-- its recording; # of the first sync is given
 abbrev pub recording : Bool → Input → Recording
 recording first input = recordingOf first (cluster input) (input .dc)
 

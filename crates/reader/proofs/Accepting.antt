@@ -29,8 +29,9 @@ use Rattle.frame.proofs.Frame.{frame-as-read}
 use Rattle.frame.proofs.Reading.{bits-row, readable-gives}
 use Rattle.frame_sync.proofs.SyncRight.{sync-as-read}
 use Rattle.cluster.specs.EccCluster as Ecc
-use Rattle.image.specs.Image.{recordingOf, imageBitsFrom, image}
-use Rattle.image.proofs.Recordings.{length-row}
+use Rattle.image.specs.Image.{imageBitsFrom, image}
+use Rattle.recording.specs.Recording.{recordingOf}
+use Rattle.cluster.proofs.Rows.{length-row}
 use Rattle.reader.specs.Reading.{lastZero, wrongSync, firstWrongSync, modulatedAt, hashBehind, noFrame, firstNoFrame, frameBitsIn, clusterByte, clusterIn, dcWordIn, dcIn}
 use Rattle.reader.proofs.Frames.{readable-is}
 

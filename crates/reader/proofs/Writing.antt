@@ -28,7 +28,8 @@ use Rattle.cluster.specs.EccCluster as Ecc
 use Rattle.cluster.proofs.Statements.{length-cluster, bytes-cluster}
 use Rattle.image.specs.Image.{Input, IsAccepted, cluster, recording, imageBitsFrom, imageBits, image}
 use Rattle.image.proofs.Demand3.{image-bits, image-size}
-use Rattle.image.proofs.Recordings.{length-row, bytes-row, full}
+use Rattle.image.proofs.Recordings.{full}
+use Rattle.cluster.proofs.Rows.{length-row, bytes-row}
 use Rattle.reader.specs.Reading.{lastZero, wrongSync, firstWrongSync, modulatedAt, hashBehind, noFrame, firstNoFrame, frameBitsIn, clusterByte, clusterIn, dcWordIn, dcIn}
 
 -- a part of the front

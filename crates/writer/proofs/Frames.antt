@@ -24,8 +24,10 @@ use Rattle.frame.specs.steps.Written.{FrameWritten}
 use Rattle.frame_sync.specs.steps.Written.{SyncWritten}
 use Rattle.frame_sync.proofs.SyncTables.{fs-number}
 use Rattle.cluster.specs.EccCluster.{eccCluster, rowOf, shownRow}
-use Rattle.image.specs.Image.{Input, cluster, recordingOf, imageBitsFrom, image}
-use Rattle.image.proofs.Recordings.{length-row, full-of}
+use Rattle.image.specs.Image.{Input, cluster, imageBitsFrom, image}
+use Rattle.recording.specs.Recording.{recordingOf}
+use Rattle.recording.proofs.Frames.{full-of}
+use Rattle.cluster.proofs.Rows.{length-row}
 use Rattle.writer.specs.Written.{FramesWritten, ImageWritten, Filled}
 
 -- ---- lists

@@ -9,7 +9,8 @@ use Rattle.modulation.specs.Bits.{bits}
 use Rattle.modulation.specs.Stream as Stream
 use Rattle.address.specs.declared.Judged.the-variants.{Accepted}
 use Rattle.address.specs.Judged.{judged}
-use Rattle.image.specs.Image.{Input, cluster, recordingOf, image}
+use Rattle.image.specs.Image.{Input, cluster, image}
+use Rattle.recording.specs.Recording.{recordingOf}
 
 -- the frames below n stand in front, and the answer is # of the next sync
 pub record FramesWritten (work dc before : List ℕ) (n : ℕ) (after : List ℕ) (answer : Bool) : Type 0 where

@@ -1,0 +1,3 @@
+-- What the steps leave.
+pub mod Written
+pub mod Read
