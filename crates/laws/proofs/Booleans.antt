@@ -54,9 +54,3 @@ beq-same false false t = refl
 pub beq-refl : (a : Bool) → Bool·beq a a ≡ true
 beq-refl true = refl
 beq-refl false = refl
-
-pub beq-other : (a b : Bool) → (a ≡ b → ⊥) → Bool·beq a b ≡ false
-beq-other true true h = absurd (h refl)
-beq-other true false h = refl
-beq-other false true h = refl
-beq-other false false h = absurd (h refl)

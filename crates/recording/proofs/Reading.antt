@@ -12,7 +12,7 @@ use Rattle.laws.proofs.First.{Passed, passed-none, passed-more, first-here, fir
 use Rattle.laws.proofs.Fill.{Upto, upto-none, upto-more, upto-part, upto-all}
 use Rattle.modulation.specs.Sync.{FS, syncNumber}
 use Rattle.frame_bits.specs.FrameBits.{rowOf}
-use Rattle.frame_sync.specs.Sync.{fs, fsNumber}
+use Rattle.frame_sync.specs.Sync.{fs, fsNumber, hashAt}
 use Rattle.frame.specs.declared.FrameRead.{FrameRead}
 use Rattle.frame.specs.declared.FrameRead.the-variants.{Found, NoFrame}
 use Rattle.frame.specs.Reading.{StrictlyRead, readable, frameRead, rowRead}
@@ -21,6 +21,7 @@ use Rattle.frame_bits.proofs.FrameBits.{length-row}
 use Rattle.frame.proofs.Reading.{readable-gives, read-is, found-is, no-found}
 use Rattle.recording.specs.Reading.{modulatedAt, hashBehind, noFrame, firstNoFrame, frameBitsIn, clusterByte, clusterIn, dcWordIn, dcIn}
 use Rattle.recording.specs.steps.Read.{FrameAnswer, TwoFrames, FramesRead}
+use Rattle.recording.proofs.Places.{hash-behind, bits-behind}
 
 -- ---- a frame
 
@@ -33,13 +34,22 @@ module _ (b : List ℕ) (n : ℕ) where
   pub length-row-in : noFrame b n ≡ false → length (rowOf (frameBitsIn b n)) ≡ 155
   length-row-in e = length-row (frameBitsIn b n) (readable-gives (syncNumber n) (modulatedAt b n) (hashBehind b n) (readable-is e) .are-bits)
 
--- a frame as it is read with the number of its sync, from bit q on
-module _ (b : List ℕ) (n number q : ℕ) {before p : List ℕ} {hash : Bool} {r : FrameRead} (en : number ≡ fsNumber (syncNumber n)) (eh : hash ≡ hashBehind b n)
-    (eq : q ≡ 1932 * n + 30) (s : StrictlyRead (fs number) (take 1902 (drop q b)) hash before r p) where
+-- a frame as it is read with the number of its sync, from bit q on, in bits l where the recording starts at bit `at`
+module _ (l : List ℕ) (at n number q s : ℕ) {before p : List ℕ} {hash : Bool} {r : FrameRead} (en : number ≡ fsNumber (syncNumber n)) (eh : hash ≡ hashAt l s)
+    (es : s ≡ at + 1932 * (n + 1)) (eq : q ≡ at + (1932 * n + 30)) (read : StrictlyRead (fs number) (take 1902 (drop q l)) hash before r p) where
+  abbrev b : List ℕ
+  b = drop at l
+
+  behind : hash ≡ hashBehind b n
+  behind = eh ∙ ap (hashAt l) es ∙ sym (hash-behind l at (1932 * (n + 1)))
+
+  there : take 1902 (drop q l) ≡ modulatedAt b n
+  there = ap (λ (k : ℕ). take 1902 (drop k l)) eq ∙ sym (bits-behind l at (1932 * n + 30) 1902)
+
   strictly : StrictlyRead (syncNumber n) (modulatedAt b n) (hashBehind b n) before r p
   strictly =
       subst (λ (f : FS). StrictlyRead f (modulatedAt b n) (hashBehind b n) before r p) (ap fs en ∙ fs-number (syncNumber n))
-      (subst (λ (h : Bool). StrictlyRead (fs number) (modulatedAt b n) h before r p) eh (subst (λ (k : ℕ). StrictlyRead (fs number) (take 1902 (drop k b)) hash before r p) eq s))
+      (subst (λ (h : Bool). StrictlyRead (fs number) (modulatedAt b n) h before r p) behind (subst (λ (m : List ℕ). StrictlyRead (fs number) m hash before r p) there read))
 
   pub frame-answer : FrameAnswer b n r
   unfolding noFrame frameRead

@@ -76,3 +76,9 @@ module _ (first : Bool) (work dc before : List ℕ) (at : ℕ) where
 
   pub frames-end : (after : List ℕ) (n : ℕ) (r : Bool) → n ≤ 496 → 496 ≤ n → FramesWritten first work dc before at n after r → FramesWritten first work dc before at 496 after r
   frames-end after n r h k w = subst (λ (m : ℕ). FramesWritten first work dc before at m after r) {x = n} {y = 496} (omega arith) w
+
+-- the slice keeps its length
+pub frames-size : {first : Bool} {work dc before : List ℕ} {at n : ℕ} {after : List ℕ} {r : Bool} → FramesWritten first work dc before at n after r → length after ≡ length before
+frames-size {first} {work} {dc} {before} {at} {n} {after} w =
+    let written = bits (Stream.run (recordingOf first work dc) n) in
+    omega (arith, B.length-bits after, B.length-bits before, ap (length {A = ℕ}) (w .bits-are), length-sets (bitsOf before) at written)

@@ -1,8 +1,8 @@
 // Recording frames read strictly (13.15, 13.17.4).
 use crate::FrameRead;
 use crate::TwoRead;
-use demodulator::Found;
 use automaton::Table;
+use demodulator::Found;
 use frame_sync::steps::sync_end;
 ghost use mathlib.Core.Path.{_≡_};
 ghost use Prim.Native.Nat.{_+_, _*_, _<_, _≤_};
@@ -39,7 +39,14 @@ pub fn read_frame(
     ensures { λ r. ⌜ StrictlyRead (fs number) (take 1902 (drop (at + 30) (bitsOf (now (image .entry))))) hash (now (row .entry)) r (now (row .exit)) ⌝ }
 {
     let mut words = frame_bits::steps::no_words();
-    let found = demodulator::steps::read_words(steps, image, at + 30, sync_end(number), hash, &mut words);
+    let found = demodulator::steps::read_words(
+        steps,
+        image,
+        at + 30,
+        sync_end(number),
+        hash,
+        &mut words,
+    );
     take_frame(&words, found, row)
 }
 
