@@ -1,13 +1,12 @@
 // 13.9.2.2, 13.9.3 to 13.13: address fields, access block, BIS block and BIS cluster.
 use address::Aun;
-use address::Judged;
 use address::Psn;
 use column::Remainders;
 ghost use mathlib.Core.Path.{_≡_};
 ghost use mathlib.Core.List.{_++_};
 ghost use Prim.Native.Nat.{_+_, _*_, _-_, _^_, _<_};
 ghost use lib.ListN.{length, getD};
-ghost use Rattle.address.specs.declared.Judged.the-variants.{Accepted};
+ghost use Rattle.answer.specs.declared.Answer.the-variants.{Done};
 ghost use Rattle.address.specs.Judged.{judged};
 ghost use Rattle.column.specs.Column.{hasRoots};
 ghost use Rattle.column.specs.Remainders.{AreRemainders};
@@ -95,7 +94,7 @@ pub fn address_field(aun: Aun, flag: u8) -> [u8; 9]
 
 // The sixteen address fields of a cluster.
 fn address_fields(psn: Psn, side: &[u8]) -> Fields
-    requires { ⌜ (length (now side) ≡ 592) × (judged (psn .0) ≡ Accepted) ⌝ }
+    requires { ⌜ (length (now side) ≡ 592) × (judged (psn .0) ≡ Done) ⌝ }
     ensures { λ r. ⌜ r ≡ addressFields (psn .0) (now (side .entry)) ⌝ }
 {
     let mut fields = [[0u8; 9]; 16];
@@ -172,7 +171,7 @@ fn code_word(table: &Remainders, fields: &Fields, side: &[u8], c: usize) -> [u8;
 
 // The BIS block of the cluster at an accepted PSN, with 592 bytes of side data. For the crates of this repository, which test both.
 pub fn block(table: &Remainders, psn: Psn, side: &[u8]) -> Block
-    requires { ⌜ AreRemainders (now table) × ((length (now side) ≡ 592) × (judged (psn .0) ≡ Accepted)) ⌝ }
+    requires { ⌜ AreRemainders (now table) × ((length (now side) ≡ 592) × (judged (psn .0) ≡ Done)) ⌝ }
     ensures { λ r. ⌜ r ≡ bisBlock (psn .0) (now (side .entry)) ⌝ }
 {
     let fields = address_fields(psn, side);
@@ -283,7 +282,7 @@ fn aun_in(block: &Block, y: usize) -> Aun
 
 // The lowest address unit whose AUN is not the PSN's, or 16.
 fn first_other_unit(block: &Block, psn: Psn) -> usize
-    requires { ⌜ judged (psn .0) ≡ Accepted ⌝ }
+    requires { ⌜ judged (psn .0) ≡ Done ⌝ }
     ensures { λ r. ⌜ r ≡ firstOtherUnit (now (block .entry)) (psn .0) ⌝ }
 {
     let mut y: usize = 0;
@@ -302,19 +301,16 @@ fn first_other_unit(block: &Block, psn: Psn) -> usize
 pub fn psn_in(block: Block) -> PsnFound
     ensures { λ r. ⌜ r ≡ psnIn block ⌝ }
 {
-    let answer = aun_in(&block, 0).psn();
-    let judged = answer.judged;
-    let psn = answer.psn;
-    match judged {
-        Judged::Accepted => {
-            if first_other_unit(&block, psn) < 16 {
-                return PsnFound::NotFound;
-            }
-            PsnFound::Found(psn)
+    let first = aun_in(&block, 0).psn();
+    let answer = first.answer;
+    let psn = first.psn;
+    if answer.is_done() {
+        if first_other_unit(&block, psn) < 16 {
+            return PsnFound::NotFound;
         }
-        Judged::NoMultiple => PsnFound::NotFound,
-        Judged::NoZone => PsnFound::NotFound,
+        return PsnFound::Found(psn);
     }
+    PsnFound::NotFound
 }
 
 // Byte k of the side data.

@@ -10,7 +10,7 @@ ghost use Rattle.laws.specs.First.{first};
 ghost use Rattle.laws.specs.Tabulate.{tabulate};
 ghost use Rattle.sector.specs.Scrambling.{scrambled};
 ghost use Rattle.column.specs.Remainders.{AreRemainders};
-ghost use Rattle.address.specs.declared.Judged.the-variants.{Accepted};
+ghost use Rattle.answer.specs.declared.Answer.the-variants.{Done};
 ghost use Rattle.address.specs.Judged.{judged};
 ghost use Rattle.ldc.specs.Places.{frameIn};
 ghost use Rattle.bis.specs.BisCluster.{rowOf, columnOf, bisByte};
@@ -80,7 +80,7 @@ fn put_ldc(table: &Remainders, user: &[u8], stream: &[u8], work: &mut [u8])
 
 // The ECC cluster of 65,536 user bytes, an accepted PSN and 592 bytes of side data. For the crates of this repository.
 pub fn encode(user: &[u8], psn: Psn, side: &[u8], work: &mut [u8])
-    requires { ⌜ ((length (now user) ≡ 65536) × (length (now side) ≡ 592)) × ((length (now work) ≡ 76880) × (judged (psn .0) ≡ Accepted)) ⌝ }
+    requires { ⌜ ((length (now user) ≡ 65536) × (length (now side) ≡ 592)) × ((length (now work) ≡ 76880) × (judged (psn .0) ≡ Done)) ⌝ }
     ensures { λ _. ⌜ now (work .exit) ≡ eccCluster (now (user .entry)) (psn .0) (now (side .entry)) ⌝ }
 {
     let mut table = column::no_remainders();

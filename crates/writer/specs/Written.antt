@@ -7,7 +7,7 @@ use lib.ListN.{length, take}
 use Rattle.bits.specs.Bits.{bitsOf}
 use Rattle.modulation.specs.Bits.{bits}
 use Rattle.modulation.specs.Stream as Stream
-use Rattle.address.specs.declared.Judged.the-variants.{Accepted}
+use Rattle.answer.specs.declared.Answer.the-variants.{Done}
 use Rattle.address.specs.Judged.{judged}
 use Rattle.image.specs.Image.{Input, cluster, recordingOf, image}
 
@@ -24,7 +24,7 @@ pub record ImageWritten (work dc after : List ℕ) : Type 0 where
 -- an input and two slices that pass the tests, as far as writing needs it
 pub record Passed (input : Input) (image work : List ℕ) : Type 0 where
   pub user : length (input .user) ≡ 65536
-  pub psn : judged (input .psn) ≡ Accepted
+  pub psn : judged (input .psn) ≡ Done
   pub side : length (input .side) ≡ 592
   pub dc : length (input .dc) ≡ 496
   pub image-size : length image ≡ 119788
