@@ -1,5 +1,5 @@
 -- The lengths: passed exactly where all are right, and refused by 1 to 5. Assumes nothing.
-use mathlib.Core.Path.{_≡_, refl, sym, _∙_}
+use mathlib.Core.Path.{_≡_, refl}
 use mathlib.Core.Bool.{Bool, true, false, cond}
 use Prim.Native.Nat.{ℕ, _≤_}
 use native.Mathlib.Omega.{arith}
@@ -8,7 +8,7 @@ use Rattle.answer.specs.declared.Answer.{Answer}
 use Rattle.answer.specs.declared.Answer.the-variants.{Done, WrongUser, WrongSide, WrongDc, WrongImage, WrongWork}
 use Rattle.answer.specs.Answer.{numberOf, isDone, andThen, sized}
 use Rattle.answer.specs.Lengths.{lengthsAnswer, RightLengths}
-use Rattle.answer.proofs.Tests.{done-is, then-both, then-done, sized-right, sized-done}
+use Rattle.answer.proofs.Tests.{done-told, then-both, then-done, sized-right, sized-done}
 
 module _ (u s d i w : ℕ) where
   pub lengths-right : RightLengths u s d w → i ≡ 119788 → lengthsAnswer u s d i w ≡ Done
@@ -37,7 +37,7 @@ module _ (u s d i w : ℕ) where
 
   -- as the code has it: r is what was answered, t whether it is `Done`
   pub lengths-passed : {r : Answer} {t : Bool} → r ≡ lengthsAnswer u s d i w → t ≡ isDone r → t ≡ true → RightLengths u s d w × (i ≡ 119788)
-  lengths-passed hr ht e = lengths-done (sym hr ∙ done-is _ (sym ht ∙ e))
+  lengths-passed hr ht e = lengths-done (done-told hr ht e)
 
 -- ---- a refusal's number
 

@@ -33,6 +33,10 @@ number-zero (Sector n) e = absurd (omega arith)
 pub done-is : (a : Answer) → isDone a ≡ true → a ≡ Done
 done-is a e = number-zero a (eqb-true (numberOf a) 0 e)
 
+-- as the code has it: r is what was answered, d whether it is `Done`
+pub done-told : {a r : Answer} {d : Bool} → r ≡ a → d ≡ isDone r → d ≡ true → a ≡ Done
+done-told {r = r} hr hd e = sym hr ∙ done-is r (sym hd ∙ e)
+
 pub done-or-not : (a : Answer) → (numberOf a ≡ 0 → ⊥) → isDone a ≡ false
 done-or-not a h = ne-eqb (numberOf a) 0 h
 

@@ -1,6 +1,5 @@
 // BIS blocks against those of an independent encoder, and what is read in blocks that are wrong.
 use address::Aun;
-use address::Judged;
 use address::Psn;
 use bis::Block;
 use bis::PsnFound;
@@ -130,11 +129,10 @@ fn print_reading(block: Block) {
 fn block_of(psn: Psn, side: [u8; 592]) -> Block {
     let mut table = column::no_remainders();
     column::fill_remainders(&mut table);
-    match psn.judge() {
-        Judged::Accepted => bis::block(&table, psn, &side),
-        Judged::NoMultiple => [[0u8; 62]; 24],
-        Judged::NoZone => [[0u8; 62]; 24],
+    if psn.judge().is_done() {
+        return bis::block(&table, psn, &side);
     }
+    [[0u8; 62]; 24]
 }
 
 fn show(psn: Psn, side: [u8; 592]) {
