@@ -7,8 +7,6 @@ use lib.ListN.{length, take}
 use Rattle.bits.specs.Bits.{bitsOf}
 use Rattle.modulation.specs.Bits.{bits}
 use Rattle.modulation.specs.Stream as Stream
-use Rattle.answer.specs.declared.Answer.the-variants.{Done}
-use Rattle.address.specs.Judged.{judged}
 use Rattle.image.specs.Image.{Input, cluster, recordingOf, image}
 
 -- the frames below n stand in front, and the answer is # of the next sync
@@ -20,15 +18,6 @@ pub record FramesWritten (work dc before : List ℕ) (n : ℕ) (after : List ℕ
 -- the 496 frames, the sync that follows, and two zero bits
 pub record ImageWritten (work dc after : List ℕ) : Type 0 where
   pub whole : bitsOf after ≡ bits (Stream.stream (recordingOf false work dc) 496) ++ (0 ∷ 0 ∷ [])
-
--- an input and two slices that pass the tests, as far as writing needs it
-pub record Passed (input : Input) (image work : List ℕ) : Type 0 where
-  pub user : length (input .user) ≡ 65536
-  pub psn : judged (input .psn) ≡ Done
-  pub side : length (input .side) ≡ 592
-  pub dc : length (input .dc) ≡ 496
-  pub image-size : length image ≡ 119788
-  pub work-size : length work ≡ 76880
 
 -- the slices as they are when all is written
 pub record Filled (input : Input) (after work : List ℕ) : Type 0 where

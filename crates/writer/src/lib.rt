@@ -1,18 +1,20 @@
 // The writer: the image of a cluster, from its user bytes, PSN, side data and dc words.
-use address::Judged;
 use address::Psn;
 use answer::Answer;
 use modulator::Table;
 ghost use mathlib.Core.Path.{_≡_};
 ghost use Prim.Native.Nat.{_*_, _<_};
 ghost use lib.ListN.{length, getD};
-ghost use Rattle.answer.specs.Answer.{numberOf, andThen, lengthsAnswer};
+ghost use Rattle.answer.specs.declared.Answer.the-variants.{Done};
+ghost use Rattle.answer.specs.Answer.{numberOf, andThen};
+ghost use Rattle.answer.specs.Lengths.{lengthsAnswer, RightLengths};
+ghost use Rattle.address.specs.Judged.{judged};
 ghost use Rattle.modulation.specs.Sync.{syncNumber};
 ghost use Rattle.frame.specs.Written.{FrameWritten};
 ghost use Rattle.modulator.specs.Table.{lentTable};
 ghost use Rattle.cluster.specs.EccCluster.{rowOf};
 ghost use Rattle.image.specs.Image.{Input};
-ghost use Rattle.writer.specs.Written.{FramesWritten, ImageWritten, Passed, Filled};
+ghost use Rattle.writer.specs.Written.{FramesWritten, ImageWritten, Filled};
 ghost use Rattle.writer.specs.Outcome.{partsAnswer, firstTooLarge, Outcome, outcome};
 ghost use Rattle.writer.specs.Promise.{WritesExactly};
 
@@ -73,19 +75,14 @@ fn judge_parts(psn: Psn, dc: &[u32]) -> Answer
     requires { ⌜ length (now dc) ≡ 496 ⌝ }
     ensures { λ r. ⌜ r ≡ partsAnswer (psn .0) (now (dc .entry)) ⌝ }
 {
-    let judged = psn.judge();
-    match judged {
-        Judged::NoMultiple => Answer::NoMultiple,
-        Judged::NoZone => Answer::NoZone,
-        Judged::Accepted => {
-            let n = first_too_large(dc);
-            if n < 496 {
-                Answer::DcWord(n)
-            } else {
-                Answer::Done
-            }
+    let sector = psn.judge();
+    if sector.is_done() {
+        let n = first_too_large(dc);
+        if n < 496 {
+            return Answer::DcWord(n);
         }
     }
+    sector
 }
 
 // All tests, in rising order.
@@ -101,7 +98,7 @@ fn judge(user: usize, psn: Psn, side: usize, dc: &[u32], image: usize, work: usi
 
 // The ECC cluster in work and the image of an input that passed the tests.
 fn write(user: &[u8], psn: Psn, side: &[u8], dc: &[u32], image: &mut [u8], work: &mut [u8])
-    requires { ⌜ Passed (record { user = now user; psn = psn .0; side = now side; dc = now dc }) (now image) (now work) ⌝ }
+    requires { ⌜ RightLengths (length (now user)) (length (now side)) (length (now dc)) (length (now work)) × ((length (now image) ≡ 119788) × (judged (psn .0) ≡ Done)) ⌝ }
     ensures { λ _. ⌜ Filled (record { user = now (user .entry); psn = psn .0; side = now (side .entry); dc = now (dc .entry) }) (now (image .exit)) (now (work .exit)) ⌝ }
 {
     cluster::encode(user, psn, side, work);
