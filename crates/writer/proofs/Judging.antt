@@ -42,19 +42,22 @@ module _ (psn : ℕ) (dc : List ℕ) (a : Answer) (d : Bool) (ha : a ≡ judged 
     pub all-right : 496 ≤ n → a ≡ partsAnswer psn dc
     all-right h = by-word (ha ∙ done-told ha hd e ∙ sym (lowest-none DcWord h))
 
--- ---- an input that passes
+-- ---- an input that passes; its lengths, and those of image and work
 
--- the tests of the input alone, and of the slices
-pub passed-all : (input : Input) (i w : ℕ) → answer input i w ≡ Done
-    → RightLengths (length (input .user)) (length (input .side)) (length (input .dc)) w × (i ≡ 119788) × (judged (input .psn) ≡ Done) × (496 ≤ firstTooLarge (input .dc))
-unfolding answer
-passed-all input i w e =
-    let all = then-done (lengthsAnswer (length (input .user)) (length (input .side)) (length (input .dc)) i w) (partsAnswer (input .psn) (input .dc)) e in
-    let sizes = lengths-done (length (input .user)) (length (input .side)) (length (input .dc)) i w (all .0) in
-    let parts = then-done (judged (input .psn)) (lowest DcWord 496 (firstTooLarge (input .dc))) (all .1) in
-    (sizes .0, sizes .1, parts .0, lowest-done DcWord (λ k. refl) (parts .1))
+module _ (u s d i w psn : ℕ) (dc : List ℕ) where
+  pub passed-all : andThen (lengthsAnswer u s d i w) (partsAnswer psn dc) ≡ Done → RightLengths u s d w × (i ≡ 119788) × (judged psn ≡ Done) × (496 ≤ firstTooLarge dc)
+  passed-all e =
+      let all = then-done (lengthsAnswer u s d i w) (partsAnswer psn dc) e in
+      let sizes = lengths-done u s d i w (all .0) in
+      let parts = then-done (judged psn) (lowest DcWord 496 (firstTooLarge dc)) (all .1) in
+      (sizes .0, sizes .1, parts .0, lowest-done DcWord (λ k. refl) (parts .1))
 
--- ---- as the code has it: r is what was answered, d whether it is `Done`
+  -- as the code has it: r is what was answered, t whether it is `Done`
+  pub may-write : {r : Answer} {t : Bool} → r ≡ andThen (lengthsAnswer u s d i w) (partsAnswer psn dc) → t ≡ isDone r → t ≡ true
+      → RightLengths u s d w × ((i ≡ 119788) × (judged psn ≡ Done))
+  may-write hr ht e = let all = passed-all (done-told hr ht e) in (all .0, (all .1, all .2))
+
+-- ---- the outcome; r is what was answered, d whether it is `Done`
 
 module _ (user side dc before work : List ℕ) (psn : ℕ) (r : Answer) (d : Bool)
     (hr : r ≡ andThen (lengthsAnswer (length user) (length side) (length dc) (length before) (length work)) (partsAnswer psn dc)) (hd : d ≡ isDone r) where
@@ -67,9 +70,6 @@ module _ (user side dc before work : List ℕ) (psn : ℕ) (r : Answer) (d : Boo
 
   done : d ≡ true → answer input (length before) (length work) ≡ Done
   done e = done-told is-answer hd e
-
-  pub may-write : d ≡ true → RightLengths (length user) (length side) (length dc) (length work) × ((length before ≡ 119788) × (judged psn ≡ Done))
-  may-write e = let all = passed-all input (length before) (length work) (done e) in (all .0, (all .1, all .2))
 
   pub is-written : (after made : List ℕ) → d ≡ true → Filled input after made → record { answer = Done; image = after; work = made } ≡ outcome input before work
   unfolding outcome

@@ -22,8 +22,9 @@ use Rattle.writer.proofs.Judging.{passed-all}
 
 module _ (input : Input) (before work : List ℕ) (bytes : Bytes (input .user)) (side-bytes : Bytes (input .side)) where
   is-done : answer input (length before) (length work) ≡ Done → WellFormed input before work
+  unfolding answer
   is-done e =
-      let all = passed-all input (length before) (length work) e in
+      let all = passed-all (length (input .user)) (length (input .side)) (length (input .dc)) (length before) (length work) (input .psn) (input .dc) e in
       record {
         accepted =
             record {
