@@ -14,7 +14,7 @@ lengthsAnswer user side dc image work =
     (andThen (sized image 119788 WrongImage)
     (sized work 76880 WrongWork))))
 
--- the lengths u, s, d and w of user bytes, side data, dc words and work are right; what is written or read, an image, has its length beside it
+-- user bytes, side data, dc words and work have their lengths; that of the image stands beside it
 pub record RightLengths (u s d w : ℕ) : Type 0 where
   pub user : u ≡ 65536
   pub side : s ≡ 592

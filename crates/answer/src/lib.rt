@@ -1,4 +1,4 @@
-// What the writer and the reader answer: a case for each row of document 01's table of returned numbers.
+// What operations answer: a case for each row of document 01's table of returned numbers.
 ghost use mathlib.Core.Path.{_≡_};
 ghost use Rattle.answer.specs.Answer.{numberOf, placeOf, isDone, andThen, sized};
 ghost use Rattle.answer.specs.Lengths.{lengthsAnswer};
