@@ -6,22 +6,22 @@ use native.Mathlib.Decide.{decLt}
 use native.Mathlib.Omega.{arith}
 use borrow.Author.Tests.{eq-eqb, eqb-true, le-leb}
 use lib.Dec.{eqb}
+use Rattle.answer.specs.declared.Answer.{Answer}
+use Rattle.answer.specs.declared.Answer.the-variants.{Done, NoMultiple, NoZone}
 use Rattle.address.specs.declared.AunAnswer.{AunAnswer}
-use Rattle.address.specs.declared.PsnAnswer.{PsnAnswer}
-use Rattle.address.specs.declared.Judged.{Judged}
-use Rattle.address.specs.declared.Judged.the-variants.{Accepted, NoMultiple, NoZone}
 use Rattle.address.specs.Zones.{inDataZone, firstOfCluster}
-use Rattle.address.specs.Judged.{judged, ifAccepted}
+use Rattle.address.specs.Judged.{judged, ifDone}
 use Rattle.address.specs.Conversions.{aunOf, psnToAun, aunToPsn}
 use Rattle.address.proofs.Judging.{past-zones}
+use Rattle.address.specs.declared.PsnAnswer.{PsnAnswer}
 use mathlib.Core.Path.{sym}
 
-both-accept : (m z : Bool) → cond m (cond z Accepted NoZone) NoMultiple ≡ Accepted → (m ≡ true) × (z ≡ true)
+both-accept : (m z : Bool) → cond m (cond z Done (NoZone 0)) (NoMultiple 0) ≡ Done → (m ≡ true) × (z ≡ true)
 both-accept true true e = (refl, refl)
 both-accept true false e = let no : _≡_ {A = ℕ} 0 1 = cc in absurd (omega arith)
 both-accept false z e = let no : _≡_ {A = ℕ} 0 1 = cc in absurd (omega arith)
 
-module _ (psn : ℕ) (accepted : judged psn ≡ Accepted) where
+module _ (psn : ℕ) (accepted : judged psn ≡ Done) where
   pub accepted-multiple : psn % 32 ≡ 0
   unfolding judged
   accepted-multiple = eqb-true (psn % 32) 0 (both-accept (firstOfCluster psn) (inDataZone psn) accepted .0)
@@ -46,7 +46,7 @@ module _ (psn : ℕ) (accepted : judged psn ≡ Accepted) where
   aun-lt y h = omega (arith, accepted-lt)
 
   -- and leads back to it
-  pub answered-back : aunToPsn psn ≡ record { judged = Accepted; psn = record { 0 = psn } }
+  pub answered-back : aunToPsn psn ≡ record { answer = Done; psn = record { 0 = psn } }
   unfolding aunToPsn
   answered-back =
       let multiple = accepted-multiple in
@@ -55,22 +55,22 @@ module _ (psn : ℕ) (accepted : judged psn ≡ Accepted) where
       rw (even, cluster, accepted)
 
 -- what is answered for a unit
-pub aun-answered : (psn y : ℕ) {unit : AunAnswer} → y < 16 → judged psn ≡ Accepted → unit ≡ psnToAun psn y → unit .aun .0 ≡ aunOf psn y
+pub aun-answered : (psn y : ℕ) {unit : AunAnswer} → y < 16 → judged psn ≡ Done → unit ≡ psnToAun psn y → unit .aun .0 ≡ aunOf psn y
 unfolding psnToAun
 aun-answered psn y h accepted e =
     ap (λ (u : AunAnswer). u .aun .0) e
-    ∙ ap (λ (b : Bool). cond b (ifAccepted (judged psn) (aunOf psn y)) 0) (le-leb y 15 (omega arith))
-    ∙ ap (λ (j : Judged). ifAccepted j (aunOf psn y)) accepted
+    ∙ ap (λ (b : Bool). cond b (ifDone (judged psn) (aunOf psn y)) 0) (le-leb y 15 (omega arith))
+    ∙ ap (λ (a : Answer). ifDone a (aunOf psn y)) accepted
 
-even-accepted : (even : Bool) (j : Judged) → cond even j NoMultiple ≡ Accepted → j ≡ Accepted
-even-accepted true j e = e
-even-accepted false j e = let no : _≡_ {A = ℕ} 0 1 = cc in absurd (omega arith)
+even-accepted : (even : Bool) (a : Answer) → cond even a (NoMultiple 0) ≡ Done → a ≡ Done
+even-accepted true a e = e
+even-accepted false a e = let no : _≡_ {A = ℕ} 0 1 = cc in absurd (omega arith)
 
 -- a PSN that is answered of an AUN, and accepted
-pub answered-accepted : (a : ℕ) {answer : PsnAnswer} → answer ≡ aunToPsn a → answer .judged ≡ Accepted → judged (answer .psn .0) ≡ Accepted
+pub answered-accepted : (a : ℕ) {answer : PsnAnswer} → answer ≡ aunToPsn a → answer .answer ≡ Done → judged (answer .psn .0) ≡ Done
 unfolding aunToPsn
 answered-accepted a {answer} answered e =
-    let j : cond (eqb (a % 2) 0) (judged (a / 32 * 32)) NoMultiple ≡ Accepted = sym (ap (λ (x : PsnAnswer). x .judged) answered) ∙ e in
+    let done : cond (eqb (a % 2) 0) (judged (a / 32 * 32)) (NoMultiple 0) ≡ Done = sym (ap (λ (x : PsnAnswer). x .answer) answered) ∙ e in
     ap (λ (x : PsnAnswer). judged (x .psn .0)) answered
-    ∙ ap (λ (k : Judged). judged (ifAccepted k (a / 32 * 32))) j
-    ∙ even-accepted (eqb (a % 2) 0) (judged (a / 32 * 32)) j
+    ∙ ap (λ (x : Answer). judged (ifDone x (a / 32 * 32))) done
+    ∙ even-accepted (eqb (a % 2) 0) (judged (a / 32 * 32)) done

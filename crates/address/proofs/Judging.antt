@@ -6,11 +6,13 @@ use native.Mathlib.Nat.{mul-mod-right}
 use native.Mathlib.Omega.{arith}
 use borrow.Author.Tests.{eq-eqb, ne-eqb, le-leb, lt-leb}
 use lib.Dec.{leb}
-use Rattle.address.specs.declared.Judged.the-variants.{Accepted, NoMultiple, NoZone}
+use Rattle.answer.specs.declared.Answer.{Answer}
+use Rattle.answer.specs.declared.Answer.the-variants.{Done, NoMultiple, NoZone}
+use Rattle.answer.specs.Answer.{isDone}
 use Rattle.address.specs.declared.PsnAnswer.{PsnAnswer}
 use Rattle.address.specs.Zones.{within, zone0, zone1, zone2, inDataZone}
-use Rattle.address.specs.Judged.{judged}
-use Rattle.address.specs.Conversions.{psnAnswer, paaToPsn, aunToPsn}
+use Rattle.address.specs.Judged.{judged, ifDone}
+use Rattle.address.specs.Conversions.{withPsn, paaToPsn, aunToPsn}
 
 -- ---- zones
 
@@ -33,17 +35,17 @@ module _ (psn : ℕ) (r s t : Bool) (hr : r ≡ within zone0 psn) where
 
 -- ---- the judgement
 
-pub no-multiple : (psn : ℕ) → (psn % 32 ≡ 0 → ⊥) → NoMultiple ≡ judged psn
+pub no-multiple : (psn : ℕ) → (psn % 32 ≡ 0 → ⊥) → NoMultiple 0 ≡ judged psn
 unfolding judged
 no-multiple psn h = rw (ne-eqb (psn % 32) 0 h)
 
 -- r is what the test of the zones answers
 module _ (psn : ℕ) (r : Bool) (h : psn % 32 ≡ 0) (hr : r ≡ inDataZone psn) where
-  pub no-zone : r ≡ false → NoZone ≡ judged psn
+  pub no-zone : r ≡ false → NoZone 0 ≡ judged psn
   unfolding judged
   no-zone e = let zone : inDataZone psn ≡ false = sym hr ∙ e in rw (eq-eqb (psn % 32) 0 h, zone)
 
-  pub accepted : r ≡ true → Accepted ≡ judged psn
+  pub accepted : r ≡ true → Done ≡ judged psn
   unfolding judged
   accepted e = let zone : inDataZone psn ≡ true = sym hr ∙ e in rw (eq-eqb (psn % 32) 0 h, zone)
 
@@ -52,21 +54,30 @@ pub past-zones : (psn : ℕ) → 0x2000_0000 ≤ psn → inDataZone psn ≡ fals
 past-zones psn h =
     rw (le-leb 0x0010_0000 psn (omega arith), lt-leb psn 0x0108_9BFF (omega arith), le-leb 0x02F7_6400 psn (omega arith), lt-leb psn 0x03EF_FFFF (omega arith), le-leb 0x0410_0000 psn (omega arith), lt-leb psn 0x0508_9BFF (omega arith))
 
+-- ---- a value is 0 on refusal; t is whether the answer is `Done`
+
+module _ (a : Answer) (x : ℕ) (t : Bool) (ht : t ≡ isDone a) where
+  pub value-given : t ≡ true → x ≡ ifDone a x
+  value-given e = let done : isDone a ≡ true = sym ht ∙ e in rw done
+
+  pub value-zero : t ≡ false → 0 ≡ ifDone a x
+  value-zero e = let done : isDone a ≡ false = sym ht ∙ e in rw done
+
 -- ---- the conversions
 
 -- a PAA whose cluster's PSN would be no multiple of 32, or above every zone
-pub paa-off-cluster : (paa : ℕ) → (paa % 4 ≡ 0 → ⊥) → record { judged = NoMultiple; psn = record { 0 = 0 } } ≡ paaToPsn paa
+pub paa-off-cluster : (paa : ℕ) → (paa % 4 ≡ 0 → ⊥) → record { answer = NoMultiple 0; psn = record { 0 = 0 } } ≡ paaToPsn paa
 unfolding paaToPsn
 paa-off-cluster paa h = rw (sym (no-multiple (8 * paa) (λ e. let quarter : paa ≡ 4 * (8 * paa / 32) = omega arith in h (ap (λ (x : ℕ). x % 4) quarter ∙ mul-mod-right 4 (8 * paa / 32)))))
 
-pub paa-too-high : (paa : ℕ) → paa % 4 ≡ 0 → 0x1FFF_FFFF < paa → record { judged = NoZone; psn = record { 0 = 0 } } ≡ paaToPsn paa
+pub paa-too-high : (paa : ℕ) → paa % 4 ≡ 0 → 0x1FFF_FFFF < paa → record { answer = NoZone 0; psn = record { 0 = 0 } } ≡ paaToPsn paa
 unfolding paaToPsn
 paa-too-high paa m h = rw (sym (no-zone (8 * paa) false (omega arith) (sym (past-zones (8 * paa) (omega arith))) refl))
 
-pub aun-odd : (aun : ℕ) → (aun % 2 ≡ 0 → ⊥) → record { judged = NoMultiple; psn = record { 0 = 0 } } ≡ aunToPsn aun
+pub aun-odd : (aun : ℕ) → (aun % 2 ≡ 0 → ⊥) → record { answer = NoMultiple 0; psn = record { 0 = 0 } } ≡ aunToPsn aun
 unfolding aunToPsn
 aun-odd aun h = rw (ne-eqb (aun % 2) 0 h)
 
-pub aun-even : (aun : ℕ) (r : PsnAnswer) → aun % 2 ≡ 0 → r ≡ psnAnswer (judged (aun / 32 * 32)) (aun / 32 * 32) → r ≡ aunToPsn aun
+pub aun-even : (aun : ℕ) (r : PsnAnswer) → aun % 2 ≡ 0 → r ≡ withPsn (judged (aun / 32 * 32)) (aun / 32 * 32) → r ≡ aunToPsn aun
 unfolding aunToPsn
 aun-even aun r h e = rw (eq-eqb (aun % 2) 0 h) e

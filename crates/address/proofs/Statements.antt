@@ -9,10 +9,12 @@ use borrow.Author.Tests.{eqb-true, eq-eqb, leb-true, le-leb}
 use native.Mathlib.Nat.{mul-mod-right, mul-div-cancel-left}
 use lib.Arith.{digits-mod}
 use lib.Dec.{leb, eqb}
+use Rattle.answer.specs.declared.Answer.{Answer}
+use Rattle.answer.specs.declared.Answer.the-variants.{Done, NoMultiple}
+use Rattle.answer.specs.Answer.{numberOf, isDone}
+use Rattle.answer.proofs.Tests.{done-is}
 use Rattle.address.specs.Zones.{Zone, zone0, zone1, zone2, within, firstOfCluster}
-use Rattle.address.specs.declared.Judged.{Judged}
-use Rattle.address.specs.declared.Judged.the-variants.{Accepted, NoMultiple, NoZone}
-use Rattle.address.specs.Judged.{judged, numberOf, ifAccepted}
+use Rattle.address.specs.Judged.{judged, ifDone}
 use Rattle.address.specs.Conversions.{aunOf, paaOf, psnToPaa, paaToPsn, aunToPsn, Leads, IsAunOf, IsPaaOf}
 use Rattle.address.proofs.Accepted.{accepted-multiple}
 
@@ -121,19 +123,18 @@ pub paa-bits : (psn : ℕ) → psn % 32 ≡ 0 → (paaOf psn / 2 ^ 22 ≡ psn / 
 paa-bits psn m = (omega arith, omega arith, omega arith)
 
 -- a refused PSN has no PAA, and gets that answer
-pub paa-refused : (psn : ℕ) → (judged psn ≡ Accepted → ⊥) → psnToPaa psn ≡ record { judged = judged psn; paa = record { 0 = 0 } }
+pub paa-refused : (psn : ℕ) → (judged psn ≡ Done → ⊥) → psnToPaa psn ≡ record { answer = judged psn; paa = record { 0 = 0 } }
 unfolding psnToPaa
-paa-refused psn refused = ap (λ (x : ℕ). record { judged = judged psn; paa = record { 0 = x } }) (by (judged psn) refl)
+paa-refused psn refused = ap (λ (x : ℕ). record { answer = judged psn; paa = record { 0 = x } }) (by (isDone (judged psn)) refl)
   where
-    by : (j : Judged) → judged psn ≡ j → ifAccepted j (paaOf psn) ≡ 0
-    by Accepted e = absurd (refused e)
-    by NoMultiple e = refl
-    by NoZone e = refl
+    by : (t : Bool) → isDone (judged psn) ≡ t → cond t (paaOf psn) 0 ≡ 0
+    by true e = absurd (refused (done-is (judged psn) e))
+    by false e = refl
 
 -- ---- back to the PSN
 
-if-accepted : (j : Judged) (x : ℕ) → j ≡ Accepted → ifAccepted j x ≡ x
-if-accepted j x e = ap (λ (k : Judged). ifAccepted k x) e
+if-done : (a : Answer) (x : ℕ) → a ≡ Done → ifDone a x ≡ x
+if-done a x e = ap (λ (b : Answer). ifDone b x) e
 
 -- every PAA of an accepted PSN leads back to it, and nothing else leads to a PSN
 pub paa-leads : (paa psn : ℕ) → Leads (paaToPsn paa) psn ↔ IsPaaOf psn paa
@@ -142,24 +143,24 @@ paa-leads paa psn = (only, back)
   where
     only : Leads (paaToPsn paa) psn → IsPaaOf psn paa
     only leads =
-        let own : 8 * paa ≡ psn = sym (if-accepted (judged (8 * paa)) (8 * paa) (leads .accepted)) ∙ leads .number in
+        let own : 8 * paa ≡ psn = sym (if-done (judged (8 * paa)) (8 * paa) (leads .accepted)) ∙ leads .number in
         record { accepted = ap judged (sym own) ∙ leads .accepted; number = omega (arith, own) }
 
     back : IsPaaOf psn paa → Leads (paaToPsn paa) psn
     back is =
         let own : 8 * paa ≡ psn = omega (arith, is .number, accepted-multiple psn (is .accepted)) in
-        let accepted : judged (8 * paa) ≡ Accepted = ap judged own ∙ is .accepted in
-        record { accepted = accepted; number = if-accepted (judged (8 * paa)) (8 * paa) accepted ∙ own }
+        let accepted : judged (8 * paa) ≡ Done = ap judged own ∙ is .accepted in
+        record { accepted = accepted; number = if-done (judged (8 * paa)) (8 * paa) accepted ∙ own }
 
 -- each of the sixteen AUNs of an accepted PSN leads back to it, and nothing else leads to a PSN
 pub aun-leads : (aun psn : ℕ) → Leads (aunToPsn aun) psn ↔ IsAunOf psn aun
 unfolding aunToPsn
 aun-leads aun psn = (λ leads. only (eqb (aun % 2) 0) refl (leads .accepted) (leads .number), back)
   where
-    only : (even : Bool) → eqb (aun % 2) 0 ≡ even → cond even (judged (aun / 32 * 32)) NoMultiple ≡ Accepted
-        → ifAccepted (cond even (judged (aun / 32 * 32)) NoMultiple) (aun / 32 * 32) ≡ psn → IsAunOf psn aun
+    only : (even : Bool) → eqb (aun % 2) 0 ≡ even → cond even (judged (aun / 32 * 32)) (NoMultiple 0) ≡ Done
+        → ifDone (cond even (judged (aun / 32 * 32)) (NoMultiple 0)) (aun / 32 * 32) ≡ psn → IsAunOf psn aun
     only true t accepted number =
-        let own : aun / 32 * 32 ≡ psn = sym (if-accepted (judged (aun / 32 * 32)) (aun / 32 * 32) accepted) ∙ number in
+        let own : aun / 32 * 32 ≡ psn = sym (if-done (judged (aun / 32 * 32)) (aun / 32 * 32) accepted) ∙ number in
         let even : aun % 2 ≡ 0 = eqb-true (aun % 2) 0 t in
         record { accepted = ap judged (sym own) ∙ accepted; unit = aun / 2 % 16; within = omega arith; number = omega (arith, own, even) }
     only false t accepted number = let no : _≡_ {A = ℕ} 6 0 = ap numberOf accepted in absurd (omega arith)
@@ -169,5 +170,5 @@ aun-leads aun psn = (λ leads. only (eqb (aun % 2) 0) refl (leads .accepted) (le
         let bits = aun-bits psn (is .unit) (is .within) in
         let even : eqb (aun % 2) 0 ≡ true = eq-eqb (aun % 2) 0 (ap (λ (x : ℕ). x % 2) (is .number) ∙ bits .2) in
         let own : aun / 32 * 32 ≡ psn = omega (arith, ap (λ (x : ℕ). x / 32) (is .number) ∙ bits .0, accepted-multiple psn (is .accepted)) in
-        let accepted : cond (eqb (aun % 2) 0) (judged (aun / 32 * 32)) NoMultiple ≡ Accepted = rw (even, own) (is .accepted) in
-        record { accepted = accepted; number = if-accepted _ (aun / 32 * 32) accepted ∙ own }
+        let accepted : cond (eqb (aun % 2) 0) (judged (aun / 32 * 32)) (NoMultiple 0) ≡ Done = rw (even, own) (is .accepted) in
+        record { accepted = accepted; number = if-done _ (aun / 32 * 32) accepted ∙ own }

@@ -4,12 +4,12 @@ use mathlib.Core.Path.{_≡_}
 use mathlib.Core.Bool.{cond}
 use Prim.Native.Nat.{ℕ, _+_, _*_, _/_, _%_, _<_}
 use lib.Dec.{leb, eqb}
-use Rattle.address.specs.declared.Judged.{Judged}
-use Rattle.address.specs.declared.Judged.the-variants.{Accepted, NoMultiple}
+use Rattle.answer.specs.declared.Answer.{Answer}
+use Rattle.answer.specs.declared.Answer.the-variants.{Done, NoMultiple}
 use Rattle.address.specs.declared.PsnAnswer.{PsnAnswer}
 use Rattle.address.specs.declared.AunAnswer.{AunAnswer}
 use Rattle.address.specs.declared.PaaAnswer.{PaaAnswer}
-use Rattle.address.specs.Judged.{judged, ifAccepted}
+use Rattle.address.specs.Judged.{judged, ifDone}
 
 -- AU31 to AU5 are PS31 to PS5, AU4 to AU1 count the address units of the cluster, AU0 is ZERO
 abbrev pub aunOf : ℕ → ℕ → ℕ
@@ -22,39 +22,39 @@ paaOf psn = psn / 8
 
 -- PSN to PAA
 unfoldable pub psnToPaa : ℕ → PaaAnswer
-psnToPaa psn = record { judged = judged psn; paa = record { 0 = ifAccepted (judged psn) (paaOf psn) } }
+psnToPaa psn = record { answer = judged psn; paa = record { 0 = ifDone (judged psn) (paaOf psn) } }
 
 -- PSN and address unit to AUN; 0 for a unit above 15
 unfoldable pub psnToAun : ℕ → ℕ → AunAnswer
-psnToAun psn unit = record { judged = judged psn; aun = record { 0 = cond (leb unit 15) (ifAccepted (judged psn) (aunOf psn unit)) 0 } }
+psnToAun psn unit = record { answer = judged psn; aun = record { 0 = cond (leb unit 15) (ifDone (judged psn) (aunOf psn unit)) 0 } }
 
--- a judgement, with the PSN that it accepts
-abbrev pub psnAnswer : Judged → ℕ → PsnAnswer
-psnAnswer j psn = record { judged = j; psn = record { 0 = ifAccepted j psn } }
+-- an answer, with the PSN that it is given of
+abbrev pub withPsn : Answer → ℕ → PsnAnswer
+withPsn answer psn = record { answer = answer; psn = record { 0 = ifDone answer psn } }
 
 -- PAA to PSN: that of the cluster whose first word has the PAA
 unfoldable pub paaToPsn : ℕ → PsnAnswer
-paaToPsn paa = psnAnswer (judged (8 * paa)) (8 * paa)
+paaToPsn paa = withPsn (judged (8 * paa)) (8 * paa)
 
 -- AUN to the PSN of its cluster; 6 where AU0 is ONE
 unfoldable pub aunToPsn : ℕ → PsnAnswer
-aunToPsn aun = psnAnswer (cond (eqb (aun % 2) 0) (judged (aun / 32 * 32)) NoMultiple) (aun / 32 * 32)
+aunToPsn aun = withPsn (cond (eqb (aun % 2) 0) (judged (aun / 32 * 32)) (NoMultiple 0)) (aun / 32 * 32)
 
 -- ---- what the way back means (proofs/Statements: aun-leads, paa-leads)
 
 -- the answer is an accepted PSN, this one
 pub record Leads (answer : PsnAnswer) (psn : ℕ) : Type 0 where
-  pub accepted : answer .judged ≡ Accepted
+  pub accepted : answer .answer ≡ Done
   pub number : answer .psn .0 ≡ psn
 
 -- one of the sixteen AUNs of an accepted PSN
 pub record IsAunOf (psn aun : ℕ) : Type 0 where
-  pub accepted : judged psn ≡ Accepted
+  pub accepted : judged psn ≡ Done
   pub unit : ℕ
   pub within : unit < 16
   pub number : aun ≡ aunOf psn unit
 
 -- the PAA of an accepted PSN; a refused one has none
 pub record IsPaaOf (psn paa : ℕ) : Type 0 where
-  pub accepted : judged psn ≡ Accepted
+  pub accepted : judged psn ≡ Done
   pub number : paa ≡ paaOf psn

@@ -1,8 +1,9 @@
 // The three numberings of clause 13.9.2.3 and 17.2. A place that takes one is never handed another.
+use answer::Answer;
 ghost use mathlib.Core.Path.{_≡_};
 ghost use Rattle.address.specs.Zones.{Zone, within, inDataZone};
-ghost use Rattle.address.specs.Judged.{judged, ifAccepted};
-ghost use Rattle.address.specs.Conversions.{psnAnswer, psnToPaa, paaToPsn, psnToAun, aunToPsn};
+ghost use Rattle.address.specs.Judged.{judged, ifDone};
+ghost use Rattle.address.specs.Conversions.{withPsn, psnToPaa, paaToPsn, psnToAun, aunToPsn};
 
 // Physical sector number of a cluster's first sector.
 pub struct Psn(pub u32);
@@ -13,28 +14,21 @@ pub struct Aun(pub u32);
 // Physical ADIP address of a cluster's first word.
 pub struct Paa(pub u32);
 
-// What is answered of a PSN: 0, 6 or 7 (numberOf).
-pub enum Judged {
-    Accepted,
-    NoMultiple,
-    NoZone,
-}
-
 // A PSN, 0 where the input is refused.
 pub struct PsnAnswer {
-    pub judged: Judged,
+    pub answer: Answer,
     pub psn: Psn,
 }
 
 // An AUN, 0 where the input is refused.
 pub struct AunAnswer {
-    pub judged: Judged,
+    pub answer: Answer,
     pub aun: Aun,
 }
 
 // A PAA, 0 where the input is refused.
 pub struct PaaAnswer {
-    pub judged: Judged,
+    pub answer: Answer,
     pub paa: Paa,
 }
 
@@ -59,62 +53,61 @@ fn in_data_zone(psn: u32) -> bool
     within(0x0410_0000, 0x0508_9BFF, psn)
 }
 
-fn if_accepted(judged: Judged, x: u32) -> u32
-    ensures { λ r. ⌜ r ≡ ifAccepted judged x ⌝ }
+fn if_done(answer: Answer, x: u32) -> u32
+    ensures { λ r. ⌜ r ≡ ifDone answer x ⌝ }
 {
-    match judged {
-        Judged::Accepted => x,
-        Judged::NoMultiple => 0,
-        Judged::NoZone => 0,
+    if answer.is_done() {
+        return x;
     }
+    0
 }
 
 impl Psn {
-    // Whether a cluster may start at this sector.
-    pub fn judge(self) -> Judged
+    // Whether a cluster may start at this sector: 0, 6 or 7.
+    pub fn judge(self) -> Answer
         ensures { λ r. ⌜ r ≡ judged (self .0) ⌝ }
     {
         let psn = self.0;
         if psn % 32 != 0 {
-            return Judged::NoMultiple;
+            return Answer::NoMultiple(0);
         }
         if in_data_zone(psn) {
-            return Judged::Accepted;
+            return Answer::Done;
         }
-        Judged::NoZone
+        Answer::NoZone(0)
     }
 
     // The PAA of the cluster's first word.
     pub fn paa(self) -> PaaAnswer
         ensures { λ r. ⌜ r ≡ psnToPaa (self .0) ⌝ }
     {
-        let judged = self.judge();
-        let paa = Paa(if_accepted(judged, self.0 / 8));
-        PaaAnswer { judged, paa }
+        let answer = self.judge();
+        let paa = Paa(if_done(answer, self.0 / 8));
+        PaaAnswer { answer, paa }
     }
 
     // The AUN of an address unit, 0 to 15, of the cluster.
     pub fn aun(self, unit: u32) -> AunAnswer
         ensures { λ r. ⌜ r ≡ psnToAun (self .0) unit ⌝ }
     {
-        let judged = self.judge();
+        let answer = self.judge();
         if 15 < unit {
             return AunAnswer {
-                judged,
+                answer,
                 aun: Aun(0),
             };
         }
-        let aun = Aun(if_accepted(judged, self.0 / 32 * 32 + unit * 2));
-        AunAnswer { judged, aun }
+        let aun = Aun(if_done(answer, self.0 / 32 * 32 + unit * 2));
+        AunAnswer { answer, aun }
     }
 
-    // The PSN itself, judged.
+    // The PSN itself with its answer.
     fn own(self) -> PsnAnswer
-        ensures { λ r. ⌜ r ≡ psnAnswer (judged (self .0)) (self .0) ⌝ }
+        ensures { λ r. ⌜ r ≡ withPsn (judged (self .0)) (self .0) ⌝ }
     {
-        let judged = self.judge();
-        let psn = Psn(if_accepted(judged, self.0));
-        PsnAnswer { judged, psn }
+        let answer = self.judge();
+        let psn = Psn(if_done(answer, self.0));
+        PsnAnswer { answer, psn }
     }
 }
 
@@ -126,13 +119,13 @@ impl Paa {
         let paa = self.0;
         if paa % 4 != 0 {
             return PsnAnswer {
-                judged: Judged::NoMultiple,
+                answer: Answer::NoMultiple(0),
                 psn: Psn(0),
             };
         }
         if 0x1FFF_FFFF < paa {
             return PsnAnswer {
-                judged: Judged::NoZone,
+                answer: Answer::NoZone(0),
                 psn: Psn(0),
             };
         }
@@ -148,7 +141,7 @@ impl Aun {
         let aun = self.0;
         if aun % 2 != 0 {
             return PsnAnswer {
-                judged: Judged::NoMultiple,
+                answer: Answer::NoMultiple(0),
                 psn: Psn(0),
             };
         }

@@ -1,2 +1,3 @@
--- Laws of tests one after the other.
+-- Laws of tests one after the other, and of the lengths.
 pub mod Tests
+pub mod RightLengths

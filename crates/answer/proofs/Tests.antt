@@ -8,18 +8,18 @@ use borrow.Author.Tests.{eq-eqb, ne-eqb, eqb-true, lt-ltb, le-ltb}
 use lib.Dec.{eqb}
 use Rattle.answer.specs.declared.Answer.{Answer}
 use Rattle.answer.specs.declared.Answer.the-variants.{Done, WrongUser, WrongSide, WrongDc, WrongImage, WrongWork, NoMultiple, NoZone, DcWord, LastBits, Sync, Frame, BisColumn, AddressUnit, NoPsn, LdcColumn, Sector}
-use Rattle.answer.specs.Answer.{numberOf, isDone, andThen, lowest, lengthsAnswer}
+use Rattle.answer.specs.Answer.{numberOf, isDone, andThen, lowest, sized}
 
 -- the answer whose number is 0 is `Done`
 pub number-zero : (a : Answer) → numberOf a ≡ 0 → a ≡ Done
 number-zero Done e = refl
-number-zero WrongUser e = absurd (omega arith)
+number-zero (WrongUser n) e = absurd (omega arith)
 number-zero WrongSide e = absurd (omega arith)
 number-zero WrongDc e = absurd (omega arith)
 number-zero WrongImage e = absurd (omega arith)
 number-zero WrongWork e = absurd (omega arith)
-number-zero NoMultiple e = absurd (omega arith)
-number-zero NoZone e = absurd (omega arith)
+number-zero (NoMultiple n) e = absurd (omega arith)
+number-zero (NoZone n) e = absurd (omega arith)
 number-zero (DcWord n) e = absurd (omega arith)
 number-zero LastBits e = absurd (omega arith)
 number-zero (Sync n) e = absurd (omega arith)
@@ -32,6 +32,10 @@ number-zero (Sector n) e = absurd (omega arith)
 
 pub done-is : (a : Answer) → isDone a ≡ true → a ≡ Done
 done-is a e = number-zero a (eqb-true (numberOf a) 0 e)
+
+-- as the code has it: r is what was answered, d whether it is `Done`
+pub done-told : {a r : Answer} {d : Bool} → r ≡ a → d ≡ isDone r → d ≡ true → a ≡ Done
+done-told {r = r} hr hd e = sym hr ∙ done-is r (sym hd ∙ e)
 
 pub done-or-not : (a : Answer) → (numberOf a ≡ 0 → ⊥) → isDone a ≡ false
 done-or-not a h = ne-eqb (numberOf a) 0 h
@@ -95,64 +99,18 @@ module _ (refusal : ℕ → Answer) (next : Answer) {n i j : ℕ} (e : i ≡ j) 
   pub go-on : n ≤ i → next ≡ andThen (lowest refusal n j) next
   go-on h = sym (ap (λ (k : ℕ). andThen (lowest refusal n k) next) (sym e) ∙ ap (λ (x : Answer). andThen x next) (lowest-none refusal h))
 
--- ---- the lengths
+-- ---- a length
 
-module _ (u s d i w : ℕ) where
-  pub wrong-user : (u ≡ 65536 → ⊥) → WrongUser ≡ lengthsAnswer u s d i w
-  wrong-user hu = rw (ne-eqb u 65536 hu)
+module _ {size right : ℕ} (refusal : Answer) where
+  pub sized-right : size ≡ right → sized size right refusal ≡ Done
+  sized-right e = rw (eq-eqb size right e)
 
-  pub wrong-side : u ≡ 65536 → (s ≡ 592 → ⊥) → WrongSide ≡ lengthsAnswer u s d i w
-  wrong-side hu hs = rw (eq-eqb u 65536 hu, ne-eqb s 592 hs)
+  pub sized-wrong : (size ≡ right → ⊥) → sized size right refusal ≡ refusal
+  sized-wrong h = rw (ne-eqb size right h)
 
-  pub wrong-dc : u ≡ 65536 → s ≡ 592 → (d ≡ 496 → ⊥) → WrongDc ≡ lengthsAnswer u s d i w
-  wrong-dc hu hs hd = rw (eq-eqb u 65536 hu, eq-eqb s 592 hs, ne-eqb d 496 hd)
-
-  pub wrong-image : u ≡ 65536 → s ≡ 592 → d ≡ 496 → (i ≡ 119788 → ⊥) → WrongImage ≡ lengthsAnswer u s d i w
-  wrong-image hu hs hd hi = rw (eq-eqb u 65536 hu, eq-eqb s 592 hs, eq-eqb d 496 hd, ne-eqb i 119788 hi)
-
-  pub wrong-work : u ≡ 65536 → s ≡ 592 → d ≡ 496 → i ≡ 119788 → (w ≡ 76880 → ⊥) → WrongWork ≡ lengthsAnswer u s d i w
-  wrong-work hu hs hd hi hw = rw (eq-eqb u 65536 hu, eq-eqb s 592 hs, eq-eqb d 496 hd, eq-eqb i 119788 hi, ne-eqb w 76880 hw)
-
-  pub right-lengths : u ≡ 65536 → s ≡ 592 → d ≡ 496 → i ≡ 119788 → w ≡ 76880 → Done ≡ lengthsAnswer u s d i w
-  right-lengths hu hs hd hi hw = rw (eq-eqb u 65536 hu, eq-eqb s 592 hs, eq-eqb d 496 hd, eq-eqb i 119788 hi, eq-eqb w 76880 hw)
-
--- all five are right
-pub record Sizes (u s d i w : ℕ) : Type 0 where
-  pub user : u ≡ 65536
-  pub side : s ≡ 592
-  pub dc : d ≡ 496
-  pub image : i ≡ 119788
-  pub work : w ≡ 76880
-
--- the number of a refusal by 1 to 5
-pub lengths-number : (u s d i w : ℕ) → numberOf (lengthsAnswer u s d i w) ≤ 5
-lengths-number u s d i w =
-    by (eqb u 65536) _ WrongUser (by (eqb s 592) _ WrongSide (by (eqb d 496) _ WrongDc (by (eqb i 119788) _ WrongImage (by (eqb w 76880) Done WrongWork (omega arith) (omega arith)) (omega arith)) (omega arith)) (omega arith)) (omega arith)
-  where
-    by : (t : Bool) (x y : Answer) → numberOf x ≤ 5 → numberOf y ≤ 5 → numberOf (cond t x y) ≤ 5
-    by true x y hx hy = hx
-    by false x y hx hy = hy
-
--- a test that is passed: its refusal is no `Done`
-passed : (t : Bool) (next refusal : Answer) → isDone refusal ≡ false → cond t next refusal ≡ Done → (t ≡ true) × (next ≡ Done)
-passed true next refusal r e = (refl, e)
-passed false next refusal r e = absurd (done-not refusal r e)
-
-pub lengths-done : (u s d i w : ℕ) → lengthsAnswer u s d i w ≡ Done → Sizes u s d i w
-lengths-done u s d i w e =
-    let p1 = passed (eqb u 65536) _ WrongUser refl e in
-    let p2 = passed (eqb s 592) _ WrongSide refl (p1 .1) in
-    let p3 = passed (eqb d 496) _ WrongDc refl (p2 .1) in
-    let p4 = passed (eqb i 119788) _ WrongImage refl (p3 .1) in
-    let p5 = passed (eqb w 76880) _ WrongWork refl (p4 .1) in
-    record {
-      user = eqb-true u 65536 (p1 .0);
-      side = eqb-true s 592 (p2 .0);
-      dc = eqb-true d 496 (p3 .0);
-      image = eqb-true i 119788 (p4 .0);
-      work = eqb-true w 76880 (p5 .0);
-    }
-
--- as the code has it
-pub sizes-passed : (u s d i w : ℕ) {r : Answer} {t : Bool} → r ≡ lengthsAnswer u s d i w → t ≡ isDone r → t ≡ true → Sizes u s d i w
-sizes-passed u s d i w hr ht e = lengths-done u s d i w (sym hr ∙ done-is _ (sym ht ∙ e))
+  pub sized-done : isDone refusal ≡ false → sized size right refusal ≡ Done → size ≡ right
+  sized-done r e = by (eqb size right) refl e
+    where
+      by : (t : Bool) → eqb size right ≡ t → cond t Done refusal ≡ Done → size ≡ right
+      by true t e = eqb-true size right t
+      by false t e = absurd (done-not refusal r e)

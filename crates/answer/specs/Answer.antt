@@ -7,13 +7,13 @@ use Rattle.answer.specs.declared.Answer.the-variants.{Done, WrongUser, W
 
 abbrev pub numberOf : Answer → ℕ
 numberOf Done = 0
-numberOf WrongUser = 1
+numberOf (WrongUser n) = 1
 numberOf WrongSide = 2
 numberOf WrongDc = 3
 numberOf WrongImage = 4
 numberOf WrongWork = 5
-numberOf NoMultiple = 6
-numberOf NoZone = 7
+numberOf (NoMultiple n) = 6
+numberOf (NoZone n) = 7
 numberOf (DcWord n) = 8
 numberOf LastBits = 9
 numberOf (Sync n) = 10
@@ -26,13 +26,13 @@ numberOf (Sector n) = 16
 
 abbrev pub placeOf : Answer → ℕ
 placeOf Done = 0
-placeOf WrongUser = 0
+placeOf (WrongUser n) = n
 placeOf WrongSide = 0
 placeOf WrongDc = 0
 placeOf WrongImage = 0
 placeOf WrongWork = 0
-placeOf NoMultiple = 0
-placeOf NoZone = 0
+placeOf (NoMultiple n) = n
+placeOf (NoZone n) = n
 placeOf (DcWord n) = n
 placeOf LastBits = 0
 placeOf (Sync n) = n
@@ -56,7 +56,6 @@ andThen a next = cond (isDone a) next a
 abbrev pub lowest : (ℕ → Answer) → ℕ → ℕ → Answer
 lowest refusal n i = cond (ltb i n) (refusal i) Done
 
--- 1 to 5: the lengths
-abbrev pub lengthsAnswer : ℕ → ℕ → ℕ → ℕ → ℕ → Answer
-lengthsAnswer user side dc image work =
-    cond (eqb user 65536) (cond (eqb side 592) (cond (eqb dc 496) (cond (eqb image 119788) (cond (eqb work 76880) Done WrongWork) WrongImage) WrongDc) WrongSide) WrongUser
+-- a test of a length that has to be `right`
+abbrev pub sized : ℕ → ℕ → Answer → Answer
+sized size right refusal = cond (eqb size right) Done refusal

@@ -1,2 +1,3 @@
 -- The answers of document 01.
 pub mod Answer
+pub mod Lengths

@@ -1,16 +1,19 @@
-// What the writer and the reader answer: a case for each row of document 01's table of returned numbers.
+// What operations answer: a case for each row of document 01's table of returned numbers.
 ghost use mathlib.Core.Path.{_≡_};
-ghost use Rattle.answer.specs.Answer.{numberOf, placeOf, isDone, lengthsAnswer};
+ghost use Rattle.answer.specs.Answer.{numberOf, placeOf, isDone, andThen, sized};
+ghost use Rattle.answer.specs.Lengths.{lengthsAnswer};
 
 pub enum Answer {
     Done,
-    WrongUser,
+    // Which of the slices of user bytes, where an operation takes more than one.
+    WrongUser(usize),
     WrongSide,
     WrongDc,
     WrongImage,
     WrongWork,
-    NoMultiple,
-    NoZone,
+    // Which of the PSNs, where an operation takes more than one.
+    NoMultiple(usize),
+    NoZone(usize),
     // The lowest dc word above 0FFFFFFFh.
     DcWord(usize),
     LastBits,
@@ -32,13 +35,13 @@ impl Answer {
     {
         match self {
             Answer::Done => 0,
-            Answer::WrongUser => 1,
+            Answer::WrongUser(_) => 1,
             Answer::WrongSide => 2,
             Answer::WrongDc => 3,
             Answer::WrongImage => 4,
             Answer::WrongWork => 5,
-            Answer::NoMultiple => 6,
-            Answer::NoZone => 7,
+            Answer::NoMultiple(_) => 6,
+            Answer::NoZone(_) => 7,
             Answer::DcWord(_) => 8,
             Answer::LastBits => 9,
             Answer::Sync(_) => 10,
@@ -57,13 +60,13 @@ impl Answer {
     {
         match self {
             Answer::Done => 0,
-            Answer::WrongUser => 0,
+            Answer::WrongUser(n) => n,
             Answer::WrongSide => 0,
             Answer::WrongDc => 0,
             Answer::WrongImage => 0,
             Answer::WrongWork => 0,
-            Answer::NoMultiple => 0,
-            Answer::NoZone => 0,
+            Answer::NoMultiple(n) => n,
+            Answer::NoZone(n) => n,
             Answer::DcWord(n) => n,
             Answer::LastBits => 0,
             Answer::Sync(n) => n,
@@ -81,26 +84,36 @@ impl Answer {
     {
         self.number() == 0
     }
+
+    // Two tests in rising order: the second speaks where the first is passed.
+    pub fn and_then(self, next: Answer) -> Answer
+        ensures { λ r. ⌜ r ≡ andThen self next ⌝ }
+    {
+        if self.is_done() {
+            return next;
+        }
+        self
+    }
+}
+
+// A length that has to be `right`; the refusal where it is another.
+pub fn sized(size: usize, right: usize, refusal: Answer) -> Answer
+    ensures { λ r. ⌜ r ≡ sized size right refusal ⌝ }
+{
+    if size != right {
+        return refusal;
+    }
+    Answer::Done
 }
 
 // Tests 1 to 5: the lengths of the lent slices.
 pub fn lengths(user: usize, side: usize, dc: usize, image: usize, work: usize) -> Answer
     ensures { λ r. ⌜ r ≡ lengthsAnswer user side dc image work ⌝ }
 {
-    if user != 65536 {
-        return Answer::WrongUser;
-    }
-    if side != 592 {
-        return Answer::WrongSide;
-    }
-    if dc != 496 {
-        return Answer::WrongDc;
-    }
-    if image != 119788 {
-        return Answer::WrongImage;
-    }
-    if work != 76880 {
-        return Answer::WrongWork;
-    }
-    Answer::Done
+    let one = sized(user, 65536, Answer::WrongUser(0));
+    let two = sized(side, 592, Answer::WrongSide);
+    let three = sized(dc, 496, Answer::WrongDc);
+    let four = sized(image, 119788, Answer::WrongImage);
+    let five = sized(work, 76880, Answer::WrongWork);
+    one.and_then(two.and_then(three.and_then(four.and_then(five))))
 }

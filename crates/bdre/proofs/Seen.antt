@@ -5,7 +5,6 @@ use mathlib.Core.List.{List}
 use Prim.Native.Nat.{ℕ}
 use Rattle.answer.specs.declared.Answer.{Answer}
 use Rattle.answer.specs.Answer as Answer
-use Rattle.address.specs.Judged as Judged
 use Rattle.address.specs.declared.PsnAnswer.{PsnAnswer}
 use Rattle.address.specs.declared.AunAnswer.{AunAnswer}
 use Rattle.address.specs.declared.PaaAnswer.{PaaAnswer}
@@ -64,13 +63,13 @@ same-marking kind number psn place v lent m F P hk hn hs hp h = (
   λ f. same-pass kind v P hk (h .1 f),
 )
 
--- ---- conversions: a is what the conversion gave, b what it is defined to give
+-- ---- conversions: r is what is returned, a what the conversion gave, b what it is defined to give
 
-pub same-psn : (number : ℕ) (a b : PsnAnswer) → number ≡ Judged.numberOf (a .judged) → a ≡ b → record { number = number; value = a .psn .0 } ≡ psnSeen b
-same-psn number a b hn h = ap (λ (n : ℕ). record { number = n; value = a .psn .0 }) hn ∙ ap psnSeen h
+pub same-psn : (r : Number) (a b : PsnAnswer) → r ≡ psnSeen a → a ≡ b → r ≡ psnSeen b
+same-psn r a b hr h = hr ∙ ap psnSeen h
 
-pub same-aun : (number : ℕ) (a b : AunAnswer) → number ≡ Judged.numberOf (a .judged) → a ≡ b → record { number = number; value = a .aun .0 } ≡ aunSeen b
-same-aun number a b hn h = ap (λ (n : ℕ). record { number = n; value = a .aun .0 }) hn ∙ ap aunSeen h
+pub same-aun : (r : Number) (a b : AunAnswer) → r ≡ aunSeen a → a ≡ b → r ≡ aunSeen b
+same-aun r a b hr h = hr ∙ ap aunSeen h
 
-pub same-paa : (number : ℕ) (a b : PaaAnswer) → number ≡ Judged.numberOf (a .judged) → a ≡ b → record { number = number; value = a .paa .0 } ≡ paaSeen b
-same-paa number a b hn h = ap (λ (n : ℕ). record { number = n; value = a .paa .0 }) hn ∙ ap paaSeen h
+pub same-paa : (r : Number) (a b : PaaAnswer) → r ≡ paaSeen a → a ≡ b → r ≡ paaSeen b
+same-paa r a b hr h = hr ∙ ap paaSeen h

@@ -1,8 +1,8 @@
 // The operations for programs in other languages, as a static library; include/bdre.h declares them for C. Numbers and slices only.
 use address::Aun;
-use address::Judged;
 use address::Paa;
 use address::Psn;
+use answer::Answer;
 use marker::Verdict;
 ghost use mathlib.Core.Path.{_≡_};
 ghost use mathlib.Core.Logic.{_↔_};
@@ -10,11 +10,10 @@ ghost use Rattle.image.specs.Image.{Input};
 ghost use Rattle.writer.specs.Outcome as writer;
 ghost use Rattle.reader.specs.Outcome as reader;
 ghost use Rattle.writer.specs.Promise.{WritesExactly};
-ghost use Rattle.reader.specs.Promise.{Fitting, ReadsExactly};
+ghost use Rattle.reader.specs.Promise.{RightSlices, ReadsExactly};
 ghost use Rattle.marker.specs.Marked.{IsImageOf, marked};
 ghost use Rattle.address.specs.Conversions.{psnToPaa, paaToPsn, psnToAun, aunToPsn};
-ghost use Rattle.address.specs.Judged.{numberOf};
-ghost use Rattle.bdre.specs.Seen.{Writing, Reading, Marking, Number, kindOf, refusalIn, psnIn, placeIn, writing, reading, marking, psnSeen, aunSeen, paaSeen};
+ghost use Rattle.bdre.specs.Seen.{Writing, Reading, Marking, Number, kindOf, refusalIn, psnIn, placeIn, writing, reading, marking, numbered, psnSeen, aunSeen, paaSeen};
 
 // Document 01's number and place.
 #[repr(C)]
@@ -48,13 +47,12 @@ pub struct Converted {
     pub value: u32,
 }
 
-fn number_of(judged: Judged) -> u32
-    ensures { λ r. ⌜ r ≡ numberOf judged ⌝ }
+fn numbered(given: Answer, value: u32) -> Converted
+    ensures { λ r. ⌜ record { number = r .number; value = r .value } ≡ numbered given value ⌝ }
 {
-    match judged {
-        Judged::Accepted => 0,
-        Judged::NoMultiple => 6,
-        Judged::NoZone => 7,
+    Converted {
+        number: given.number(),
+        value,
     }
 }
 
@@ -165,7 +163,7 @@ pub extern "C" fn bdre_mark_image(
 ) -> Marking
     ensures { λ r. ⌜ record { verdict = r .verdict; number = r .number; psn = r .psn; place = r .place; lent = record { user = now (bytes .exit); side = now (control .exit); dc = now (dc .exit); work = now (work .exit) } }
         ≡ marking (marked psn (now (user .entry)) (now (side .entry)) (now (image .entry)) (record { user = now (bytes .entry); side = now (control .entry); dc = now (dc .entry); work = now (work .entry) })) ⌝ }
-    ensures { λ r. ⌜ (Fitting (record { user = now (bytes .entry); side = now (control .entry); dc = now (dc .entry); work = now (work .entry) })
+    ensures { λ r. ⌜ (RightSlices (record { user = now (bytes .entry); side = now (control .entry); dc = now (dc .entry); work = now (work .entry) })
         → (r .verdict ≡ 0) ↔ IsImageOf psn (now (user .entry)) (now (side .entry)) (now (image .entry))) ⌝ }
 {
     let verdict = marker::mark(Psn(psn), user, side, image, bytes, control, dc, work);
@@ -182,12 +180,9 @@ pub extern "C" fn bdre_mark_image(
 pub extern "C" fn bdre_psn_to_paa(psn: u32) -> Converted
     ensures { λ r. ⌜ record { number = r .number; value = r .value } ≡ paaSeen (psnToPaa psn) ⌝ }
 {
-    let answer = Psn(psn).paa();
-    let judged = answer.judged;
-    Converted {
-        number: number_of(judged),
-        value: answer.paa.0,
-    }
+    let found = Psn(psn).paa();
+    let answer = found.answer;
+    numbered(answer, found.paa.0)
 }
 
 // The AUN of an address unit, 0 to 15, of the cluster at a PSN; 0 for a unit above 15.
@@ -195,12 +190,9 @@ pub extern "C" fn bdre_psn_to_paa(psn: u32) -> Converted
 pub extern "C" fn bdre_psn_to_aun(psn: u32, unit: u32) -> Converted
     ensures { λ r. ⌜ record { number = r .number; value = r .value } ≡ aunSeen (psnToAun psn unit) ⌝ }
 {
-    let answer = Psn(psn).aun(unit);
-    let judged = answer.judged;
-    Converted {
-        number: number_of(judged),
-        value: answer.aun.0,
-    }
+    let found = Psn(psn).aun(unit);
+    let answer = found.answer;
+    numbered(answer, found.aun.0)
 }
 
 // The PSN of the cluster whose first word has a PAA.
@@ -208,12 +200,9 @@ pub extern "C" fn bdre_psn_to_aun(psn: u32, unit: u32) -> Converted
 pub extern "C" fn bdre_paa_to_psn(paa: u32) -> Converted
     ensures { λ r. ⌜ record { number = r .number; value = r .value } ≡ psnSeen (paaToPsn paa) ⌝ }
 {
-    let answer = Paa(paa).psn();
-    let judged = answer.judged;
-    Converted {
-        number: number_of(judged),
-        value: answer.psn.0,
-    }
+    let found = Paa(paa).psn();
+    let answer = found.answer;
+    numbered(answer, found.psn.0)
 }
 
 // The PSN of the cluster that holds the address unit with an AUN.
@@ -221,10 +210,7 @@ pub extern "C" fn bdre_paa_to_psn(paa: u32) -> Converted
 pub extern "C" fn bdre_aun_to_psn(aun: u32) -> Converted
     ensures { λ r. ⌜ record { number = r .number; value = r .value } ≡ psnSeen (aunToPsn aun) ⌝ }
 {
-    let answer = Aun(aun).psn();
-    let judged = answer.judged;
-    Converted {
-        number: number_of(judged),
-        value: answer.psn.0,
-    }
+    let found = Aun(aun).psn();
+    let answer = found.answer;
+    numbered(answer, found.psn.0)
 }

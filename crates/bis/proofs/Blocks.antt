@@ -12,7 +12,7 @@ use Rattle.laws.specs.Bytes.{Bytes}
 use Rattle.laws.proofs.Bytes.{bytes-append, bytes-tabulate}
 use Rattle.laws.proofs.Tabulate.{length-tabulate, getD-tabulate, is-tabulate}
 use Rattle.laws.proofs.First.{first-none, first-all}
-use Rattle.address.specs.declared.Judged.the-variants.{Accepted}
+use Rattle.answer.specs.declared.Answer.the-variants.{Done}
 use Rattle.address.specs.Judged.{judged}
 use Rattle.address.specs.Conversions.{aunOf}
 use Rattle.column.specs.Column.{generator, MultipleOf, parity, hasRoots}
@@ -42,7 +42,7 @@ module _ (fields : List (List ℕ)) (side : List ℕ) (C : ℕ) where
 
 -- ---- a block that was written
 
-module _ (psn : ℕ) (side : List ℕ) (accepted : judged psn ≡ Accepted) (bytes : Bytes side) where
+module _ (psn : ℕ) (side : List ℕ) (accepted : judged psn ≡ Done) (bytes : Bytes side) where
   getD-fields : (y : ℕ) → y < 16 → getD (addressFields psn side) y [] ≡ addressField (aunOf psn y) (getD side y 0)
   unfolding addressFields fieldOf
   getD-fields y h = getD-tabulate 16 (fieldOf psn side) y [] h

@@ -7,33 +7,32 @@ use native.Mathlib.Omega.{arith}
 use borrow.Author.Tests.{eq-eqb, eqb-true, ltb-false, not-false}
 use lib.Dec.{eqb, ltb}
 use Rattle.laws.proofs.First.{first-none, first-all}
-use Rattle.address.specs.declared.Judged.{Judged}
-use Rattle.address.specs.declared.Judged.the-variants.{Accepted, NoMultiple, NoZone}
+use Rattle.answer.specs.Answer.{isDone}
+use Rattle.answer.proofs.Tests.{done-is}
 use Rattle.address.specs.declared.Psn.{Psn}
 use Rattle.address.specs.Judged.{judged}
 use Rattle.address.specs.Conversions.{aunOf, aunToPsn}
 use Rattle.address.proofs.Accepted.{unit-zero, answered-back, answered-accepted}
 use Rattle.bis.specs.declared.PsnFound.the-variants.{Found, NotFound}
-use Rattle.bis.specs.Reading.{aunAt, IsPsnOf, isAccepted, otherUnit, firstOtherUnit, foundIf, psnIn}
+use Rattle.bis.specs.Reading.{aunAt, IsPsnOf, otherUnit, firstOtherUnit, foundIf, psnIn}
 
 -- ---- what is found
 
-is-found : (j : Judged) (b : Bool) (p q : Psn) → cond (isAccepted j) (cond b NotFound (Found p)) NotFound ≡ Found q → (j ≡ Accepted) × (b ≡ false) × (p ≡ q)
-is-found Accepted true p q e = let no : _≡_ {A = ℕ} 0 1 = cc in absurd (omega arith)
-is-found Accepted false p q e = (refl, refl, cc)
-is-found NoMultiple b p q e = let no : _≡_ {A = ℕ} 0 1 = cc in absurd (omega arith)
-is-found NoZone b p q e = let no : _≡_ {A = ℕ} 0 1 = cc in absurd (omega arith)
+is-found : (t b : Bool) (p q : Psn) → cond t (cond b NotFound (Found p)) NotFound ≡ Found q → (t ≡ true) × (b ≡ false) × (p ≡ q)
+is-found true true p q e = let no : _≡_ {A = ℕ} 0 1 = cc in absurd (omega arith)
+is-found true false p q e = (refl, refl, cc)
+is-found false b p q e = let no : _≡_ {A = ℕ} 0 1 = cc in absurd (omega arith)
 
 module _ (block : List (List ℕ)) (psn : ℕ) where
   pub found-is : psnIn block ≡ Found (record { 0 = psn }) → IsPsnOf block psn
   unfolding psnIn firstOtherUnit otherUnit
   found-is e =
       let answer = aunToPsn (aunAt block 0) in
-      let found = is-found (answer .judged) (ltb (firstOtherUnit block (answer .psn .0)) 16) (answer .psn) (record { 0 = psn }) e in
+      let found = is-found (isDone (answer .answer)) (ltb (firstOtherUnit block (answer .psn .0)) 16) (answer .psn) (record { 0 = psn }) e in
       let same : answer .psn .0 ≡ psn = ap (λ (p : Psn). p .0) (found .2) in
       let all : 16 ≤ firstOtherUnit block psn = ltb-false (firstOtherUnit block psn) 16 (ap (λ (p : ℕ). ltb (firstOtherUnit block p) 16) (sym same) ∙ found .1) in
       record {
-        accepted = ap judged (sym same) ∙ answered-accepted (aunAt block 0) refl (found .0);
+        accepted = ap judged (sym same) ∙ answered-accepted (aunAt block 0) refl (done-is (answer .answer) (found .0));
         auns = λ y h. eqb-true (aunAt block y) (aunOf psn y) (not-false (eqb (aunAt block y) (aunOf psn y)) (first-all 16 (otherUnit block psn) all y h));
       }
 

@@ -7,7 +7,7 @@ use Prim.Native.Nat.{ℕ, _^_, _<_}
 use native.Mathlib.Omega.{arith}
 use lib.ListN.{length, getD}
 use Rattle.laws.specs.Bytes.{Bytes}
-use Rattle.address.specs.declared.Judged.the-variants.{Accepted}
+use Rattle.answer.specs.declared.Answer.the-variants.{Done}
 use Rattle.address.specs.declared.Psn.{Psn}
 use Rattle.address.specs.Judged.{judged}
 use Rattle.column.specs.Column.{generator, MultipleOf, hasRoots}
@@ -44,7 +44,7 @@ field-determined = field-only
 pub field-multiple : (aun flag : ℕ) → aun < 2 ^ 32 → flag < 256 → MultipleOf (generator 4) (primaryField aun flag)
 field-multiple = primary-multiple
 
-pub word-multiple : (psn : ℕ) (side : List ℕ) → judged psn ≡ Accepted → Side side → (C : ℕ) → C < 24 → MultipleOf (generator 32) (getD (bisBlock psn side) C [])
+pub word-multiple : (psn : ℕ) (side : List ℕ) → judged psn ≡ Done → Side side → (C : ℕ) → C < 24 → MultipleOf (generator 32) (getD (bisBlock psn side) C [])
 word-multiple psn side accepted is = column-multiple psn side accepted (is .bytes)
 
 -- ---- 14: the PSN that is found is accepted and has the sixteen AUNs, and such a PSN is found; none is found exactly where there is none
@@ -64,10 +64,10 @@ no-psn-found block = (none-is, by (psnIn block) refl)
 
 -- ---- a block that was written has 24 columns of 62 bytes, and is read back
 
-pub block-written : (psn : ℕ) (side : List ℕ) → judged psn ≡ Accepted → Side side → Block (bisBlock psn side)
+pub block-written : (psn : ℕ) (side : List ℕ) → judged psn ≡ Done → Side side → Block (bisBlock psn side)
 block-written psn side accepted is = written-block psn side accepted (is .bytes)
 
-pub read-back : (psn : ℕ) (side : List ℕ) → judged psn ≡ Accepted → Side side → Reads (bisBlock psn side) psn side
+pub read-back : (psn : ℕ) (side : List ℕ) → judged psn ≡ Done → Side side → Reads (bisBlock psn side) psn side
 read-back psn side accepted is =
     record {
       right-columns = written-columns psn side accepted (is .bytes);
@@ -79,7 +79,7 @@ read-back psn side accepted is =
 -- ---- and nothing else is read
 
 pub record Written (block : List (List ℕ)) (psn : ℕ) (side : List ℕ) : Type 0 where
-  pub accepted : judged psn ≡ Accepted
+  pub accepted : judged psn ≡ Done
   pub side-data : Side side
   pub whole : block ≡ bisBlock psn side
 
@@ -94,7 +94,7 @@ nothing-else block psn side is reads =
 
 -- ---- so a block determines its PSN and its side data
 
-pub block-inj : (psn psn′ : ℕ) (side side′ : List ℕ) → judged psn ≡ Accepted → Side side → judged psn′ ≡ Accepted → Side side′
+pub block-inj : (psn psn′ : ℕ) (side side′ : List ℕ) → judged psn ≡ Done → Side side → judged psn′ ≡ Done → Side side′
     → bisBlock psn side ≡ bisBlock psn′ side′ → (psn ≡ psn′) × (side ≡ side′)
 block-inj psn psn′ side side′ accepted is accepted′ is′ e =
     let reads = read-back psn side accepted is in

@@ -1,6 +1,6 @@
 -- What is read in a BIS block given by its columns: answers 12, 13 and 14 of document 01, and the side data.
 use mathlib.Core.Path.{_≡_}
-use mathlib.Core.Bool.{Bool, true, false, cond, not}
+use mathlib.Core.Bool.{Bool, cond, not}
 use mathlib.Core.List.{List, []}
 use Prim.Native.Nat.{ℕ, _-_, _<_}
 use lib.Dec.{eqb, ltb}
@@ -8,8 +8,8 @@ use lib.ListN.{length, getD}
 use Rattle.laws.specs.First.{first}
 use Rattle.laws.specs.Tabulate.{tabulate}
 use Rattle.column.specs.Column.{hasRoots}
-use Rattle.address.specs.declared.Judged.{Judged}
-use Rattle.address.specs.declared.Judged.the-variants.{Accepted, NoMultiple, NoZone}
+use Rattle.answer.specs.declared.Answer.the-variants.{Done}
+use Rattle.answer.specs.Answer.{isDone}
 use Rattle.address.specs.declared.PsnAnswer.{PsnAnswer}
 use Rattle.address.specs.Judged.{judged}
 use Rattle.address.specs.Conversions.{aunOf, aunToPsn}
@@ -50,13 +50,8 @@ aunAt block y = aunIn (primaryIn block y)
 
 -- the block has the sixteen AUNs of an accepted PSN
 pub record IsPsnOf (block : List (List ℕ)) (psn : ℕ) : Type 0 where
-  pub accepted : judged psn ≡ Accepted
+  pub accepted : judged psn ≡ Done
   pub auns : (y : ℕ) → y < 16 → aunAt block y ≡ aunOf psn y
-
-abbrev pub isAccepted : Judged → Bool
-isAccepted Accepted = true
-isAccepted NoMultiple = false
-isAccepted NoZone = false
 
 -- the lowest address unit whose AUN is not that of the PSN, or 16
 unfoldable pub otherUnit : List (List ℕ) → ℕ → ℕ → Bool
@@ -67,7 +62,7 @@ firstOtherUnit block psn = first 16 (otherUnit block psn)
 
 -- a PSN, if it is accepted and has the sixteen AUNs
 abbrev pub foundIf : List (List ℕ) → PsnAnswer → PsnFound
-foundIf block answer = cond (isAccepted (answer .judged)) (cond (ltb (firstOtherUnit block (answer .psn .0)) 16) NotFound (Found (answer .psn))) NotFound
+foundIf block answer = cond (isDone (answer .answer)) (cond (ltb (firstOtherUnit block (answer .psn .0)) 16) NotFound (Found (answer .psn))) NotFound
 
 -- only the PSN of the cluster with unit 0's AUN can have them (proofs/Statements: psn-found, no-psn-found)
 unfoldable pub psnIn : List (List ℕ) → PsnFound

@@ -9,16 +9,18 @@ use lib.Dec.{eqb, ltb}
 use lib.ListN.{length, getD}
 use Rattle.laws.proofs.Fill.{Upto, upto-all}
 use Rattle.column.specs.Column.{hasRoots}
+use Rattle.answer.specs.declared.Answer.{Answer}
+use Rattle.answer.specs.declared.Answer.the-variants.{Done, NoMultiple}
+use Rattle.answer.specs.Answer.{isDone}
+use Rattle.answer.proofs.Tests.{done-is}
 use Rattle.address.specs.declared.AunAnswer.{AunAnswer}
-use Rattle.address.specs.declared.Judged.{Judged}
-use Rattle.address.specs.declared.Judged.the-variants.{Accepted, NoMultiple, NoZone}
 use Rattle.address.specs.declared.PsnAnswer.{PsnAnswer}
-use Rattle.address.specs.Judged.{judged, ifAccepted}
+use Rattle.address.specs.Judged.{judged, ifDone}
 use Rattle.address.specs.Conversions.{aunOf, psnToAun, aunToPsn}
-use Rattle.address.proofs.Accepted.{aun-answered}
+use Rattle.address.proofs.Accepted.{aun-answered, answered-accepted}
 use Rattle.bis.specs.AddressField.{flagIn}
 use Rattle.bis.specs.AccessBlock.{rowOfUC, columnOfUC}
-use Rattle.bis.specs.Reading.{wrongColumn, primaryIn, wrongField, aunAt, isAccepted, otherUnit, firstOtherUnit, foundIf, psnIn, sideByteIn, sideIn, sideOut}
+use Rattle.bis.specs.Reading.{wrongColumn, primaryIn, wrongField, aunAt, otherUnit, firstOtherUnit, foundIf, psnIn, sideByteIn, sideIn, sideOut}
 use Rattle.bis.specs.declared.PsnFound.the-variants.{Found, NotFound}
 
 -- ---- the tests at an index
@@ -34,7 +36,7 @@ unfolding wrongField
 field-judged block y read found e = ap (λ (l : List ℕ). not (hasRoots 4 l)) (sym read) ∙ ap not (sym found) ∙ e
 
 -- a is the AUN that is read, and unit what is answered of the PSN
-module _ (block : List (List ℕ)) (psn y : ℕ) {a : ℕ} {unit : AunAnswer} (read : a ≡ aunAt block y) (h : y < 16) (accepted : judged psn ≡ Accepted) (answered : unit ≡ psnToAun psn y) where
+module _ (block : List (List ℕ)) (psn y : ℕ) {a : ℕ} {unit : AunAnswer} (read : a ≡ aunAt block y) (h : y < 16) (accepted : judged psn ≡ Done) (answered : unit ≡ psnToAun psn y) where
   pub unit-differs : (a ≡ unit .aun .0 → ⊥) → otherUnit block psn y ≡ true
   unfolding otherUnit
   unit-differs differ = ap not (ne-eqb (aunAt block y) (aunOf psn y) (λ e. differ (read ∙ e ∙ sym (aun-answered psn y h accepted answered))))
@@ -45,27 +47,26 @@ module _ (block : List (List ℕ)) (psn y : ℕ) {a : ℕ} {unit : AunAnswer} (r
 
 -- ---- the PSN
 
--- a is the AUN of unit 0, and answer what is answered of it
-module _ (block : List (List ℕ)) {a : ℕ} {answer : PsnAnswer} (read : a ≡ aunAt block 0) (answered : answer ≡ aunToPsn a) where
-  found-by : (j : Judged) (b : Bool) → answer .judged ≡ j → ltb (firstOtherUnit block (answer .psn .0)) 16 ≡ b
-      → cond (isAccepted j) (cond b NotFound (Found (answer .psn))) NotFound ≡ psnIn block
+-- a is the AUN of unit 0, answer what is answered of it, and d whether that is `Done`
+module _ (block : List (List ℕ)) {a : ℕ} {answer : PsnAnswer} {d : Bool} (read : a ≡ aunAt block 0) (answered : answer ≡ aunToPsn a) (hd : d ≡ isDone (answer .answer)) where
+  found-by : (t b : Bool) → d ≡ t → ltb (firstOtherUnit block (answer .psn .0)) 16 ≡ b → cond t (cond b NotFound (Found (answer .psn))) NotFound ≡ psnIn block
   unfolding psnIn
-  found-by j b e differ =
-      sym (ap₂ (λ (j : Judged) (b : Bool). cond (isAccepted j) (cond b NotFound (Found (answer .psn))) NotFound) e differ)
+  found-by t b e differ =
+      sym (ap₂ (λ (t b : Bool). cond t (cond b NotFound (Found (answer .psn))) NotFound) (sym hd ∙ e) differ)
       ∙ ap (foundIf block) (answered ∙ ap aunToPsn read)
 
-  pub psn-no-multiple : answer .judged ≡ NoMultiple → NotFound ≡ psnIn block
-  psn-no-multiple e = found-by NoMultiple (ltb (firstOtherUnit block (answer .psn .0)) 16) e refl
+  pub psn-refused : d ≡ false → NotFound ≡ psnIn block
+  psn-refused e = found-by false (ltb (firstOtherUnit block (answer .psn .0)) 16) e refl
 
-  pub psn-no-zone : answer .judged ≡ NoZone → NotFound ≡ psnIn block
-  psn-no-zone e = found-by NoZone (ltb (firstOtherUnit block (answer .psn .0)) 16) e refl
+  pub psn-accepted : d ≡ true → judged (answer .psn .0) ≡ Done
+  psn-accepted e = answered-accepted a answered (done-is (answer .answer) (sym hd ∙ e))
 
-  module _ {u : ℕ} (e : answer .judged ≡ Accepted) (other : u ≡ firstOtherUnit block (answer .psn .0)) where
+  module _ {u : ℕ} (e : d ≡ true) (other : u ≡ firstOtherUnit block (answer .psn .0)) where
     pub psn-differs : u < 16 → NotFound ≡ psnIn block
-    psn-differs h = found-by Accepted true e (ap (λ (v : ℕ). ltb v 16) (sym other) ∙ lt-ltb u 16 h)
+    psn-differs h = found-by true true e (ap (λ (v : ℕ). ltb v 16) (sym other) ∙ lt-ltb u 16 h)
 
     pub psn-agrees : 16 ≤ u → Found (answer .psn) ≡ psnIn block
-    psn-agrees h = found-by Accepted false e (ap (λ (v : ℕ). ltb v 16) (sym other) ∙ le-ltb u 16 h)
+    psn-agrees h = found-by true false e (ap (λ (v : ℕ). ltb v 16) (sym other) ∙ le-ltb u 16 h)
 
 -- ---- a byte of the side data
 

@@ -2,14 +2,13 @@
 pub mod steps;
 
 use address::Aun;
-use address::Judged;
 use address::Psn;
 use address_field::steps::partly_inverted;
 use bis::Block;
 use bis::PsnFound;
 ghost use mathlib.Core.Path.{_≡_};
 ghost use Prim.Native.Nat.{_+_, _*_, _-_, _^_, _<_};
-ghost use Rattle.address.specs.declared.Judged.the-variants.{Accepted};
+ghost use Rattle.answer.specs.declared.Answer.the-variants.{Done};
 ghost use Rattle.address.specs.Judged.{judged};
 ghost use Rattle.bis.specs.AddressField.{restored};
 ghost use Rattle.bis.specs.Reading.{firstWrongColumn, fieldIn, primaryIn, firstWrongField, aunAt, firstOtherUnit, psnIn, sideByteIn, sideOut};
@@ -87,7 +86,7 @@ fn aun_in(block: &Block, y: usize) -> Aun
 
 // The lowest address unit whose AUN is not the PSN's, or 16.
 fn first_other_unit(block: &Block, psn: Psn) -> usize
-    requires { ⌜ judged (psn .0) ≡ Accepted ⌝ }
+    requires { ⌜ judged (psn .0) ≡ Done ⌝ }
     ensures { λ r. ⌜ r ≡ firstOtherUnit (now (block .entry)) (psn .0) ⌝ }
 {
     let mut y: usize = 0;
@@ -106,19 +105,16 @@ fn first_other_unit(block: &Block, psn: Psn) -> usize
 pub fn psn_in(block: Block) -> PsnFound
     ensures { λ r. ⌜ r ≡ psnIn block ⌝ }
 {
-    let answer = aun_in(&block, 0).psn();
-    let judged = answer.judged;
-    let psn = answer.psn;
-    match judged {
-        Judged::Accepted => {
-            if first_other_unit(&block, psn) < 16 {
-                return PsnFound::NotFound;
-            }
-            PsnFound::Found(psn)
+    let first = aun_in(&block, 0).psn();
+    let answer = first.answer;
+    let psn = first.psn;
+    if answer.is_done() {
+        if first_other_unit(&block, psn) < 16 {
+            return PsnFound::NotFound;
         }
-        Judged::NoMultiple => PsnFound::NotFound,
-        Judged::NoZone => PsnFound::NotFound,
+        return PsnFound::Found(psn);
     }
+    PsnFound::NotFound
 }
 
 // Byte k of the side data.

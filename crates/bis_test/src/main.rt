@@ -1,6 +1,5 @@
 // BIS blocks against those of an independent encoder, and what is read in blocks that are wrong.
 use address::Aun;
-use address::Judged;
 use address::Psn;
 use bis::Block;
 use bis::PsnFound;
@@ -106,10 +105,7 @@ fn cluster_hash(block: Block) -> u64 {
 }
 
 fn print_reading(block: Block) {
-    print_number(
-        b"first wrong column: ",
-        bis_reader::first_wrong_column(block),
-    );
+    print_number(b"first wrong column: ", bis_reader::first_wrong_column(block));
     print_number(
         b"first wrong address field: ",
         bis_reader::first_wrong_field(block),
@@ -133,20 +129,16 @@ fn print_reading(block: Block) {
 fn block_of(psn: Psn, side: [u8; 592]) -> Block {
     let mut table = remainders::steps::no_remainders();
     remainders::steps::fill_remainders(&mut table);
-    match psn.judge() {
-        Judged::Accepted => bis_writer::steps::block(&table, psn, &side),
-        Judged::NoMultiple => [[0u8; 62]; 24],
-        Judged::NoZone => [[0u8; 62]; 24],
+    if psn.judge().is_done() {
+        return bis_writer::steps::block(&table, psn, &side);
     }
+    [[0u8; 62]; 24]
 }
 
 fn show(psn: Psn, side: [u8; 592]) {
     let first = psn.aun(0);
     let last = psn.aun(15);
-    print_field(
-        b"address field 0: ",
-        address_field::address_field(first.aun, side[0]),
-    );
+    print_field(b"address field 0: ", address_field::address_field(first.aun, side[0]));
     print_field(
         b"address field 15: ",
         address_field::address_field(last.aun, side[15]),

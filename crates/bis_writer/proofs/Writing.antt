@@ -10,7 +10,7 @@ use Rattle.laws.specs.Tabulate.{tabulate}
 use Rattle.laws.proofs.Fill.{Upto, upto-more, upto-all}
 use Rattle.laws.proofs.Tabulate.{is-tabulate}
 use Rattle.address.specs.declared.AunAnswer.{AunAnswer}
-use Rattle.address.specs.declared.Judged.the-variants.{Accepted}
+use Rattle.answer.specs.declared.Answer.the-variants.{Done}
 use Rattle.address.specs.Judged.{judged}
 use Rattle.address.specs.Conversions.{psnToAun}
 use Rattle.address.proofs.Accepted.{aun-answered}
@@ -47,7 +47,7 @@ joined-all a b {l} {m} ha hb h upto =
 -- ---- an address field
 
 -- field is made of the AUN that is answered of the PSN and address unit y
-pub fields-more : (psn : ℕ) (side : List ℕ) {y : ℕ} {field : List ℕ} {fields : List (List ℕ)} {unit : AunAnswer} → y < 16 → judged psn ≡ Accepted
+pub fields-more : (psn : ℕ) (side : List ℕ) {y : ℕ} {field : List ℕ} {fields : List (List ℕ)} {unit : AunAnswer} → y < 16 → judged psn ≡ Done
     → unit ≡ psnToAun psn y → field ≡ addressField (unit .aun .0) (getD side y 0) → Upto [] (fieldOf psn side) 16 y fields
     → Upto [] (fieldOf psn side) 16 (y + 1) (set fields y field)
 unfolding fieldOf

@@ -8,7 +8,7 @@ ghost use mathlib.Core.Path.{_≡_};
 ghost use mathlib.Core.List.{_++_};
 ghost use Prim.Native.Nat.{_+_, _*_, _-_, _<_};
 ghost use lib.ListN.{length, getD};
-ghost use Rattle.address.specs.declared.Judged.the-variants.{Accepted};
+ghost use Rattle.answer.specs.declared.Answer.the-variants.{Done};
 ghost use Rattle.address.specs.Judged.{judged};
 ghost use Rattle.remainders.specs.steps.Remainders.{AreRemainders};
 ghost use Rattle.bis.specs.AddressField.{information};
@@ -17,7 +17,7 @@ ghost use Rattle.bis.specs.BisBlock.{accessColumn, codeWord, bisBlock};
 
 // The sixteen address fields of a cluster.
 fn address_fields(psn: Psn, side: &[u8]) -> Fields
-    requires { ⌜ (length (now side) ≡ 592) × (judged (psn .0) ≡ Accepted) ⌝ }
+    requires { ⌜ (length (now side) ≡ 592) × (judged (psn .0) ≡ Done) ⌝ }
     ensures { λ r. ⌜ r ≡ addressFields (psn .0) (now (side .entry)) ⌝ }
 {
     let mut fields = [[0u8; 9]; 16];
@@ -94,7 +94,7 @@ fn code_word(table: &Remainders, fields: &Fields, side: &[u8], c: usize) -> [u8;
 
 // The BIS block of the cluster at an accepted PSN, with 592 bytes of side data.
 pub fn block(table: &Remainders, psn: Psn, side: &[u8]) -> Block
-    requires { ⌜ AreRemainders (now table) × ((length (now side) ≡ 592) × (judged (psn .0) ≡ Accepted)) ⌝ }
+    requires { ⌜ AreRemainders (now table) × ((length (now side) ≡ 592) × (judged (psn .0) ≡ Done)) ⌝ }
     ensures { λ r. ⌜ r ≡ bisBlock (psn .0) (now (side .entry)) ⌝ }
 {
     let fields = address_fields(psn, side);

@@ -15,7 +15,7 @@ use Rattle.laws.proofs.Bytes.{bytes-take, bytes-drop, bytes-tabulate}
 use Rattle.laws.proofs.First.{first-none, first-all}
 use Rattle.laws.proofs.Tabulate.{length-tabulate, getD-tabulate, is-tabulate, tabulate-ext}
 use Rattle.column.specs.Column.{parity, hasRoots}
-use Rattle.address.specs.declared.Judged.the-variants.{Accepted}
+use Rattle.answer.specs.declared.Answer.the-variants.{Done}
 use Rattle.address.specs.Judged.{judged}
 use Rattle.sector.specs.DataFrame.{dataFrame, edcRight}
 use Rattle.scrambling.specs.Scrambling.{scramblingOf, scrambled}
@@ -81,7 +81,7 @@ getD-sector-of user F k h = getD-take 2048 (drop (2048 * F) user) k 0 h ∙ getD
 
 -- ---- a cluster that was made is read back
 
-module _ (user : List ℕ) (psn : ℕ) (side : List ℕ) (is-user : User user) (accepted : judged psn ≡ Accepted) (is-side : Side side) where
+module _ (user : List ℕ) (psn : ℕ) (side : List ℕ) (is-user : User user) (accepted : judged psn ≡ Done) (is-side : Side side) where
   abbrev work : List ℕ
   work = eccCluster user psn side
 
@@ -159,7 +159,7 @@ module _ (user : List ℕ) (psn : ℕ) (side : List ℕ) (is-user : User user) (
 
 pub record Written (work user : List ℕ) (psn : ℕ) (side : List ℕ) : Type 0 where
   pub is-user : User user
-  pub accepted : judged psn ≡ Accepted
+  pub accepted : judged psn ≡ Done
   pub is-side : Side side
   pub whole : work ≡ eccCluster user psn side
 
@@ -244,7 +244,7 @@ module _ (work user : List ℕ) (psn : ℕ) (side : List ℕ) (size : length wor
 found-psn : (p q : ℕ) → _≡_ {A = PsnFound} (Found (record { 0 = p })) (Found (record { 0 = q })) → p ≡ q
 found-psn p q e = let same : _≡_ {A = Psn} (record { 0 = p }) (record { 0 = q }) = cc in ap (λ (x : Psn). x .0) same
 
-pub cluster-inj : (user user′ side side′ : List ℕ) (psn psn′ : ℕ) → User user → User user′ → judged psn ≡ Accepted → judged psn′ ≡ Accepted → Side side → Side side′
+pub cluster-inj : (user user′ side side′ : List ℕ) (psn psn′ : ℕ) → User user → User user′ → judged psn ≡ Done → judged psn′ ≡ Done → Side side → Side side′
     → (eccCluster user psn side ≡ eccCluster user′ psn′ side′) ↔ ((user ≡ user′) × (psn ≡ psn′) × (side ≡ side′))
 cluster-inj user user′ side side′ psn psn′ hu hu′ hp hp′ hs hs′ = (apart, λ same. cc (same .0, same .1, same .2))
   where

@@ -5,7 +5,7 @@ ghost use mathlib.Core.Path.{_≡_};
 ghost use Prim.Native.Nat.{_*_, _<_};
 ghost use lib.ListN.{length};
 ghost use Rattle.remainders.specs.steps.Remainders.{AreRemainders};
-ghost use Rattle.address.specs.declared.Judged.the-variants.{Accepted};
+ghost use Rattle.answer.specs.declared.Answer.the-variants.{Done};
 ghost use Rattle.address.specs.Judged.{judged};
 ghost use Rattle.cluster.specs.EccCluster.{scrambledFrames, eccCluster};
 ghost use Rattle.ldc_words.specs.steps.Eighth.{LdcPut, framesOf};
@@ -44,7 +44,7 @@ fn put_ldc(table: &Remainders, user: &[u8], stream: &[u8], work: &mut [u8])
 
 // The ECC cluster of 65,536 user bytes, an accepted PSN and 592 bytes of side data.
 pub fn encode(user: &[u8], psn: Psn, side: &[u8], work: &mut [u8])
-    requires { ⌜ ((length (now user) ≡ 65536) × (length (now side) ≡ 592)) × ((length (now work) ≡ 76880) × (judged (psn .0) ≡ Accepted)) ⌝ }
+    requires { ⌜ ((length (now user) ≡ 65536) × (length (now side) ≡ 592)) × ((length (now work) ≡ 76880) × (judged (psn .0) ≡ Done)) ⌝ }
     ensures { λ _. ⌜ now (work .exit) ≡ eccCluster (now (user .entry)) (psn .0) (now (side .entry)) ⌝ }
 {
     let mut table = remainders::steps::no_remainders();

@@ -1,5 +1,4 @@
 // ECC clusters to look into: some with a single mark, some of drawn user bytes and side data.
-use address::Judged;
 use address::Psn;
 ghost use mathlib.Core.Path.{_≡_};
 ghost use lib.ListN.{length};
@@ -132,10 +131,8 @@ fn encode(user: &[u8], side: &[u8], work: &mut [u8]) {
         return;
     }
     let psn = psn();
-    match psn.judge() {
-        Judged::Accepted => cluster_writer::steps::encode(user, psn, side, work),
-        Judged::NoMultiple => {}
-        Judged::NoZone => {}
+    if psn.judge().is_done() {
+        cluster_writer::steps::encode(user, psn, side, work);
     }
 }
 

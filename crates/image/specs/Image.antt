@@ -5,7 +5,7 @@ use mathlib.Core.List.{List, [], _∷_, _++_}
 use Prim.Native.Nat.{ℕ, _≤_, _<_}
 use lib.ListN.{length, getD}
 use Rattle.bits.specs.Bits.{packed}
-use Rattle.address.specs.declared.Judged.the-variants.{Accepted}
+use Rattle.answer.specs.declared.Answer.the-variants.{Done}
 use Rattle.address.specs.Judged.{judged}
 use Rattle.modulation.specs.Bits.{bits}
 use Rattle.modulation.specs.Stream.{Recording, stream}
@@ -28,7 +28,7 @@ pub record Words (dc : List ℕ) : Type 0 where
 -- 65,536 user bytes, a PSN that is a multiple of 32 and lies in a data zone, 592 bytes of side data, 496 dc words
 pub record IsAccepted (input : Input) : Type 0 where
   pub user : User (input .user)
-  pub psn : judged (input .psn) ≡ Accepted
+  pub psn : judged (input .psn) ≡ Done
   pub side : Side (input .side)
   pub dc : Words (input .dc)
 

@@ -12,6 +12,8 @@ use Rattle.laws.specs.Tabulate.{tabulate}
 use Rattle.laws.proofs.Tabulate.{is-tabulate}
 use mathlib.Core.List.{_∷_}
 use Prim.Native.Nat.{suc}
+use lib.ListN.{drop-of-length-le}
+use mathlib.Core.List.{append-nil}
 
 -- l has n elements, of which the first i are f's; d is what `getD` gives past the end
 pub record Upto {A : Type 0} (d : A) (f : ℕ → A) (n i : ℕ) (l : List A) : Type 0 where
@@ -92,3 +94,8 @@ sets-append (v ∷ vs) ws l i = sets-append vs ws (set l i v) (suc i) ∙ ap (λ
   where
     one-on : (i n : ℕ) → suc i + n ≡ i + suc n
     one-on i n = omega arith
+
+-- a list written over as a whole
+pub sets-whole : (vs l : List ℕ) → length vs ≡ length l → sets l 0 vs ≡ vs
+sets-whole vs l e =
+    sets-eq vs l 0 (omega arith) ∙ ap (_++_ vs) (drop-of-length-le l {i = 0 + length vs} (omega arith)) ∙ append-nil vs

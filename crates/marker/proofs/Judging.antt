@@ -1,21 +1,21 @@
 -- The verdict, test by test. Assumes nothing.
-use mathlib.Core.Path.{_≡_, refl, sym, ap, _∙_}
+use mathlib.Core.Path.{_≡_, refl, sym, ap, ap₂, _∙_}
 use mathlib.Core.Bool.{Bool, true, false, cond}
 use mathlib.Core.List.{List}
 use Prim.Native.Nat.{ℕ, _<_, _≤_}
-use native.Mathlib.Omega.{arith}
-use borrow.Author.Tests.{eq-eqb, ne-eqb, eqb-true, lt-ltb, le-ltb}
-use lib.Dec.{eqb}
+use borrow.Author.Tests.{eq-eqb, ne-eqb, lt-ltb, le-ltb}
 use lib.ListN.{length, getD}
 use Rattle.answer.specs.declared.Answer.{Answer}
 use Rattle.answer.specs.declared.Answer.the-variants.{Done, WrongUser, WrongSide}
-use Rattle.answer.specs.Answer.{isDone}
-use Rattle.answer.proofs.Tests.{Sizes, done-is, lengths-done}
+use Rattle.answer.specs.Answer.{isDone, andThen, sized}
+use Rattle.answer.proofs.Tests.{done-is, done-told, then-done, sized-done}
+use Rattle.answer.proofs.RightLengths.{lengths-done}
 use Rattle.reader.specs.Outcome.{Lent, Outcome, judgedOutcome, sizesAnswer, outcome}
+use Rattle.reader.specs.Promise.{RightSlices}
 use Rattle.bits.specs.Bits.{bitsOf}
 use Rattle.marker.specs.declared.Verdict.{Verdict}
 use Rattle.marker.specs.declared.Verdict.the-variants.{Pass, Refused, OtherPsn, OtherUser, OtherSide}
-use Rattle.marker.specs.Marked.{givenAnswer, other, firstOther, compared, judged, Marked, marked}
+use Rattle.marker.specs.Marked.{other, firstOther, compared, markedRead, Marked, marked}
 
 -- ---- bytes that differ
 
@@ -30,14 +30,10 @@ agrees a b k h = rw (eq-eqb (getD a k 0) (getD b k 0) h)
 -- ---- what is given
 
 module _ (user side : ℕ) where
-  pub wrong-user : (user ≡ 65536 → ⊥) → WrongUser ≡ givenAnswer user side
-  wrong-user h = rw (ne-eqb user 65536 h)
-
-  pub wrong-side : user ≡ 65536 → (side ≡ 592 → ⊥) → WrongSide ≡ givenAnswer user side
-  wrong-side e h = rw (eq-eqb user 65536 e, ne-eqb side 592 h)
-
-  pub right-given : user ≡ 65536 → side ≡ 592 → Done ≡ givenAnswer user side
-  right-given e h = rw (eq-eqb user 65536 e, eq-eqb side 592 h)
+  pub given-done : andThen (sized user 65536 (WrongUser 0)) (sized side 592 WrongSide) ≡ Done → (user ≡ 65536) × (side ≡ 592)
+  given-done e =
+      let both = then-done (sized user 65536 (WrongUser 0)) (sized side 592 WrongSide) e in
+      (sized-done (WrongUser 0) refl (both .0), sized-done WrongSide refl (both .1))
 
 -- ---- what is read; u and s are what was found
 
@@ -63,21 +59,20 @@ module _ (psn : ℕ) (user side : List ℕ) (found : ℕ) (bytes control : List 
 -- ---- as the code has it: a, p and l are what the reader answered and left, d whether a is `Done`
 
 module _ (psn : ℕ) (user side : List ℕ) (o : Outcome) (a : Answer) (p : ℕ) (l : Lent) (d : Bool) (e : record { answer = a; psn = p; lent = l } ≡ o) (hd : d ≡ isDone a) where
-  pub is-compared : (v : Verdict) → d ≡ true → v ≡ compared psn user side p (l .user) (l .side) → record { verdict = v; lent = l } ≡ judged psn user side o
+  pub is-compared : (v : Verdict) → d ≡ true → v ≡ compared psn user side p (l .user) (l .side) → record { verdict = v; lent = l } ≡ markedRead psn user side o
   is-compared v t h =
       let done : isDone a ≡ true = sym hd ∙ t in
       let same : v ≡ cond (isDone a) (compared psn user side p (l .user) (l .side)) (Refused a) = rw done h in
-      (λ i. record { verdict = same i; lent = l }) ∙ ap (judged psn user side) e
+      (λ i. record { verdict = same i; lent = l }) ∙ ap (markedRead psn user side) e
 
-  pub is-refused : d ≡ false → record { verdict = Refused a; lent = l } ≡ judged psn user side o
+  pub is-refused : d ≡ false → record { verdict = Refused a; lent = l } ≡ markedRead psn user side o
   is-refused t =
       let done : isDone a ≡ false = sym hd ∙ t in
       let same : Refused a ≡ cond (isDone a) (compared psn user side p (l .user) (l .side)) (Refused a) = rw done in
-      (λ i. record { verdict = same i; lent = l }) ∙ ap (judged psn user side) e
+      (λ i. record { verdict = same i; lent = l }) ∙ ap (markedRead psn user side) e
 
 -- what is read has slices of the right lengths
-read-sizes : (image : List ℕ) (before : Lent) → outcome image before .answer ≡ Done
-    → Sizes (length (before .user)) (length (before .side)) (length (before .dc)) (length image) (length (before .work))
+read-sizes : (image : List ℕ) (before : Lent) → outcome image before .answer ≡ Done → RightSlices before × (length image ≡ 119788)
 unfolding outcome
 read-sizes image before e = lengths-done _ _ _ _ _ (by (isDone (sizesAnswer image before)) refl e)
   where
@@ -86,22 +81,34 @@ read-sizes image before e = lengths-done _ _ _ _ _ (by (isDone (sizesAnswer imag
     by false s e = sym (ap (λ (t : Bool). cond t (judgedOutcome (bitsOf image) before) (record { answer = sizesAnswer image before; psn = 0; lent = before }) .answer) s) ∙ e
 
 pub sizes : (image : List ℕ) (before : Lent) {a : Answer} {p : ℕ} (l : Lent) {d : Bool} → record { answer = a; psn = p; lent = l } ≡ outcome image before → d ≡ isDone a → d ≡ true
-    → Sizes (length (before .user)) (length (before .side)) (length (before .dc)) (length image) (length (before .work))
-sizes image before l e hd t = read-sizes image before (sym (ap (λ (o : Outcome). o .answer) e) ∙ done-is _ (sym hd ∙ t))
+    → RightSlices before × (length image ≡ 119788)
+sizes image before l e hd t = read-sizes image before (done-told (ap (λ (o : Outcome). o .answer) e) hd t)
 
-pub given-right : (user side : ℕ) {g : Answer} {d : Bool} → g ≡ givenAnswer user side → d ≡ isDone g → d ≡ true → (user ≡ 65536) × (side ≡ 592)
-given-right user side hg hd t = by (eqb user 65536) (eqb side 592) refl refl (sym (ap isDone hg) ∙ sym hd ∙ t)
-  where
-    by : (u s : Bool) → eqb user 65536 ≡ u → eqb side 592 ≡ s → isDone (cond u (cond s Done WrongSide) WrongUser) ≡ true → (user ≡ 65536) × (side ≡ 592)
-    by true true hu hs e = (eqb-true user 65536 hu, eqb-true side 592 hs)
-    by true false hu hs e = let z : _≡_ {A = ℕ} 0 1 = cc in absurd (omega arith)
-    by false s hu hs e = let z : _≡_ {A = ℕ} 0 1 = cc in absurd (omega arith)
+-- one, two and g are what the tests of what is given answered, d whether g is `Done`
+module _ (user side : ℕ) {one two g : Answer} {d : Bool} (h1 : one ≡ sized user 65536 (WrongUser 0)) (h2 : two ≡ sized side 592 WrongSide) (hg : g ≡ andThen one two) (hd : d ≡ isDone g) where
+  is-given : g ≡ andThen (sized user 65536 (WrongUser 0)) (sized side 592 WrongSide)
+  is-given = hg ∙ ap₂ andThen h1 h2
 
-module _ (psn : ℕ) (user side image : List ℕ) (before : Lent) (g : Answer) (d : Bool) (hg : g ≡ givenAnswer (length user) (length side)) (hd : d ≡ isDone g) where
-  pub is-marked : (m : Marked) → d ≡ true → m ≡ judged psn user side (outcome image before) → m ≡ marked psn user side image before
+  pub given-right : d ≡ true → (user ≡ 65536) × (side ≡ 592)
+  given-right t = given-done user side (done-told is-given hd t)
+
+module _ (psn : ℕ) (user side image : List ℕ) (before : Lent) (one two g : Answer) (d : Bool)
+    (h1 : one ≡ sized (length user) 65536 (WrongUser 0)) (h2 : two ≡ sized (length side) 592 WrongSide) (hg : g ≡ andThen one two) (hd : d ≡ isDone g) where
+  abbrev given : Answer
+  given = andThen (sized (length user) 65536 (WrongUser 0)) (sized (length side) 592 WrongSide)
+
+  same : g ≡ given
+  same = is-given (length user) (length side) h1 h2 hg hd
+
+  told : (t : Bool) → d ≡ t → isDone given ≡ t
+  told t e = sym (ap isDone same) ∙ sym hd ∙ e
+
+  pub is-marked : (m : Marked) → d ≡ true → m ≡ markedRead psn user side (outcome image before) → m ≡ marked psn user side image before
   unfolding marked
-  is-marked m t h = let done : isDone (givenAnswer (length user) (length side)) ≡ true = sym (ap isDone hg) ∙ sym hd ∙ t in h ∙ rw done
+  is-marked m t h = h ∙ sym (ap (λ (u : Bool). cond u (markedRead psn user side (outcome image before)) (record { verdict = Refused given; lent = before })) (told true t))
 
   pub is-wrong : d ≡ false → record { verdict = Refused g; lent = before } ≡ marked psn user side image before
   unfolding marked
-  is-wrong t = let done : isDone (givenAnswer (length user) (length side)) ≡ false = sym (ap isDone hg) ∙ sym hd ∙ t in (λ i. record { verdict = Refused (hg i); lent = before }) ∙ rw done
+  is-wrong t =
+      (λ i. record { verdict = Refused (same i); lent = before })
+      ∙ sym (ap (λ (u : Bool). cond u (markedRead psn user side (outcome image before)) (record { verdict = Refused given; lent = before })) (told false t))

@@ -12,18 +12,18 @@ use lib.Seq.{ext-getD}
 use Rattle.laws.specs.Bytes.{Bytes}
 use Rattle.laws.proofs.First.{first-none, first-all}
 use Rattle.answer.specs.declared.Answer.{Answer}
-use Rattle.answer.specs.declared.Answer.the-variants.{Done}
-use Rattle.answer.specs.Answer.{numberOf, isDone}
-use Rattle.answer.proofs.Tests.{done-is}
+use Rattle.answer.specs.declared.Answer.the-variants.{Done, WrongUser, WrongSide}
+use Rattle.answer.specs.Answer.{numberOf, isDone, andThen, sized}
+use Rattle.answer.proofs.Tests.{done-is, then-both, sized-right}
 use Rattle.image.specs.Image as Image
 use Rattle.image.specs.Image.{Input, IsAccepted}
 use Rattle.reader.specs.Outcome.{Lent, Outcome, outcome}
-use Rattle.reader.specs.Promise.{Fitting}
-use Rattle.reader.proofs.Statements.{Right, returned, read-back, nothing-else}
+use Rattle.reader.specs.Promise.{RightSlices}
+use Rattle.reader.proofs.Statements.{returned, read-back, nothing-else}
 use Rattle.marker.specs.declared.Verdict.{Verdict}
 use Rattle.marker.specs.declared.Verdict.the-variants.{Pass, Refused, OtherPsn, OtherUser, OtherSide}
-use Rattle.marker.specs.Marked.{IsImageOf, givenAnswer, other, firstOther, compared, verdictOf, judged, Marked, marked}
-use Rattle.marker.proofs.Judging.{agrees, right-given, all-same, given-right}
+use Rattle.marker.specs.Marked.{IsImageOf, other, firstOther, compared, verdictOf, markedRead, Marked, marked}
+use Rattle.marker.proofs.Judging.{agrees, all-same, given-done}
 
 -- ---- lists without a difference
 
@@ -59,6 +59,9 @@ module _ (psn : ℕ) (user side image : List ℕ) (before : Lent) where
   abbrev read : Outcome
   read = outcome image before
 
+  abbrev given : Answer
+  given = andThen (sized (length user) 65536 (WrongUser 0)) (sized (length side) 592 WrongSide)
+
   verdict-pass : verdictOf psn user side read ≡ Pass → (read .answer ≡ Done) × Same psn user side (read .psn) (read .lent .user) (read .lent .side)
   verdict-pass e = by (isDone (read .answer)) refl e
     where
@@ -67,48 +70,49 @@ module _ (psn : ℕ) (user side image : List ℕ) (before : Lent) where
       by true t e = (done-is (read .answer) t, compared-pass psn user side (read .psn) (read .lent .user) (read .lent .side) e)
       by false t e = let z : _≡_ {A = ℕ} 0 1 = cc in absurd (omega arith)
 
-  marked-pass : marked psn user side image before .verdict ≡ Pass → (isDone (givenAnswer (length user) (length side)) ≡ true) × (verdictOf psn user side read ≡ Pass)
+  marked-pass : marked psn user side image before .verdict ≡ Pass → (given ≡ Done) × (verdictOf psn user side read ≡ Pass)
   unfolding marked
-  marked-pass e = by (givenAnswer (length user) (length side)) (isDone (givenAnswer (length user) (length side))) refl e
+  marked-pass e = by given (isDone given) refl e
     where
-      by : (g : Answer) (t : Bool) → isDone g ≡ t → cond t (judged psn user side read) (record { verdict = Refused g; lent = before }) .verdict ≡ Pass
-          → (isDone g ≡ true) × (verdictOf psn user side read ≡ Pass)
-      by g true t e = (t, e)
+      by : (g : Answer) (t : Bool) → isDone g ≡ t → cond t (markedRead psn user side read) (record { verdict = Refused g; lent = before }) .verdict ≡ Pass
+          → (g ≡ Done) × (verdictOf psn user side read ≡ Pass)
+      by g true t e = (done-is g t, e)
       by g false t e = let z : _≡_ {A = ℕ} 0 1 = cc in absurd (omega arith)
 
   -- what passes is an image of what is given
   passed : Bytes image → marked psn user side image before .verdict ≡ Pass → IsImageOf psn user side image
   passed bytes e =
       let both = marked-pass e in
-      let given = given-right (length user) (length side) refl (sym (both .0)) refl in
+      let lengths = given-done (length user) (length side) (both .0) in
       let pass = verdict-pass (both .1) in
       let same = pass .1 in
       let made = nothing-else image before bytes (ap numberOf (pass .0)) in
-      let user-is : user ≡ read .lent .user = no-other 65536 user (read .lent .user) (given .0) (made .0 .user .size) (same .user-same) in
-      let side-is : side ≡ read .lent .side = no-other 592 side (read .lent .side) (given .1) (made .0 .side .size) (same .side-same) in
+      let user-is : user ≡ read .lent .user = no-other 65536 user (read .lent .user) (lengths .0) (made .0 .user .size) (same .user-same) in
+      let side-is : side ≡ read .lent .side = no-other 592 side (read .lent .side) (lengths .1) (made .0 .side .size) (same .side-same) in
       let is : returned read ≡ record { user = user; psn = psn; side = side; dc = read .lent .dc } =
       λ i. record { user = sym user-is i; psn = same .psn-same i; side = sym side-is i; dc = read .lent .dc } in
       record { dc = read .lent .dc; accepted = subst IsAccepted is (made .0); image-is = made .1 ∙ ap Image.image is }
 
   -- and every image of what is given passes
-  passing : Fitting before → IsImageOf psn user side image → marked psn user side image before .verdict ≡ Pass
+  passing : RightSlices before → IsImageOf psn user side image → marked psn user side image before .verdict ≡ Pass
   unfolding marked
   passing f is =
       let input : Input = record { user = user; psn = psn; side = side; dc = is .dc } in
-      let right : Right before = record { user = f .user; side = f .side; dc = f .dc; image = refl; work = f .work } in
-      let back = ap (λ (l : List ℕ). outcome l before) (is .image-is) ∙ read-back input (is .accepted) before right in
-      let given = right-given (length user) (length side) (is .accepted .user .size) (is .accepted .side .size) in
-      ap (λ (g : Answer). cond (isDone g) (judged psn user side read) (record { verdict = Refused g; lent = before }) .verdict) (sym given)
+      let back = ap (λ (l : List ℕ). outcome l before) (is .image-is) ∙ read-back input (is .accepted) before f in
+      let right : given ≡ Done =
+      then-both (sized (length user) 65536 (WrongUser 0)) (sized (length side) 592 WrongSide) (sized-right (WrongUser 0) (is .accepted .user .size))
+      (sized-right WrongSide (is .accepted .side .size)) in
+      ap (λ (g : Answer). cond (isDone g) (markedRead psn user side read) (record { verdict = Refused g; lent = before }) .verdict) right
       ∙ ap (verdictOf psn user side) back
       ∙ sym (all-same psn user side psn user side _ _ refl refl (same-none 65536 user) refl (same-none 592 side))
 
   -- PASS IF AND ONLY IF some dc words make an accepted input whose image this is
-  pub pass-iff : Bytes image → Fitting before → (marked psn user side image before .verdict ≡ Pass) ↔ IsImageOf psn user side image
+  pub pass-iff : Bytes image → RightSlices before → (marked psn user side image before .verdict ≡ Pass) ↔ IsImageOf psn user side image
   pass-iff bytes f = (passed bytes, passing f)
 
   -- as the contract has it: r and l are the verdict and what it leaves
   pub with-pass : (r : Verdict) (l : Lent) → Bytes image → record { verdict = r; lent = l } ≡ marked psn user side image before
-      → (record { verdict = r; lent = l } ≡ marked psn user side image before) × (Fitting before → (r ≡ Pass) ↔ IsImageOf psn user side image)
+      → (record { verdict = r; lent = l } ≡ marked psn user side image before) × (RightSlices before → (r ≡ Pass) ↔ IsImageOf psn user side image)
   with-pass r l bytes e =
       let is : r ≡ marked psn user side image before .verdict = ap (λ (m : Marked). m .verdict) e in
       (e, λ f. (λ p. passed bytes (sym is ∙ p), λ i. is ∙ passing f i))

@@ -6,9 +6,8 @@ use Prim.Native.Nat.{ℕ}
 use lib.Dec.{eqb, ltb}
 use lib.ListN.{length, getD}
 use Rattle.laws.specs.First.{first}
-use Rattle.answer.specs.declared.Answer.{Answer}
-use Rattle.answer.specs.declared.Answer.the-variants.{Done, WrongUser, WrongSide}
-use Rattle.answer.specs.Answer.{isDone}
+use Rattle.answer.specs.declared.Answer.the-variants.{WrongUser, WrongSide}
+use Rattle.answer.specs.Answer.{isDone, andThen, sized}
 use Rattle.image.specs.Image as Image
 use Rattle.reader.specs.Outcome.{Lent, Outcome, outcome}
 use Rattle.marker.specs.declared.Verdict.{Verdict}
@@ -23,10 +22,6 @@ pub record IsImageOf (psn : ℕ) (user side image : List ℕ) : Type 0 where
   pub image-is : image ≡ Image.image (record { user = user; psn = psn; side = side; dc = dc })
 
 -- ---- the verdict, test by test
-
--- 1 and 2, of what is given
-abbrev pub givenAnswer : ℕ → ℕ → Answer
-givenAnswer user side = cond (eqb user 65536) (cond (eqb side 592) Done WrongSide) WrongUser
 
 -- the lowest index below n at which two lists differ, or n
 unfoldable pub other : List ℕ → List ℕ → ℕ → Bool
@@ -50,10 +45,11 @@ pub record Marked : Type 0 where
   pub lent : Lent
 
 -- the lent slices are left as the reader leaves them
-abbrev pub judged : ℕ → List ℕ → List ℕ → Outcome → Marked
-judged psn user side read = record { verdict = verdictOf psn user side read; lent = read .lent }
+abbrev pub markedRead : ℕ → List ℕ → List ℕ → Outcome → Marked
+markedRead psn user side read = record { verdict = verdictOf psn user side read; lent = read .lent }
 
--- where what is given has another length, as they were
+-- where what is given has another length, by 1 or 2, as they were
 unfoldable pub marked : ℕ → List ℕ → List ℕ → List ℕ → Lent → Marked
 marked psn user side image before =
-    cond (isDone (givenAnswer (length user) (length side))) (judged psn user side (outcome image before)) (record { verdict = Refused (givenAnswer (length user) (length side)); lent = before })
+    let given = andThen (sized (length user) 65536 (WrongUser 0)) (sized (length side) 592 WrongSide) in
+    cond (isDone given) (markedRead psn user side (outcome image before)) (record { verdict = Refused given; lent = before })

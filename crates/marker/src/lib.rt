@@ -6,8 +6,8 @@ ghost use mathlib.Core.Logic.{_↔_};
 ghost use Prim.Native.Nat.{_≤_};
 ghost use lib.ListN.{length};
 ghost use Rattle.reader.specs.Outcome.{Lent, outcome};
-ghost use Rattle.reader.specs.Promise.{Fitting};
-ghost use Rattle.marker.specs.Marked.{givenAnswer, firstOther, compared, judged, Marked, marked, IsImageOf};
+ghost use Rattle.reader.specs.Promise.{RightSlices};
+ghost use Rattle.marker.specs.Marked.{firstOther, compared, markedRead, Marked, marked, IsImageOf};
 
 // Document 01 has no number for it; `Refused` carries the reader's answer.
 pub enum Verdict {
@@ -34,19 +34,6 @@ fn first_other(n: usize, a: &[u8], b: &[u8]) -> usize
         k += 1;
     }
     k
-}
-
-// Tests 1 and 2 on what is given.
-fn judge_given(user: usize, side: usize) -> Answer
-    ensures { λ r. ⌜ r ≡ givenAnswer user side ⌝ }
-{
-    if user != 65536 {
-        return Answer::WrongUser;
-    }
-    if side != 592 {
-        return Answer::WrongSide;
-    }
-    Answer::Done
 }
 
 // What is given beside what was read in an accepted image: the PSN, then the user bytes, then the side data.
@@ -81,7 +68,7 @@ fn mark_sized(
 ) -> Verdict
     requires { ⌜ (length (now user) ≡ 65536) × (length (now side) ≡ 592) ⌝ }
     ensures { λ r. ⌜ record { verdict = r; lent = record { user = now (bytes .exit); side = now (control .exit); dc = now (dc .exit); work = now (work .exit) } }
-        ≡ judged (psn .0) (now (user .entry)) (now (side .entry)) (outcome (now (image .entry)) (record { user = now (bytes .entry); side = now (control .entry); dc = now (dc .entry); work = now (work .entry) })) ⌝ }
+        ≡ markedRead (psn .0) (now (user .entry)) (now (side .entry)) (outcome (now (image .entry)) (record { user = now (bytes .entry); side = now (control .entry); dc = now (dc .entry); work = now (work .entry) })) ⌝ }
 {
     let read = reader::read_image(image, bytes, control, dc, work);
     let answer = read.answer;
@@ -105,10 +92,12 @@ pub fn mark(
 ) -> Verdict
     ensures { λ r. ⌜ record { verdict = r; lent = record { user = now (bytes .exit); side = now (control .exit); dc = now (dc .exit); work = now (work .exit) } }
         ≡ marked (psn .0) (now (user .entry)) (now (side .entry)) (now (image .entry)) (record { user = now (bytes .entry); side = now (control .entry); dc = now (dc .entry); work = now (work .entry) }) ⌝ }
-    ensures { λ r. ⌜ (Fitting (record { user = now (bytes .entry); side = now (control .entry); dc = now (dc .entry); work = now (work .entry) })
+    ensures { λ r. ⌜ (RightSlices (record { user = now (bytes .entry); side = now (control .entry); dc = now (dc .entry); work = now (work .entry) })
         → (r ≡ Verdict.Pass) ↔ IsImageOf (psn .0) (now (user .entry)) (now (side .entry)) (now (image .entry))) ⌝ }
 {
-    let given = judge_given(user.len(), side.len());
+    let one = answer::sized(user.len(), 65536, Answer::WrongUser(0));
+    let two = answer::sized(side.len(), 592, Answer::WrongSide);
+    let given = one.and_then(two);
     if given.is_done() {
         return mark_sized(psn, user, side, image, bytes, control, dc, work);
     }

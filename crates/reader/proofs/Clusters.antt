@@ -15,13 +15,13 @@ use Rattle.bis.specs.declared.PsnFound.the-variants.{Found, NotFound}
 use Rattle.bis.specs.Reading as Bis
 use Rattle.cluster.specs.Multiplex.{bisIn}
 use Rattle.cluster.specs.Reading.{wrongWord, firstWrongWord, wrongSector, firstWrongSector, userIn, Reads}
-use Rattle.reader.specs.Outcome.{psnAnswer, psnNumber, blockAnswer, dataAnswer, psnOf, clusterAnswer}
+use Rattle.reader.specs.Outcome.{foundAnswer, psnNumber, blockAnswer, dataAnswer, psnOf, clusterAnswer}
 
 -- a search that found nothing came to its end
 ended : (n : ℕ) (p : ℕ → Bool) → n ≤ first n p → first n p ≡ n
 ended n p h = first-none n p (record { fails = first-all n p h })
 
-found-number : (p : PsnFound) → psnAnswer p ≡ Done → p ≡ Found (record { 0 = psnNumber p })
+found-number : (p : PsnFound) → foundAnswer p ≡ Done → p ≡ Found (record { 0 = psnNumber p })
 found-number (Found q) e = refl
 found-number NotFound e = let z : _≡_ {A = ℕ} 14 0 = ap numberOf e in absurd (omega arith)
 
@@ -35,7 +35,7 @@ module _ (work : List ℕ) where
     reads-done =
         then-both (blockAnswer (bisIn work)) (dataAnswer (scramblingOf (psnOf work)) work)
         (then-both (lowest BisColumn 24 (Bis.firstWrongColumn (bisIn work))) _ (lowest-end BisColumn (r .bis .right-columns))
-        (then-both (lowest AddressUnit 16 (Bis.firstWrongField (bisIn work))) _ (lowest-end AddressUnit (r .bis .right-fields)) (ap psnAnswer (r .bis .has-psn))))
+        (then-both (lowest AddressUnit 16 (Bis.firstWrongField (bisIn work))) _ (lowest-end AddressUnit (r .bis .right-fields)) (ap foundAnswer (r .bis .has-psn))))
         (then-both (lowest LdcColumn 304 (firstWrongWord work)) _ (lowest-end LdcColumn (r .right-words))
         (lowest-end Sector (ap (λ (p : ℕ). firstWrongSector (scramblingOf p) work) read-psn ∙ r .right-sectors)))
 

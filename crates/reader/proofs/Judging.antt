@@ -21,7 +21,7 @@ use Rattle.bis.specs.declared.PsnFound.the-variants.{Found, NotFound}
 use Rattle.bis.specs.Reading.{firstWrongColumn, firstWrongField, psnIn}
 use Rattle.cluster.specs.Reading.{firstWrongWord, firstWrongSector}
 use Rattle.reader.specs.Reading.{lastZero, wrongSync, firstWrongSync, firstNoFrame}
-use Rattle.reader.specs.Outcome.{framesAnswer, psnAnswer, psnNumber, blockAnswer, dataAnswer}
+use Rattle.reader.specs.Outcome.{framesAnswer, foundAnswer, psnNumber, blockAnswer, dataAnswer}
 use Rattle.reader.specs.Read.{BlockJudged}
 
 -- ---- 9
@@ -81,18 +81,18 @@ module _ (block : List (List ℕ)) (a : Answer) (psn : ℕ) where
       wrong-unit h e = refusal (AddressUnit y) e (stop-here AddressUnit _ ey refl h ∙ go-on BisColumn _ ec hc) refl
 
       module _ (hy : 16 ≤ y) (p : PsnFound) (ep : p ≡ psnIn block) where
-        psn-judged : psnAnswer p ≡ blockAnswer block
+        psn-judged : foundAnswer p ≡ blockAnswer block
         unfolding blockAnswer
-        psn-judged = ap psnAnswer ep ∙ go-on AddressUnit _ ey hy ∙ go-on BisColumn _ ec hc
+        psn-judged = ap foundAnswer ep ∙ go-on AddressUnit _ ey hy ∙ go-on BisColumn _ ec hc
 
         pub no-psn : p ≡ NotFound → (a ≡ NoPsn) × (psn ≡ 0) → BlockJudged block a psn
-        no-psn found e = refusal NoPsn e (sym (ap psnAnswer found) ∙ psn-judged) refl
+        no-psn found e = refusal NoPsn e (sym (ap foundAnswer found) ∙ psn-judged) refl
 
 -- all three are passed
 pub a-psn : (block : List (List ℕ)) (c y : ℕ) (p : PsnFound) (psn : Psn) → c ≡ firstWrongColumn block → 24 ≤ c → y ≡ firstWrongField block → 16 ≤ y → p ≡ psnIn block → p ≡ Found psn
     → BlockJudged block Done (psn .0)
 a-psn block c y p psn ec hc ey hy ep found =
-    record { answer-is = sym (ap psnAnswer found) ∙ psn-judged block Done 0 c ec hc y ey hy p ep; psn-is = λ _. ap psnNumber (sym found ∙ ep) }
+    record { answer-is = sym (ap foundAnswer found) ∙ psn-judged block Done 0 c ec hc y ey hy p ep; psn-is = λ _. ap psnNumber (sym found ∙ ep) }
 
 -- ---- 15, 16
 

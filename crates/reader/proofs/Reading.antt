@@ -9,15 +9,16 @@ use Rattle.laws.specs.Tabulate.{tabulate}
 use Rattle.bits.specs.Bits.{bitsOf}
 use Rattle.answer.specs.declared.Answer.{Answer}
 use Rattle.answer.specs.declared.Answer.the-variants.{Done, LastBits, Sync, Frame}
-use Rattle.answer.specs.Answer.{isDone, lengthsAnswer}
-use Rattle.answer.proofs.Tests.{done-is, done-not, then-next, then-here, lengths-done}
+use Rattle.answer.specs.Answer.{isDone}
+use Rattle.answer.specs.Lengths.{lengthsAnswer}
+use Rattle.answer.proofs.Tests.{done-is, done-not, then-next, then-here}
 use Rattle.scrambling.specs.Scrambling.{scramblingOf}
 use Rattle.bis.specs.Reading.{psnIn, sideIn, sideOut}
 use Rattle.cluster.specs.Multiplex.{bisIn}
 use Rattle.cluster.specs.Reading.{userIn}
 use Rattle.reader.specs.Reading.{lastZero, firstWrongSync, clusterIn}
 use Rattle.reader.specs.Outcome.{framesAnswer, blockAnswer, dataAnswer, clusterAnswer, psnNumber, psnOf, imageAnswer, Lent, Outcome, accepted, cleared, judgedOutcome, sizesAnswer, outcome}
-use Rattle.reader.specs.Read.{FramesRead, FramesJudged, BlockJudged, Sized, Given, DataRead, WorkLeft}
+use Rattle.reader.specs.Read.{FramesRead, FramesJudged, BlockJudged, Given, DataRead, WorkLeft}
 use Rattle.reader.proofs.Judging.{last-wrong, sync-wrong, frame-wrong, frames-right}
 
 -- ---- tests 9 to 11
@@ -183,11 +184,6 @@ module _ (b user side dc before : List ℕ) where
 module _ (image user side dc work : List ℕ) (a : Answer) (d : Bool) (ea : a ≡ lengthsAnswer (length user) (length side) (length dc) (length image) (length work)) (ed : d ≡ isDone a) where
   abbrev before : Lent
   before = record { user = user; side = side; dc = dc; work = work }
-
-  pub may-read : d ≡ true → Sized image user side dc work
-  may-read t =
-      let sizes = lengths-done (length user) (length side) (length dc) (length image) (length work) (sym ea ∙ done-is a (sym ed ∙ t)) in
-      record { image-size = sizes .image; user-size = sizes .user; side-size = sizes .side; dc-size = sizes .dc; work-size = sizes .work }
 
   pub is-read : (o : Outcome) → d ≡ true → o ≡ judgedOutcome (bitsOf image) before → o ≡ outcome image before
   unfolding outcome

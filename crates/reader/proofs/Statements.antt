@@ -15,7 +15,8 @@ use Rattle.bits.proofs.Bits as B
 use Rattle.answer.specs.declared.Answer.{Answer}
 use Rattle.answer.specs.declared.Answer.the-variants.{Done, LastBits, Sync, Frame, BisColumn, AddressUnit, NoPsn, LdcColumn, Sector}
 use Rattle.answer.specs.Answer.{numberOf, isDone, andThen, lowest}
-use Rattle.answer.proofs.Tests.{number-zero, done-is, done-not, then-both, then-done, lowest-end, lowest-done, right-lengths, lengths-done, lengths-number, Sizes}
+use Rattle.answer.proofs.Tests.{number-zero, done-is, done-not, then-both, then-done, lowest-end, lowest-done}
+use Rattle.answer.proofs.RightLengths.{lengths-right, lengths-done, lengths-number}
 use Rattle.modulation.specs.Bits.{bits}
 use Rattle.modulation.specs.Sync.{sync, syncNumber}
 use Rattle.laws.proofs.Booleans.{and-left, and-right}
@@ -35,8 +36,8 @@ use Rattle.image.specs.Image.{Input, IsAccepted, cluster, imageBits, image}
 use Rattle.image.proofs.Demand3.{image-bits, image-size}
 use Rattle.image.proofs.Statements.{zeros, zeros-accepted}
 use Rattle.reader.specs.Reading.{lastZero, wrongSync, firstWrongSync, modulatedAt, hashBehind, noFrame, firstNoFrame, frameBitsIn, clusterIn}
-use Rattle.reader.specs.Outcome.{framesAnswer, psnAnswer, blockAnswer, dataAnswer, psnOf, clusterAnswer, imageAnswer, Lent, Outcome, accepted, cleared, judgedOutcome, sizesAnswer, outcome}
-use Rattle.reader.specs.Promise.{Fitting, asInput, ReadsExactly}
+use Rattle.reader.specs.Outcome.{framesAnswer, foundAnswer, blockAnswer, dataAnswer, psnOf, clusterAnswer, imageAnswer, Lent, Outcome, accepted, cleared, judgedOutcome, sizesAnswer, outcome}
+use Rattle.reader.specs.Promise.{RightSlices, asInput, ReadsExactly}
 use Rattle.reader.proofs.Clusters.{read-psn, reads-done, done-reads}
 use Rattle.reader.proofs.Writing.{last-zero, right-syncs, all-frames, cluster-there, dc-there}
 use Rattle.reader.proofs.Accepting.{Passes, length-work, bytes-work, length-dc, dc-small, image-there}
@@ -94,17 +95,12 @@ sync-iff b n = (λ e. (hashAt b (1932 * n), stands (not-false _ e)), λ some. ri
 
 -- ---- 14: refused exactly where no accepted PSN has the sixteen AUNs
 
-pub no-psn-iff : (block : List (List ℕ)) → (psnAnswer (Bis.psnIn block) ≡ NoPsn) ↔ ((psn : ℕ) → Bis.IsPsnOf block psn → ⊥)
-no-psn-iff block = (λ e. no-psn-found block .0 (is-none (Bis.psnIn block) e), λ none. ap psnAnswer (no-psn-found block .1 none))
+pub no-psn-iff : (block : List (List ℕ)) → (foundAnswer (Bis.psnIn block) ≡ NoPsn) ↔ ((psn : ℕ) → Bis.IsPsnOf block psn → ⊥)
+no-psn-iff block = (λ e. no-psn-found block .0 (is-none (Bis.psnIn block) e), λ none. ap foundAnswer (no-psn-found block .1 none))
   where
-    is-none : (p : PsnFound) → psnAnswer p ≡ NoPsn → p ≡ NotFound
+    is-none : (p : PsnFound) → foundAnswer p ≡ NoPsn → p ≡ NotFound
     is-none (Found q) e = let z : _≡_ {A = ℕ} 0 14 = ap numberOf e in absurd (omega arith)
     is-none NotFound e = refl
-
--- ---- slices of the right lengths
-
-abbrev pub Right : Lent → Type 0
-Right before = Sizes (length (before .user)) (length (before .side)) (length (before .dc)) 119788 (length (before .work))
 
 length-image : (input : Input) → length (image input) ≡ 119788
 length-image input = omega (arith, B.length-bits (image input), ap (length {A = ℕ}) (image-bits input), length-append (imageBits input) (0 ∷ 0 ∷ []), image-size false input)
@@ -142,13 +138,11 @@ module _ (input : Input) (is : IsAccepted input) where
       let user = ap (λ (p : ℕ). userIn (scramblingOf p) (clusterIn b)) psn ∙ reads .has-user in
       λ i. record { answer = Done; psn = psn i; lent = record { user = user i; side = (reads .bis .has-side) i; dc = dc-there input is i; work = cluster-there input is i } }
 
-  pub read-back : (before : Lent) → Right before → outcome (image input) before ≡ given input
+  pub read-back : (before : Lent) → RightSlices before → outcome (image input) before ≡ given input
   unfolding outcome
   read-back before right =
       let sizes : sizesAnswer (image input) before ≡ Done =
-      sym
-      (right-lengths (length (before .user)) (length (before .side)) (length (before .dc)) (length (image input)) (length (before .work)) (right .user) (right .side) (right .dc)
-      (length-image input) (right .work)) in
+      lengths-right (length (before .user)) (length (before .side)) (length (before .dc)) (length (image input)) (length (before .work)) right (length-image input) in
       ap (λ (a : Answer). cond (isDone a) (judgedOutcome b before) (record { answer = a; psn = 0; lent = before })) sizes
       ∙ ap (λ (a : Answer). cond (isDone a) (accepted b) (record { answer = a; psn = 0; lent = cleared before })) image-done
       ∙ is-input
@@ -160,13 +154,13 @@ module _ (l : List ℕ) (before : Lent) (bytes : Bytes l) where
   unfolding outcome
   is-done e = by (sizesAnswer l before) (isDone (sizesAnswer l before)) refl e
     where
-      judged : (a : Answer) (t : Bool) → isDone a ≡ t → numberOf (cond t (accepted (bitsOf l)) (record { answer = a; psn = 0; lent = cleared before }) .answer) ≡ 0 → a ≡ Done
-      judged a true t e = done-is a t
-      judged a false t e = number-zero a e
+      by-image : (a : Answer) (t : Bool) → isDone a ≡ t → numberOf (cond t (accepted (bitsOf l)) (record { answer = a; psn = 0; lent = cleared before }) .answer) ≡ 0 → a ≡ Done
+      by-image a true t e = done-is a t
+      by-image a false t e = number-zero a e
 
       by : (a : Answer) (t : Bool) → isDone a ≡ t → numberOf (cond t (judgedOutcome (bitsOf l) before) (record { answer = a; psn = 0; lent = before }) .answer) ≡ 0
           → (a ≡ Done) × (imageAnswer (bitsOf l) ≡ Done)
-      by a true t e = (done-is a t, judged (imageAnswer (bitsOf l)) (isDone (imageAnswer (bitsOf l))) refl e)
+      by a true t e = (done-is a t, by-image (imageAnswer (bitsOf l)) (isDone (imageAnswer (bitsOf l))) refl e)
       by a false t e = absurd (done-not a t (number-zero a e))
 
   -- the outcome is then what is read in the image
@@ -219,7 +213,7 @@ module _ (l : List ℕ) (before : Lent) (bytes : Bytes l) where
     is-image = image-there l (read .user) (read .side) (read .psn) bytes size (passes done) (written .whole)
 
   right-size : sizesAnswer l before ≡ Done → length l ≡ 119788
-  right-size e = lengths-done (length (before .user)) (length (before .side)) (length (before .dc)) (length l) (length (before .work)) e .image
+  right-size e = lengths-done (length (before .user)) (length (before .side)) (length (before .dc)) (length l) (length (before .work)) e .1
 
   pub nothing-else : numberOf (outcome l before .answer) ≡ 0 → IsAccepted (returned (outcome l before)) × (l ≡ image (returned (outcome l before)))
   nothing-else e =
@@ -228,7 +222,7 @@ module _ (l : List ℕ) (before : Lent) (bytes : Bytes l) where
       rw (outcome-is e) (read-accepted size (done .1), is-image size (done .1))
 
   -- HENCE: an image slice of the right length is accepted if and only if it is some accepted input's image
-  pub accepted-iff : length l ≡ 119788 → Right before → (numberOf (outcome l before .answer) ≡ 0) ↔ ((input : Input) × (IsAccepted input × (l ≡ image input)))
+  pub accepted-iff : length l ≡ 119788 → RightSlices before → (numberOf (outcome l before .answer) ≡ 0) ↔ ((input : Input) × (IsAccepted input × (l ≡ image input)))
   accepted-iff size right = (
     λ e. (returned (outcome l before), nothing-else e),
     λ some. ap (λ (x : List ℕ). numberOf (outcome x before .answer)) (some .1 .1) ∙ ap (λ (o : Outcome). numberOf (o .answer)) (read-back (some .0) (some .1 .0) before right),
@@ -239,17 +233,16 @@ module _ (l : List ℕ) (before : Lent) (bytes : Bytes l) where
   work-there e =
       let made = nothing-else e in
       let sizes = lengths-done (length (before .user)) (length (before .side)) (length (before .dc)) (length l) (length (before .work)) (is-done e .0) in
-      let right : Right before = record { user = sizes .user; side = sizes .side; dc = sizes .dc; image = refl; work = sizes .work } in
-      ap (λ (x : List ℕ). outcome x before .lent .work) (made .1) ∙ ap (λ (o : Outcome). o .lent .work) (read-back (returned (outcome l before)) (made .0) before right)
+      ap (λ (x : List ℕ). outcome x before .lent .work) (made .1) ∙ ap (λ (o : Outcome). o .lent .work) (read-back (returned (outcome l before)) (made .0) before (sizes .0))
 
   -- as the contract has it: o is the answer, the PSN and the slices at exit
   pub with-exactly : {o : Outcome} → o ≡ outcome l before → (o ≡ outcome l before) × ReadsExactly l before (numberOf (o .answer)) (o .psn) (o .lent)
   with-exactly e = (e, subst (λ (o : Outcome). ReadsExactly l before (numberOf (o .answer)) (o .psn) (o .lent)) (sym e) exactly)
     where
-      back : Fitting before → (input : Input) → IsAccepted input → l ≡ image input → outcome l before ≡ given input
+      back : RightSlices before → (input : Input) → IsAccepted input → l ≡ image input → outcome l before ≡ given input
       back f input is h =
           ap (λ (x : List ℕ). outcome x before) h
-          ∙ read-back input is before (record { user = f .user; side = f .side; dc = f .dc; image = refl; work = f .work })
+          ∙ read-back input is before f
 
       exactly : ReadsExactly l before (numberOf (outcome l before .answer)) (outcome l before .psn) (outcome l before .lent)
       exactly =
@@ -259,7 +252,7 @@ module _ (l : List ℕ) (before : Lent) (bytes : Bytes l) where
           }
 
 -- the image of the cluster of zeros is read
-pub zeros-read : (before : Lent) → Right before → outcome (image zeros) before ≡ given zeros
+pub zeros-read : (before : Lent) → RightSlices before → outcome (image zeros) before ≡ given zeros
 zeros-read before right = read-back zeros zeros-accepted before right
 
 -- ---- A REFUSAL: the PSN is 0; user, side and dc are as they were; work is as it was under 1 to 5 and zeros under 9 to 16
@@ -293,7 +286,7 @@ late-test refusal n i h = late-either (ltb i n) (late-number (refusal i) (h i)) 
 late-then : {a next : Answer} → Late a → Late next → Late (andThen a next)
 late-then {a} {next} ha hn = late-either (isDone a) hn ha
 
-late-psn : (p : PsnFound) → Late (psnAnswer p)
+late-psn : (p : PsnFound) → Late (foundAnswer p)
 late-psn (Found q) = late-done
 late-psn NotFound = late-number NoPsn (omega arith)
 
@@ -318,15 +311,15 @@ refused l before h =
     nine-up : (a : Answer) → Late a → (numberOf a ≡ 0 → ⊥) → 9 ≤ numberOf a
     nine-up a g h = ⊎-elim (λ e. absurd (h e)) (λ k. k) (g .late)
 
-    judged : (a : Answer) (t : Bool) → isDone a ≡ t → Late a → (numberOf (cond t (accepted (bitsOf l)) (record { answer = a; psn = 0; lent = cleared before }) .answer) ≡ 0 → ⊥)
+    by-image : (a : Answer) (t : Bool) → isDone a ≡ t → Late a → (numberOf (cond t (accepted (bitsOf l)) (record { answer = a; psn = 0; lent = cleared before }) .answer) ≡ 0 → ⊥)
         → Refused before (cond t (accepted (bitsOf l)) (record { answer = a; psn = 0; lent = cleared before }))
-    judged a true t g h = absurd (h refl)
-    judged a false t g h =
+    by-image a true t g h = absurd (h refl)
+    by-image a false t g h =
         let nine = nine-up a g h in
         record { psn-zero = refl; user-kept = refl; side-kept = refl; dc-kept = refl; work-kept = λ k. absurd (omega arith); work-cleared = λ _. refl; number = inr nine }
 
     by : (a : Answer) (t : Bool) → isDone a ≡ t → numberOf a ≤ 5 → (numberOf (cond t (judgedOutcome (bitsOf l) before) (record { answer = a; psn = 0; lent = before }) .answer) ≡ 0 → ⊥)
         → Refused before (cond t (judgedOutcome (bitsOf l) before) (record { answer = a; psn = 0; lent = before }))
-    by a true t small h = judged (imageAnswer (bitsOf l)) (isDone (imageAnswer (bitsOf l))) refl (late-image (bitsOf l)) h
+    by a true t small h = by-image (imageAnswer (bitsOf l)) (isDone (imageAnswer (bitsOf l))) refl (late-image (bitsOf l)) h
     by a false t small h =
         record { psn-zero = refl; user-kept = refl; side-kept = refl; dc-kept = refl; work-kept = λ _. refl; work-cleared = λ k. absurd (omega arith); number = inl small }

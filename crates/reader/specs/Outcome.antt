@@ -7,7 +7,8 @@ use Rattle.laws.specs.Tabulate.{tabulate}
 use Rattle.bits.specs.Bits.{bitsOf}
 use Rattle.answer.specs.declared.Answer.{Answer}
 use Rattle.answer.specs.declared.Answer.the-variants.{Done, LastBits, Sync, Frame, BisColumn, AddressUnit, NoPsn, LdcColumn, Sector}
-use Rattle.answer.specs.Answer.{isDone, andThen, lowest, lengthsAnswer}
+use Rattle.answer.specs.Answer.{isDone, andThen, lowest}
+use Rattle.answer.specs.Lengths.{lengthsAnswer}
 use Rattle.scrambling.specs.Scrambling.{scramblingOf}
 use Rattle.bis.specs.declared.PsnFound.{PsnFound}
 use Rattle.bis.specs.declared.PsnFound.the-variants.{Found, NotFound}
@@ -23,9 +24,9 @@ unfoldable pub framesAnswer : List ℕ → Answer
 framesAnswer b = andThen (cond (lastZero b) Done LastBits) (andThen (lowest Sync 497 (firstWrongSync b)) (lowest Frame 496 (firstNoFrame b)))
 
 -- 14: no accepted PSN has the sixteen AUNs exactly where none is found (bis, proofs/Statements: no-psn-found)
-abbrev pub psnAnswer : PsnFound → Answer
-psnAnswer (Found psn) = Done
-psnAnswer NotFound = NoPsn
+abbrev pub foundAnswer : PsnFound → Answer
+foundAnswer (Found psn) = Done
+foundAnswer NotFound = NoPsn
 
 abbrev pub psnNumber : PsnFound → ℕ
 psnNumber (Found psn) = psn .0
@@ -33,7 +34,7 @@ psnNumber NotFound = 0
 
 -- 12 to 14, in the BIS block
 unfoldable pub blockAnswer : List (List ℕ) → Answer
-blockAnswer block = andThen (lowest BisColumn 24 (firstWrongColumn block)) (andThen (lowest AddressUnit 16 (firstWrongField block)) (psnAnswer (psnIn block)))
+blockAnswer block = andThen (lowest BisColumn 24 (firstWrongColumn block)) (andThen (lowest AddressUnit 16 (firstWrongField block)) (foundAnswer (psnIn block)))
 
 -- 15 and 16, in an ECC cluster that is scrambled with a stream
 unfoldable pub dataAnswer : List ℕ → List ℕ → Answer

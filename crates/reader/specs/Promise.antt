@@ -3,15 +3,13 @@ use mathlib.Core.Path.{_≡_}
 use mathlib.Core.List.{List}
 use Prim.Native.Nat.{ℕ}
 use lib.ListN.{length}
+use Rattle.answer.specs.Lengths.{RightLengths}
 use Rattle.image.specs.Image.{Input, IsAccepted, cluster, image}
 use Rattle.reader.specs.Outcome.{Lent}
 
--- the lent slices have the lengths that the reader asks
-pub record Fitting (lent : Lent) : Type 0 where
-  pub user : length (lent .user) ≡ 65536
-  pub side : length (lent .side) ≡ 592
-  pub dc : length (lent .dc) ≡ 496
-  pub work : length (lent .work) ≡ 76880
+-- the lent slices have their lengths
+abbrev pub RightSlices : Lent → Type 0
+RightSlices lent = RightLengths (length (lent .user)) (length (lent .side)) (length (lent .dc)) (length (lent .work))
 
 -- what is returned, as an input
 abbrev pub asInput : ℕ → Lent → Input
@@ -26,4 +24,4 @@ pub record IsReturned (l : List ℕ) (psn : ℕ) (lent : Lent) : Type 0 where
 -- l is the image; number and PSN that are returned; the lent slices, which were `before`
 pub record ReadsExactly (l : List ℕ) (before : Lent) (number psn : ℕ) (lent : Lent) : Type 0 where
   pub only : number ≡ 0 → IsReturned l psn lent
-  pub always : Fitting before → (input : Input) → IsAccepted input → l ≡ image input → (number ≡ 0) × (asInput psn lent ≡ input)
+  pub always : RightSlices before → (input : Input) → IsAccepted input → l ≡ image input → (number ≡ 0) × (asInput psn lent ≡ input)

@@ -49,14 +49,6 @@ pub record BlockJudged (block : List (List ℕ)) (answer : Answer) (psn : ℕ) :
   pub answer-is : answer ≡ blockAnswer block
   pub psn-is : answer ≡ Done → psn ≡ psnNumber (psnIn block)
 
--- slices of the right lengths
-pub record Sized (image user side dc work : List ℕ) : Type 0 where
-  pub image-size : length image ≡ 119788
-  pub user-size : length user ≡ 65536
-  pub side-size : length side ≡ 592
-  pub dc-size : length dc ≡ 496
-  pub work-size : length work ≡ 76880
-
 -- what a cluster was made of, with the dc words that were read
 pub record Given (work stream : List ℕ) (block : List (List ℕ)) (words user side dc : List ℕ) : Type 0 where
   pub user-is : user ≡ userIn stream work

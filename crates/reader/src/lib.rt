@@ -1,24 +1,25 @@
 // The strict reader: what an image was made of, or why it is no image.
 use address::Psn;
 use answer::Answer;
-use automaton::Table;
 use bis::PsnFound;
+use remainders::Remainders;
+use automaton::Table;
 use frame::FrameRead;
 use frame::TwoRead;
-use remainders::Remainders;
 ghost use mathlib.Core.Path.{_≡_};
 ghost use Prim.Native.Nat.{_+_, _<_};
 ghost use lib.ListN.{length};
 ghost use Rattle.bits.specs.Bits.{bitsOf};
 ghost use Rattle.answer.specs.Answer.{numberOf};
+ghost use Rattle.answer.specs.Lengths.{RightLengths};
 ghost use Rattle.automaton.specs.steps.Table.{table};
 ghost use Rattle.remainders.specs.steps.Remainders.{AreRemainders};
 ghost use Rattle.scrambling.specs.Scrambling.{scramblingOf};
 ghost use Rattle.cluster.specs.Multiplex.{bisIn};
 ghost use Rattle.reader.specs.Reading.{lastZero, firstWrongSync};
-ghost use Rattle.reader.specs.Outcome.{dataAnswer, clusterAnswer, psnOf, judgedOutcome, outcome};
+ghost use Rattle.reader.specs.Outcome.{dataAnswer, clusterAnswer, psnOf, Lent, Outcome, judgedOutcome, outcome};
 ghost use Rattle.reader.specs.Promise.{ReadsExactly};
-ghost use Rattle.reader.specs.Read.{TwoFrames, FramesRead, FramesJudged, BlockJudged, Sized, Given, DataRead, WorkLeft};
+ghost use Rattle.reader.specs.Read.{TwoFrames, FramesRead, FramesJudged, BlockJudged, Given, DataRead, WorkLeft};
 
 // What the reader answers; the PSN is 0 on refusal.
 pub struct Read {
@@ -203,15 +204,15 @@ fn read_data(
     ensures { λ r. ⌜ DataRead (dataAnswer (scramblingOf (psn .0)) (now (work .entry))) (psn .0) block (now (work .entry)) (now (words .entry)) (now (user .entry)) (now (side .entry)) (now (dc .entry)) (r .answer) (r .psn .0) (now (user .exit)) (now (side .exit)) (now (dc .exit)) ⌝ }
 {
     let stream = scrambling::scrambling(psn);
-    let judged = judge_data(table, work, &stream);
-    if judged.is_done() {
+    let answer = judge_data(table, work, &stream);
+    if answer.is_done() {
         give(work, &stream, block, words, user, side, dc);
         return Read {
             answer: Answer::Done,
             psn: psn,
         };
     }
-    refused(judged)
+    refused(answer)
 }
 
 // Tests 12 to 16 of a cluster; where they are passed, what it was made of.
@@ -229,12 +230,12 @@ fn read_cluster(
     let mut table = remainders::steps::no_remainders();
     remainders::steps::fill_remainders(&mut table);
     let found = judge_block(&table, block);
-    let judged = found.answer;
+    let answer = found.answer;
     let psn = found.psn;
-    if judged.is_done() {
+    if answer.is_done() {
         return read_data(&table, work, psn, block, words, user, side, dc);
     }
-    refused(judged)
+    refused(answer)
 }
 
 // The same; where it is refused, zeros in its place.
@@ -272,17 +273,17 @@ fn read_sized(
     dc: &mut [u32],
     work: &mut [u8],
 ) -> Read
-    requires { ⌜ Sized (now image) (now user) (now side) (now dc) (now work) ⌝ }
+    requires { ⌜ RightLengths (length (now user)) (length (now side)) (length (now dc)) (length (now work)) × (length (now image) ≡ 119788) ⌝ }
     ensures { λ r. ⌜ record { answer = r .answer; psn = r .psn .0; lent = record { user = now (user .exit); side = now (side .exit); dc = now (dc .exit); work = now (work .exit) } }
         ≡ judgedOutcome (bitsOf (now (image .entry))) (record { user = now (user .entry); side = now (side .entry); dc = now (dc .entry); work = now (work .entry) }) ⌝ }
 {
     let mut words = no_words();
-    let judged = judge_frames(image, &mut words, work);
-    if judged.is_done() {
+    let answer = judge_frames(image, &mut words, work);
+    if answer.is_done() {
         return read_or_clear(work, &words, user, side, dc);
     }
     slices::clear(work);
-    refused(judged)
+    refused(answer)
 }
 
 // Reads an image strictly. Document 01's answers 0 to 5 and 9 to 16: on 0 the user bytes, side data and dc words that the image was made

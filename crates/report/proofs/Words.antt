@@ -26,13 +26,13 @@ use Rattle.report.proofs.Numbers.{decimal-short}
 
 meaning-short : (a : Answer) → length (meaning a) ≤ 66
 meaning-short Done = omega arith
-meaning-short WrongUser = omega arith
+meaning-short (WrongUser n) = omega arith
 meaning-short WrongSide = omega arith
 meaning-short WrongDc = omega arith
 meaning-short WrongImage = omega arith
 meaning-short WrongWork = omega arith
-meaning-short NoMultiple = omega arith
-meaning-short NoZone = omega arith
+meaning-short (NoMultiple n) = omega arith
+meaning-short (NoZone n) = omega arith
 meaning-short (DcWord n) = simp length-append (omega (arith, decimal-short 20 n))
 meaning-short LastBits = omega arith
 meaning-short (Sync n) = simp length-append (omega (arith, decimal-short 20 n))

@@ -13,16 +13,16 @@ use Rattle.report.specs.Numbers.{decimal, hexadecimal}
 
 -- ---- answers
 
--- what an answer means, in a line; none for 0
+-- what an answer means, in a line; none for 0; the place of 1, 6 and 7 stands in the line before alone
 abbrev pub meaning : Answer → List ℕ
 meaning Done = []
-meaning WrongUser = the "the user data are not 65536 bytes\n"
+meaning (WrongUser n) = the "the user data are not 65536 bytes\n"
 meaning WrongSide = the "the side data are not 592 bytes\n"
 meaning WrongDc = the "there are not 496 dc words\n"
 meaning WrongImage = the "the image is not 119788 bytes\n"
 meaning WrongWork = the "the work slice is not 76880 bytes\n"
-meaning NoMultiple = the "the PSN is no multiple of 32\n"
-meaning NoZone = the "the PSN lies in no data zone\n"
+meaning (NoMultiple n) = the "the PSN is no multiple of 32\n"
+meaning (NoZone n) = the "the PSN lies in no data zone\n"
 meaning (DcWord n) = the "dc word " ++ decimal n ++ the " is above 0FFFFFFF\n"
 meaning LastBits = the "the last two bits are not zero\n"
 meaning (Sync n) = the "the frame sync of frame " ++ decimal n ++ the " is wrong\n"

@@ -84,13 +84,13 @@ fn put_meaning(text: Text, answer: Answer) -> Text
 {
     match answer {
         Answer::Done => put(text, b""),
-        Answer::WrongUser => put(text, b"the user data are not 65536 bytes\n"),
+        Answer::WrongUser(_) => put(text, b"the user data are not 65536 bytes\n"),
         Answer::WrongSide => put(text, b"the side data are not 592 bytes\n"),
         Answer::WrongDc => put(text, b"there are not 496 dc words\n"),
         Answer::WrongImage => put(text, b"the image is not 119788 bytes\n"),
         Answer::WrongWork => put(text, b"the work slice is not 76880 bytes\n"),
-        Answer::NoMultiple => put(text, b"the PSN is no multiple of 32\n"),
-        Answer::NoZone => put(text, b"the PSN lies in no data zone\n"),
+        Answer::NoMultiple(_) => put(text, b"the PSN is no multiple of 32\n"),
+        Answer::NoZone(_) => put(text, b"the PSN lies in no data zone\n"),
         Answer::DcWord(n) => put_place(text, b"dc word ", n, b" is above 0FFFFFFF\n"),
         Answer::LastBits => put(text, b"the last two bits are not zero\n"),
         Answer::Sync(n) => put_place(text, b"the frame sync of frame ", n, b" is wrong\n"),

@@ -10,13 +10,13 @@ fn print_answer(answer: Answer) {
 
 fn lengths_and_psn() {
     print_answer(Answer::Done);
-    print_answer(Answer::WrongUser);
+    print_answer(Answer::WrongUser(0));
     print_answer(Answer::WrongSide);
     print_answer(Answer::WrongDc);
     print_answer(Answer::WrongImage);
     print_answer(Answer::WrongWork);
-    print_answer(Answer::NoMultiple);
-    print_answer(Answer::NoZone);
+    print_answer(Answer::NoMultiple(0));
+    print_answer(Answer::NoZone(0));
     print_answer(Answer::DcWord(495));
 }
 

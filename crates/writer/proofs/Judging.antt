@@ -5,16 +5,16 @@ use mathlib.Core.List.{List}
 use Prim.Native.Nat.{ℕ, _<_, _≤_}
 use borrow.Author.Tests.{lt-ltb, le-ltb}
 use lib.ListN.{length, getD}
-use Rattle.address.specs.declared.Judged.{Judged}
-use Rattle.address.specs.declared.Judged.the-variants as J
-use Rattle.address.specs.Judged.{judged}
 use Rattle.answer.specs.declared.Answer.{Answer}
-use Rattle.answer.specs.declared.Answer.the-variants.{Done, NoMultiple, NoZone, DcWord}
-use Rattle.answer.specs.Answer.{isDone, andThen, lowest, lengthsAnswer}
-use Rattle.answer.proofs.Tests.{Sizes, done-is, then-done, lengths-done, lowest-here, lowest-none, lowest-done}
+use Rattle.answer.specs.declared.Answer.the-variants.{Done, DcWord}
+use Rattle.answer.specs.Answer.{isDone, andThen, lowest}
+use Rattle.answer.specs.Lengths.{lengthsAnswer, RightLengths}
+use Rattle.answer.proofs.Tests.{done-told, then-done, goes-on, stops, lowest-here, lowest-none, lowest-done}
+use Rattle.answer.proofs.RightLengths.{lengths-done}
+use Rattle.address.specs.Judged.{judged}
 use Rattle.image.specs.Image.{Input, cluster, image}
-use Rattle.writer.specs.Written.{Passed, Filled}
-use Rattle.writer.specs.Outcome.{psnAnswer, tooLarge, firstTooLarge, partsAnswer, answer, written, outcome}
+use Rattle.writer.specs.Written.{Filled}
+use Rattle.writer.specs.Outcome.{tooLarge, firstTooLarge, partsAnswer, answer, written, outcome}
 
 -- ---- the dc words
 
@@ -26,65 +26,50 @@ pub dc-small : (dc : List ℕ) (n : ℕ) → getD dc n 0 ≤ 0x0FFF_FFFF → too
 unfolding tooLarge
 dc-small dc n h = le-ltb 0x0FFF_FFFF (getD dc n 0) h
 
--- ---- the PSN and the dc words; j and n are what was judged and found
+-- ---- the PSN and the dc words; a is what is answered of the PSN, d whether it is `Done`, n the word that is found
 
-module _ (psn : ℕ) (dc : List ℕ) (j : Judged) (hj : j ≡ judged psn) where
-  by-psn : {k : Judged} → j ≡ k → andThen (psnAnswer k) (lowest DcWord 496 (firstTooLarge dc)) ≡ partsAnswer psn dc
-  by-psn e = ap (λ (k : Judged). andThen (psnAnswer k) (lowest DcWord 496 (firstTooLarge dc))) (sym e ∙ hj)
+module _ (psn : ℕ) (dc : List ℕ) (a : Answer) (d : Bool) (ha : a ≡ judged psn) (hd : d ≡ isDone a) where
+  pub psn-refused : d ≡ false → a ≡ partsAnswer psn dc
+  psn-refused e = stops (judged psn) (lowest DcWord 496 (firstTooLarge dc)) a d ha hd e
 
-  pub psn-no-multiple : j ≡ J.NoMultiple → NoMultiple ≡ partsAnswer psn dc
-  psn-no-multiple e = by-psn e
+  module _ (n : ℕ) (e : d ≡ true) (f : n ≡ firstTooLarge dc) where
+    by-word : {r : Answer} → r ≡ lowest DcWord 496 n → r ≡ partsAnswer psn dc
+    by-word {r} is = goes-on (judged psn) (lowest DcWord 496 (firstTooLarge dc)) a d ha hd r e (is ∙ ap (lowest DcWord 496) f)
 
-  pub psn-no-zone : j ≡ J.NoZone → NoZone ≡ partsAnswer psn dc
-  psn-no-zone e = by-psn e
+    pub dc-word : n < 496 → DcWord n ≡ partsAnswer psn dc
+    dc-word h = by-word (sym (lowest-here DcWord h))
 
-  pub dc-word : (n : ℕ) → j ≡ J.Accepted → n ≡ firstTooLarge dc → n < 496 → DcWord n ≡ partsAnswer psn dc
-  dc-word n e f h = sym (lowest-here DcWord h) ∙ ap (λ (m : ℕ). lowest DcWord 496 m) f ∙ by-psn e
+    pub all-right : 496 ≤ n → a ≡ partsAnswer psn dc
+    all-right h = by-word (ha ∙ done-told ha hd e ∙ sym (lowest-none DcWord h))
 
-  pub all-right : (n : ℕ) → j ≡ J.Accepted → n ≡ firstTooLarge dc → 496 ≤ n → Done ≡ partsAnswer psn dc
-  all-right n e f h = sym (lowest-none DcWord h) ∙ ap (λ (m : ℕ). lowest DcWord 496 m) f ∙ by-psn e
+-- ---- an input that passes; its lengths, and those of image and work
 
--- ---- an input that passes
+module _ (u s d i w psn : ℕ) (dc : List ℕ) where
+  pub passed-all : andThen (lengthsAnswer u s d i w) (partsAnswer psn dc) ≡ Done → RightLengths u s d w × (i ≡ 119788) × (judged psn ≡ Done) × (496 ≤ firstTooLarge dc)
+  passed-all e =
+      let all = then-done (lengthsAnswer u s d i w) (partsAnswer psn dc) e in
+      let sizes = lengths-done u s d i w (all .0) in
+      let parts = then-done (judged psn) (lowest DcWord 496 (firstTooLarge dc)) (all .1) in
+      (sizes .0, sizes .1, parts .0, lowest-done DcWord (λ k. refl) (parts .1))
 
-accepted-psn : (j : Judged) → psnAnswer j ≡ Done → j ≡ J.Accepted
-accepted-psn J.Accepted e = refl
-accepted-psn J.NoMultiple e = cc
-accepted-psn J.NoZone e = cc
+  -- as the code has it: r is what was answered, t whether it is `Done`
+  pub may-write : {r : Answer} {t : Bool} → r ≡ andThen (lengthsAnswer u s d i w) (partsAnswer psn dc) → t ≡ isDone r → t ≡ true
+      → RightLengths u s d w × ((i ≡ 119788) × (judged psn ≡ Done))
+  may-write hr ht e = let all = passed-all (done-told hr ht e) in (all .0, (all .1, all .2))
 
--- the tests of the input alone, and of the slices
-pub passed-all : (input : Input) (i w : ℕ) → answer input i w ≡ Done
-    → Sizes (length (input .user)) (length (input .side)) (length (input .dc)) i w × (judged (input .psn) ≡ J.Accepted) × (496 ≤ firstTooLarge (input .dc))
-unfolding answer
-passed-all input i w e =
-    let all = then-done (lengthsAnswer (length (input .user)) (length (input .side)) (length (input .dc)) i w) (partsAnswer (input .psn) (input .dc)) e in
-    let parts = then-done (psnAnswer (judged (input .psn))) (lowest DcWord 496 (firstTooLarge (input .dc))) (all .1) in
-    (lengths-done (length (input .user)) (length (input .side)) (length (input .dc)) i w (all .0), accepted-psn (judged (input .psn)) (parts .0), lowest-done DcWord (λ k. refl) (parts .1))
-
--- ---- as the code has it: r is what was judged, d whether it is `Done`
+-- ---- the outcome; r is what was answered, d whether it is `Done`
 
 module _ (user side dc before work : List ℕ) (psn : ℕ) (r : Answer) (d : Bool)
     (hr : r ≡ andThen (lengthsAnswer (length user) (length side) (length dc) (length before) (length work)) (partsAnswer psn dc)) (hd : d ≡ isDone r) where
   abbrev input : Input
   input = record { user = user; psn = psn; side = side; dc = dc }
 
-  judged-is : r ≡ answer input (length before) (length work)
+  is-answer : r ≡ answer input (length before) (length work)
   unfolding answer
-  judged-is = hr
+  is-answer = hr
 
   done : d ≡ true → answer input (length before) (length work) ≡ Done
-  done e = sym judged-is ∙ done-is r (sym hd ∙ e)
-
-  pub may-write : d ≡ true → Passed input before work
-  may-write e =
-      let all = passed-all input (length before) (length work) (done e) in
-      record {
-        user = all .0 .user;
-        psn = all .1;
-        side = all .0 .side;
-        dc = all .0 .dc;
-        image-size = all .0 .image;
-        work-size = all .0 .work;
-      }
+  done e = done-told is-answer hd e
 
   pub is-written : (after made : List ℕ) → d ≡ true → Filled input after made → record { answer = Done; image = after; work = made } ≡ outcome input before work
   unfolding outcome
@@ -96,4 +81,4 @@ module _ (user side dc before work : List ℕ) (psn : ℕ) (r : Answer) (d : Boo
   is-refused e =
       let kept : isDone r ≡ false = sym hd ∙ e in
       sym (λ i. record { answer = r; image = cond (kept i) (image input) before; work = cond (kept i) (cluster input) work })
-      ∙ ap (λ (a : Answer). written input a before work) judged-is
+      ∙ ap (λ (a : Answer). written input a before work) is-answer

@@ -14,25 +14,27 @@ use Rattle.image.proofs.Statements.{zeros, zeros-accepted}
 use Rattle.answer.specs.declared.Answer.{Answer}
 use Rattle.answer.specs.declared.Answer.the-variants.{Done, DcWord}
 use Rattle.answer.specs.Answer.{numberOf, placeOf, isDone, lowest}
-use Rattle.answer.proofs.Tests.{number-zero, done-or-not, then-next, right-lengths, lowest-none}
-use Rattle.writer.specs.Outcome.{psnAnswer, tooLarge, firstTooLarge, partsAnswer, answer, Outcome, outcome}
+use Rattle.answer.proofs.Tests.{number-zero, done-or-not, then-next, lowest-none}
+use Rattle.answer.proofs.RightLengths.{lengths-right}
+use Rattle.writer.specs.Outcome.{tooLarge, firstTooLarge, partsAnswer, answer, Outcome, outcome}
 use Rattle.writer.specs.Promise.{WellFormed, WritesExactly}
 use Rattle.writer.proofs.Judging.{passed-all}
 
 module _ (input : Input) (before work : List ℕ) (bytes : Bytes (input .user)) (side-bytes : Bytes (input .side)) where
   is-done : answer input (length before) (length work) ≡ Done → WellFormed input before work
+  unfolding answer
   is-done e =
-      let all = passed-all input (length before) (length work) e in
+      let all = passed-all (length (input .user)) (length (input .side)) (length (input .dc)) (length before) (length work) (input .psn) (input .dc) e in
       record {
         accepted =
             record {
               user = record { size = all .0 .user; bytes = bytes };
-              psn = all .1;
+              psn = all .2;
               side = record { size = all .0 .side; bytes = side-bytes };
-              dc = record { size = all .0 .dc; small = λ n h. small (all .2) n h };
+              dc = record { size = all .0 .dc; small = λ n h. small (all .3) n h };
             };
-        image-size = all .0 .image;
-        work-size = all .0 .work;
+        lengths = all .0;
+        image-size = all .1;
       }
     where
       small : 496 ≤ firstTooLarge (input .dc) → (n : ℕ) → n < 496 → getD (input .dc) n 0 ≤ 0x0FFF_FFFF
@@ -41,10 +43,9 @@ module _ (input : Input) (before work : List ℕ) (bytes : Bytes (input .user)) 
   done-is : WellFormed input before work → answer input (length before) (length work) ≡ Done
   unfolding answer
   done-is w =
-      let i = w .accepted in
-      let lengths = sym (right-lengths (length (input .user)) (length (input .side)) (length (input .dc)) (length before) (length work) (i .user .size) (i .side .size) (i .dc .size) (w .image-size) (w .work-size)) in
+      let lengths = lengths-right (length (input .user)) (length (input .side)) (length (input .dc)) (length before) (length work) (w .lengths) (w .image-size) in
       let words : lowest DcWord 496 (firstTooLarge (input .dc)) ≡ Done = lowest-none DcWord no-large in
-      then-next _ (partsAnswer (input .psn) (input .dc)) lengths ∙ then-next _ (lowest DcWord 496 (firstTooLarge (input .dc))) (ap psnAnswer (i .psn)) ∙ words
+      then-next _ (partsAnswer (input .psn) (input .dc)) lengths ∙ then-next _ (lowest DcWord 496 (firstTooLarge (input .dc))) (w .accepted .psn) ∙ words
     where
       no-large : 496 ≤ firstTooLarge (input .dc)
       no-large =
@@ -84,4 +85,6 @@ untouched input before work h =
 -- the cluster of zeros is written
 pub zeros-written : (before work : List ℕ) → length before ≡ 119788 → length work ≡ 76880 → numberOf (outcome zeros before work .answer) ≡ 0
 zeros-written before work i w =
-    encoded zeros before work (zeros-accepted .user .bytes) (zeros-accepted .side .bytes) .1 (record { accepted = zeros-accepted; image-size = i; work-size = w })
+    let is = zeros-accepted in
+    encoded zeros before work (is .user .bytes) (is .side .bytes) .1
+    (record { accepted = is; lengths = record { user = is .user .size; side = is .side .size; dc = is .dc .size; work = w }; image-size = i })

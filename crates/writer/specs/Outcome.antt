@@ -5,21 +5,14 @@ use Prim.Native.Nat.{ℕ}
 use lib.Dec.{ltb}
 use lib.ListN.{length, getD}
 use Rattle.laws.specs.First.{first}
-use Rattle.address.specs.declared.Judged.{Judged}
-use Rattle.address.specs.declared.Judged.the-variants as J
-use Rattle.address.specs.Judged.{judged}
 use Rattle.answer.specs.declared.Answer.{Answer}
-use Rattle.answer.specs.declared.Answer.the-variants.{Done, NoMultiple, NoZone, DcWord}
-use Rattle.answer.specs.Answer.{isDone, andThen, lowest, lengthsAnswer}
+use Rattle.answer.specs.declared.Answer.the-variants.{DcWord}
+use Rattle.answer.specs.Answer.{isDone, andThen, lowest}
+use Rattle.answer.specs.Lengths.{lengthsAnswer}
+use Rattle.address.specs.Judged.{judged}
 use Rattle.image.specs.Image.{Input, cluster, image}
 
 -- ---- the tests 1 to 8, in rising order
-
--- 6, 7: the PSN
-abbrev pub psnAnswer : Judged → Answer
-psnAnswer J.Accepted = Done
-psnAnswer J.NoMultiple = NoMultiple
-psnAnswer J.NoZone = NoZone
 
 -- 8: the first dc word above 0FFFFFFFh
 unfoldable pub tooLarge : List ℕ → ℕ → Bool
@@ -28,9 +21,9 @@ tooLarge dc n = ltb 0x0FFF_FFFF (getD dc n 0)
 unfoldable pub firstTooLarge : List ℕ → ℕ
 firstTooLarge dc = first 496 (tooLarge dc)
 
--- 6 to 8
+-- 6 to 8: the PSN and the dc words
 abbrev pub partsAnswer : ℕ → List ℕ → Answer
-partsAnswer psn dc = andThen (psnAnswer (judged psn)) (lowest DcWord 496 (firstTooLarge dc))
+partsAnswer psn dc = andThen (judged psn) (lowest DcWord 496 (firstTooLarge dc))
 
 -- 1 to 8; the lengths of image and work
 unfoldable pub answer : Input → ℕ → ℕ → Answer

@@ -4,13 +4,14 @@ use mathlib.Core.Logic.{_↔_}
 use mathlib.Core.List.{List}
 use Prim.Native.Nat.{ℕ}
 use lib.ListN.{length}
+use Rattle.answer.specs.Lengths.{RightLengths}
 use Rattle.image.specs.Image.{Input, IsAccepted, cluster, image}
 
--- an accepted input, and slices of the image's and the ECC cluster's lengths
+-- an accepted input, and all slices have their lengths
 pub record WellFormed (input : Input) (before work : List ℕ) : Type 0 where
   pub accepted : IsAccepted input
+  pub lengths : RightLengths (length (input .user)) (length (input .side)) (length (input .dc)) (length work)
   pub image-size : length before ≡ 119788
-  pub work-size : length work ≡ 76880
 
 -- the number returned; the two lent slices were `before` and `work`, and are `after` and `made`
 pub record WritesExactly (input : Input) (before work : List ℕ) (number : ℕ) (after made : List ℕ) : Type 0 where

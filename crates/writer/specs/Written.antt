@@ -1,35 +1,17 @@
 -- What the steps of writing leave in the image: `before` at entry, `after` at exit.
 use mathlib.Core.Path.{_≡_}
-use mathlib.Core.Bool.{Bool, false}
+use mathlib.Core.Bool.{false}
 use mathlib.Core.List.{List, [], _∷_, _++_}
-use Prim.Native.Nat.{ℕ, _*_}
-use lib.ListN.{length, take}
+use Prim.Native.Nat.{ℕ}
 use Rattle.bits.specs.Bits.{bitsOf}
 use Rattle.modulation.specs.Bits.{bits}
 use Rattle.modulation.specs.Stream as Stream
-use Rattle.address.specs.declared.Judged.the-variants.{Accepted}
-use Rattle.address.specs.Judged.{judged}
 use Rattle.image.specs.Image.{Input, cluster, image}
 use Rattle.recording.specs.Recording.{recordingOf}
-
--- the frames below n stand in front, and the answer is # of the next sync
-pub record FramesWritten (work dc before : List ℕ) (n : ℕ) (after : List ℕ) (answer : Bool) : Type 0 where
-  pub size : length after ≡ length before
-  pub front : take (1932 * n) (bitsOf after) ≡ bits (Stream.run (recordingOf false work dc) n)
-  pub next : answer ≡ Stream.hash (recordingOf false work dc) n
 
 -- the 496 frames, the sync that follows, and two zero bits
 pub record ImageWritten (work dc after : List ℕ) : Type 0 where
   pub whole : bitsOf after ≡ bits (Stream.stream (recordingOf false work dc) 496) ++ (0 ∷ 0 ∷ [])
-
--- an input and two slices that pass the tests, as far as writing needs it
-pub record Passed (input : Input) (image work : List ℕ) : Type 0 where
-  pub user : length (input .user) ≡ 65536
-  pub psn : judged (input .psn) ≡ Accepted
-  pub side : length (input .side) ≡ 592
-  pub dc : length (input .dc) ≡ 496
-  pub image-size : length image ≡ 119788
-  pub work-size : length work ≡ 76880
 
 -- the slices as they are when all is written
 pub record Filled (input : Input) (after work : List ℕ) : Type 0 where

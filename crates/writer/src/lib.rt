@@ -1,17 +1,15 @@
 // The writer: the image of a cluster, from its user bytes, PSN, side data and dc words.
-use address::Judged;
 use address::Psn;
 use answer::Answer;
-use modulator::Table;
+use frame::State;
 ghost use mathlib.Core.Path.{_≡_};
-ghost use Prim.Native.Nat.{_*_, _<_};
-ghost use lib.ListN.{length, getD};
-ghost use Rattle.answer.specs.Answer.{numberOf, andThen, lengthsAnswer};
-ghost use Rattle.modulation.specs.Sync.{syncNumber};
-ghost use Rattle.frame.specs.steps.Written.{FrameWritten};
-ghost use Rattle.modulator.specs.steps.Table.{lentTable};
-ghost use Rattle.cluster.specs.EccCluster.{rowOf};
-ghost use Rattle.writer.specs.Written.{FramesWritten, ImageWritten, Passed, Filled};
+ghost use Prim.Native.Nat.{_<_};
+ghost use lib.ListN.{length};
+ghost use Rattle.answer.specs.declared.Answer.the-variants.{Done};
+ghost use Rattle.answer.specs.Answer.{numberOf, andThen};
+ghost use Rattle.answer.specs.Lengths.{lengthsAnswer, RightLengths};
+ghost use Rattle.address.specs.Judged.{judged};
+ghost use Rattle.writer.specs.Written.{ImageWritten, Filled};
 ghost use Rattle.writer.specs.Outcome.{partsAnswer, firstTooLarge, outcome};
 ghost use Rattle.writer.specs.Promise.{WritesExactly};
 
@@ -30,39 +28,13 @@ fn first_too_large(dc: &[u32]) -> usize
     n
 }
 
-// Frame n from the row that is shown of the cluster; the answer is # of the next sync.
-fn put_frame(table: &Table, work: &[u8], dc: &[u32], n: usize, hash: bool, image: &mut [u8]) -> bool
-    requires { ⌜ ((now table ≡ lentTable) × ((length (now work) ≡ 76880) × (length (now dc) ≡ 496))) × (n < 496) ⌝ }
-    ensures { λ r. ⌜ FrameWritten (syncNumber n) hash (rowOf (now (work .entry)) n) (getD (now (dc .entry)) n 0) (now (image .entry)) (1932 * n) (now (image .exit)) r ⌝ }
-{
-    let row = cluster::row(work, n);
-    let number = frame_sync::sync_number(n);
-    frame::steps::write_frame(table, row, dc[n], number, hash, image, 1932 * n)
-}
-
-// The 496 frames; the answer is # of the sync that follows.
-fn put_frames(work: &[u8], dc: &[u32], image: &mut [u8]) -> bool
-    requires { ⌜ ((length (now work) ≡ 76880) × (length (now dc) ≡ 496)) × (length (now image) ≡ 119788) ⌝ }
-    ensures { λ r. ⌜ FramesWritten (now (work .entry)) (now (dc .entry)) (now (image .entry)) 496 (now (image .exit)) r ⌝ }
-{
-    let mut table = modulator::steps::no_table();
-    modulator::steps::fill_table(&mut table);
-    let mut hash = false;
-    let mut n = 0;
-    while n < 496 {
-        hash = put_frame(&table, work, dc, n, hash, image);
-        n += 1;
-    }
-    hash
-}
-
 // The frames, the sync that follows, which is FS0, and two zero bits.
 fn put_image(work: &[u8], dc: &[u32], image: &mut [u8])
     requires { ⌜ ((length (now work) ≡ 76880) × (length (now dc) ≡ 496)) × (length (now image) ≡ 119788) ⌝ }
     ensures { λ _. ⌜ ImageWritten (now (work .entry)) (now (dc .entry)) (now (image .exit)) ⌝ }
 {
-    let hash = put_frames(work, dc, image);
-    frame_sync::steps::write_sync(hash, 0, image, 958272);
+    let state = recording::steps::put_frames(work, dc, State { hash: false }, image, 0);
+    frame_sync::steps::write_sync(state.hash, 0, image, 958272);
     bits::write_bit(image, 958302, 0);
     bits::write_bit(image, 958303, 0);
 }
@@ -72,19 +44,14 @@ fn judge_parts(psn: Psn, dc: &[u32]) -> Answer
     requires { ⌜ length (now dc) ≡ 496 ⌝ }
     ensures { λ r. ⌜ r ≡ partsAnswer (psn .0) (now (dc .entry)) ⌝ }
 {
-    let judged = psn.judge();
-    match judged {
-        Judged::NoMultiple => Answer::NoMultiple,
-        Judged::NoZone => Answer::NoZone,
-        Judged::Accepted => {
-            let n = first_too_large(dc);
-            if n < 496 {
-                Answer::DcWord(n)
-            } else {
-                Answer::Done
-            }
+    let sector = psn.judge();
+    if sector.is_done() {
+        let n = first_too_large(dc);
+        if n < 496 {
+            return Answer::DcWord(n);
         }
     }
+    sector
 }
 
 // All tests, in rising order.
@@ -100,7 +67,7 @@ fn judge(user: usize, psn: Psn, side: usize, dc: &[u32], image: usize, work: usi
 
 // The ECC cluster in work and the image of an input that passed the tests.
 fn write(user: &[u8], psn: Psn, side: &[u8], dc: &[u32], image: &mut [u8], work: &mut [u8])
-    requires { ⌜ Passed (record { user = now user; psn = psn .0; side = now side; dc = now dc }) (now image) (now work) ⌝ }
+    requires { ⌜ RightLengths (length (now user)) (length (now side)) (length (now dc)) (length (now work)) × ((length (now image) ≡ 119788) × (judged (psn .0) ≡ Done)) ⌝ }
     ensures { λ _. ⌜ Filled (record { user = now (user .entry); psn = psn .0; side = now (side .entry); dc = now (dc .entry) }) (now (image .exit)) (now (work .exit)) ⌝ }
 {
     cluster_writer::steps::encode(user, psn, side, work);

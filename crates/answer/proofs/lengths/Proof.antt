@@ -1,25 +1,51 @@
--- `lengths` meets its contract, test by test (Tests).
-use Rattle.answer.proofs.Tests.{wrong-user, wrong-side, wrong-dc, wrong-image, wrong-work, right-lengths}
+-- `lengths` meets its contract: the five tests, one after the other.
+use Rattle.answer.specs.Lengths.{lengthsAnswer}
+use borrow.Author.Needs.{needs}
 use Rattle.answer.proofs.lengths.Statement.{statement}
 use Rattle.answer.proofs.lengths.Tie as tie
 
+sized-requires : tie.Need-sized-requires
+sized-requires c κs = search needs
+
+sized-requires-2 : tie.Need-sized-requires-2
+sized-requires-2 c κs = search needs
+
+sized-requires-3 : tie.Need-sized-requires-3
+sized-requires-3 c κs = search needs
+
+sized-requires-4 : tie.Need-sized-requires-4
+sized-requires-4 c κs = search needs
+
+sized-requires-5 : tie.Need-sized-requires-5
+sized-requires-5 c κs = search needs
+
+and-then-requires : tie.Need-and-then-requires
+and-then-requires c κs = search needs
+
+and-then-requires-2 : tie.Need-and-then-requires-2
+and-then-requires-2 c κs = search needs
+
+and-then-requires-3 : tie.Need-and-then-requires-3
+and-then-requires-3 c κs = search needs
+
+and-then-requires-4 : tie.Need-and-then-requires-4
+and-then-requires-4 c κs = search needs
+
 returns : tie.Need-returns
-returns c = search (wrong-user)
-
-returns-2 : tie.Need-returns-2
-returns-2 c = search (wrong-side)
-
-returns-3 : tie.Need-returns-3
-returns-3 c = search (wrong-dc)
-
-returns-4 : tie.Need-returns-4
-returns-4 c = search (wrong-image)
-
-returns-5 : tie.Need-returns-5
-returns-5 c = search (wrong-work)
-
-returns-6 : tie.Need-returns-6
-returns-6 c = search (right-lengths)
+unfolding lengthsAnswer
+returns c = cc
 
 pub lengths-spec : {M : Type 1} → statement M
-lengths-spec = tie.close (tie.spec returns returns-2 returns-3 returns-4 returns-5 returns-6)
+lengths-spec =
+    tie.close
+    (tie.spec
+    sized-requires
+    sized-requires-2
+    sized-requires-3
+    sized-requires-4
+    sized-requires-5
+    and-then-requires
+    and-then-requires-2
+    and-then-requires-3
+    and-then-requires-4
+    returns)

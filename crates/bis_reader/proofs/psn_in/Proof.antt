@@ -1,6 +1,5 @@
 -- `psn_in` meets its contract, case by case of what is answered of unit 0's AUN (Reading).
-use Rattle.bis_reader.proofs.Judging.{psn-no-multiple, psn-no-zone, psn-differs, psn-agrees}
-use Rattle.address.proofs.Accepted.{answered-accepted}
+use Rattle.bis_reader.proofs.Judging.{psn-accepted, psn-refused, psn-differs, psn-agrees}
 use borrow.Author.Needs.{needs}
 use Rattle.bis_reader.proofs.psn_in.Statement.{statement}
 use Rattle.bis_reader.proofs.psn_in.Tie as tie
@@ -11,29 +10,20 @@ aun-in-requires c κs = search needs
 psn-requires : tie.Need-psn-requires
 psn-requires c κs = search needs
 
-enum-told : tie.Need-enum-told
-enum-told c = search needs
+is-done-requires : tie.Need-is-done-requires
+is-done-requires c κs = search needs
 
 first-other-unit-requires : tie.Need-first-other-unit-requires
-first-other-unit-requires c κs = search (answered-accepted)
+first-other-unit-requires c κs = search (psn-accepted)
 
 returns : tie.Need-returns
 returns c = search (psn-differs)
-
-enum-told-2 : tie.Need-enum-told-2
-enum-told-2 c = search needs
-
-enum-told-3 : tie.Need-enum-told-3
-enum-told-3 c = search needs
 
 returns-2 : tie.Need-returns-2
 returns-2 c = search (psn-agrees)
 
 returns-3 : tie.Need-returns-3
-returns-3 c = search (psn-no-multiple)
-
-returns-4 : tie.Need-returns-4
-returns-4 c = search (psn-no-zone)
+returns-3 c = search (psn-refused)
 
 pub psn-in-spec : {M : Type 1} → statement M
 psn-in-spec =
@@ -41,11 +31,8 @@ psn-in-spec =
     (tie.spec
     aun-in-requires
     psn-requires
-    enum-told
+    is-done-requires
     first-other-unit-requires
     returns
-    enum-told-2
-    enum-told-3
     returns-2
-    returns-3
-    returns-4)
+    returns-3)

@@ -5,8 +5,14 @@ use borrow.Author.Needs.{needs}
 use Rattle.marker.proofs.mark.Statement.{statement}
 use Rattle.marker.proofs.mark.Tie as tie
 
-judge-given-requires : tie.Need-judge-given-requires
-judge-given-requires c κs = search needs
+sized-requires : tie.Need-sized-requires
+sized-requires c κs = search needs
+
+sized-requires-2 : tie.Need-sized-requires-2
+sized-requires-2 c κs = search needs
+
+and-then-requires : tie.Need-and-then-requires
+and-then-requires c κs = search needs
 
 is-done-requires : tie.Need-is-done-requires
 is-done-requires c κs = search needs
@@ -14,7 +20,8 @@ is-done-requires c κs = search needs
 mark-sized-requires : tie.Need-mark-sized-requires
 mark-sized-requires c κs =
     let test = c .before .before .before .before in
-    given-right _ _ (test .before .before .judge-given .ensures) (test .before .is-done .ensures) (test .if1 .taken)
+    let both = test .before .before in
+    given-right _ _ (both .before .before .sized .ensures) (both .before .sized2 .ensures) (both .and-then .ensures) (test .before .is-done .ensures) (test .if1 .taken)
 
 same-length : tie.Need-same-length
 same-length c = search needs
@@ -31,19 +38,21 @@ same-length-4 c = search needs
 returns : tie.Need-returns
 returns c =
     let test = c .before .before .before .before .before .before .before .before .before in
-    let start = test .before .before .before .before .before .before .before .before .before .before .before in
+    let start = test .before .before .before .before .before .before .before .before .before .before .before .before .before in
     with-pass _ _ _ _ _ _ _ (λ k. start .shared-slice-known3 .given k .fits) (search (is-marked))
 
 returns-2 : tie.Need-returns-2
 returns-2 c =
-    let start = c .before .before .before .before .before .before .before in
+    let start = c .before .before .before .before .before .before .before .before .before in
     with-pass _ _ _ _ _ _ _ (λ k. start .shared-slice-known3 .given k .fits) (search (is-wrong))
 
 pub mark-spec : {M : Type 1} → statement M
 mark-spec =
     tie.close
     (tie.spec
-    judge-given-requires
+    sized-requires
+    sized-requires-2
+    and-then-requires
     is-done-requires
     mark-sized-requires
     same-length

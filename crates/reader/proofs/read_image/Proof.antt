@@ -1,6 +1,7 @@
 -- `read_image` meets its contract: the lengths, then the image (Reading), and what is promised of it (Statements).
 use Rattle.reader.proofs.Statements.{with-exactly}
-use Rattle.reader.proofs.Reading.{may-read, is-read, is-refused}
+use Rattle.answer.proofs.RightLengths.{lengths-passed}
+use Rattle.reader.proofs.Reading.{is-read, is-refused}
 use borrow.Author.Needs.{needs}
 use Rattle.reader.proofs.read_image.Statement.{statement}
 use Rattle.reader.proofs.read_image.Tie as tie
@@ -12,7 +13,9 @@ is-done-requires : tie.Need-is-done-requires
 is-done-requires c κs = search needs
 
 read-sized-requires : tie.Need-read-sized-requires
-read-sized-requires c κs = search (may-read)
+read-sized-requires c κs =
+    let test = c .before .before .before .before in
+    lengths-passed _ _ _ _ _ (test .before .before .lengths .ensures) (test .before .is-done .ensures) (test .if1 .taken)
 
 same-length : tie.Need-same-length
 same-length c = search needs

@@ -1,5 +1,6 @@
 -- `judge` meets its contract: the lengths, then the other tests (answer, Tests).
-use Rattle.answer.proofs.Tests.{goes-on, stops, sizes-passed}
+use Rattle.answer.proofs.Tests.{goes-on, stops}
+use Rattle.answer.proofs.RightLengths.{lengths-passed}
 use lib.ListN.{length}
 use borrow.Author.Needs.{needs}
 use Rattle.writer.proofs.judge.Statement.{statement}
@@ -14,7 +15,7 @@ is-done-requires c κs = search needs
 judge-parts-requires : tie.Need-judge-parts-requires
 judge-parts-requires c κs =
     let args = c .before .before .before .before .args in
-    sizes-passed (args .user) (args .side) (length (args .dc .now)) (args .image) (args .work) (c .before .before .lengths .ensures) (c .before .is-done .ensures) (c .if1 .taken) .dc
+    lengths-passed (args .user) (args .side) (length (args .dc .now)) (args .image) (args .work) (c .before .before .lengths .ensures) (c .before .is-done .ensures) (c .if1 .taken) .0 .dc
 
 returns : tie.Need-returns
 returns c = search (goes-on)

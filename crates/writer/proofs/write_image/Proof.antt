@@ -12,7 +12,9 @@ is-done-requires : tie.Need-is-done-requires
 is-done-requires c κs = search needs
 
 write-requires : tie.Need-write-requires
-write-requires c κs = search (may-write)
+write-requires c κs =
+    let test = c .before .before in
+    may-write _ _ _ _ _ _ _ (test .before .before .judge .ensures) (test .before .is-done .ensures) (test .if1 .taken)
 
 same-length : tie.Need-same-length
 same-length c = search needs

@@ -1,4 +1,4 @@
--- `Psn::aun` meets its contract, from what `judge` and `if_accepted` ensure, with the unit's test.
+-- `Psn::aun` meets its contract, from what `judge` and `if_done` ensure, with the unit's test.
 use borrow.Author.Tests.{le-leb, lt-leb}
 use Rattle.address.specs.Conversions.{psnToAun}
 use borrow.Author.Needs.{needs}
@@ -12,17 +12,17 @@ returns : tie.Need-returns
 unfolding psnToAun
 returns c = rw (lt-leb (c .before .before .args .unit) 15 (c .if1 .taken)) (cc)
 
-mul-if-accepted : tie.Need-mul-if-accepted
-mul-if-accepted c = search needs
+mul-if-done : tie.Need-mul-if-done
+mul-if-done c = search needs
 
-mul-if-accepted-2 : tie.Need-mul-if-accepted-2
-mul-if-accepted-2 c = search needs
+mul-if-done-2 : tie.Need-mul-if-done-2
+mul-if-done-2 c = search needs
 
-add-if-accepted : tie.Need-add-if-accepted
-add-if-accepted c = search needs
+add-if-done : tie.Need-add-if-done
+add-if-done c = search needs
 
-if-accepted-requires : tie.Need-if-accepted-requires
-if-accepted-requires c κs = search needs
+if-done-requires : tie.Need-if-done-requires
+if-done-requires c κs = search needs
 
 returns-2 : tie.Need-returns-2
 unfolding psnToAun
@@ -34,8 +34,8 @@ aun-spec =
     (tie.spec
     judge-requires
     returns
-    mul-if-accepted
-    mul-if-accepted-2
-    add-if-accepted
-    if-accepted-requires
+    mul-if-done
+    mul-if-done-2
+    add-if-done
+    if-done-requires
     returns-2)

@@ -1,4 +1,4 @@
--- `Psn::own` meets its contract, from what `judge` and `if_accepted` ensure.
+-- `Psn::own` meets its contract, from what `judge` and `if_done` ensure.
 use borrow.Author.Needs.{needs}
 use Rattle.address.proofs.Psn.own.Statement.{statement}
 use Rattle.address.proofs.Psn.own.Tie as tie
@@ -6,11 +6,11 @@ use Rattle.address.proofs.Psn.own.Tie as tie
 judge-requires : tie.Need-judge-requires
 judge-requires c κs = search needs
 
-if-accepted-requires : tie.Need-if-accepted-requires
-if-accepted-requires c κs = search needs
+if-done-requires : tie.Need-if-done-requires
+if-done-requires c κs = search needs
 
 returns : tie.Need-returns
 returns c = cc
 
 pub own-spec : {M : Type 1} → statement M
-own-spec = tie.close (tie.spec judge-requires if-accepted-requires returns)
+own-spec = tie.close (tie.spec judge-requires if-done-requires returns)

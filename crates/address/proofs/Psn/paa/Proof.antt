@@ -1,4 +1,4 @@
--- `Psn::paa` meets its contract, from what `judge` and `if_accepted` ensure.
+-- `Psn::paa` meets its contract, from what `judge` and `if_done` ensure.
 use Rattle.address.specs.Conversions.{psnToPaa}
 use borrow.Author.Needs.{needs}
 use Rattle.address.proofs.Psn.paa.Statement.{statement}
@@ -7,12 +7,12 @@ use Rattle.address.proofs.Psn.paa.Tie as tie
 judge-requires : tie.Need-judge-requires
 judge-requires c κs = search needs
 
-if-accepted-requires : tie.Need-if-accepted-requires
-if-accepted-requires c κs = search needs
+if-done-requires : tie.Need-if-done-requires
+if-done-requires c κs = search needs
 
 returns : tie.Need-returns
 unfolding psnToPaa
 returns c = cc
 
 pub paa-spec : {M : Type 1} → statement M
-paa-spec = tie.close (tie.spec judge-requires if-accepted-requires returns)
+paa-spec = tie.close (tie.spec judge-requires if-done-requires returns)

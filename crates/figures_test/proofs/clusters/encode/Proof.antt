@@ -1,5 +1,6 @@
 -- `encode` meets what `cluster::encode` asks: the lengths and the PSN are judged.
 use borrow.Author.Needs.{needs}
+use Rattle.answer.proofs.Tests.{done-told}
 use Rattle.figures_test.proofs.clusters.encode.Statement.{statement}
 use Rattle.figures_test.proofs.clusters.encode.Tie as tie
 
@@ -18,17 +19,11 @@ psn-requires c κs = search needs
 judge-requires : tie.Need-judge-requires
 judge-requires c κs = search needs
 
-enum-told : tie.Need-enum-told
-enum-told c = search needs
+is-done-requires : tie.Need-is-done-requires
+is-done-requires c κs = search needs
 
 encode-requires : tie.Need-encode-requires
-encode-requires c κs = (search needs, (search needs, cc))
-
-enum-told-2 : tie.Need-enum-told-2
-enum-told-2 c = search needs
-
-enum-told-3 : tie.Need-enum-told-3
-enum-told-3 c = search needs
+encode-requires c κs = (search needs, (search needs, search (done-told)))
 
 same-length : tie.Need-same-length
 same-length c = search needs
@@ -39,9 +34,6 @@ returns-4 c = search needs
 returns-5 : tie.Need-returns-5
 returns-5 c = search needs
 
-returns-6 : tie.Need-returns-6
-returns-6 c = search needs
-
 pub encode-spec : {M : Type 1} → statement M
 encode-spec =
     tie.close
@@ -51,11 +43,8 @@ encode-spec =
     returns-3
     psn-requires
     judge-requires
-    enum-told
+    is-done-requires
     encode-requires
-    enum-told-2
-    enum-told-3
     same-length
     returns-4
-    returns-5
-    returns-6)
+    returns-5)

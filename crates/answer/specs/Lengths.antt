@@ -1,0 +1,22 @@
+-- Answers 1 to 5 of document 01: the lengths of the slices that an operation is lent.
+use mathlib.Core.Path.{_≡_}
+use Prim.Native.Nat.{ℕ}
+use Rattle.answer.specs.declared.Answer.{Answer}
+use Rattle.answer.specs.declared.Answer.the-variants.{WrongUser, WrongSide, WrongDc, WrongImage, WrongWork}
+use Rattle.answer.specs.Answer.{andThen, sized}
+
+-- of user bytes, side data, dc words, image and work, in rising order
+unfoldable pub lengthsAnswer : ℕ → ℕ → ℕ → ℕ → ℕ → Answer
+lengthsAnswer user side dc image work =
+    andThen (sized user 65536 (WrongUser 0))
+    (andThen (sized side 592 WrongSide)
+    (andThen (sized dc 496 WrongDc)
+    (andThen (sized image 119788 WrongImage)
+    (sized work 76880 WrongWork))))
+
+-- user bytes, side data, dc words and work have their lengths; that of the image stands beside it
+pub record RightLengths (u s d w : ℕ) : Type 0 where
+  pub user : u ≡ 65536
+  pub side : s ≡ 592
+  pub dc : d ≡ 496
+  pub work : w ≡ 76880
