@@ -4,7 +4,7 @@ use report::Text;
 ghost use mathlib.Core.Path.{_≡_};
 ghost use mathlib.Core.Logic.{_↔_};
 ghost use lib.ListN.{length};
-ghost use Rattle.gaps.specs.Tally.{tallied};
+ghost use Rattle.frame_gaps.specs.Tally.{tallied};
 ghost use Rattle.marker.specs.Marked.{IsImageOf};
 ghost use Rattle.report.specs.Text.{the, zeros, textOf};
 ghost use Rattle.report.specs.Words.{tallyText};
@@ -148,6 +148,6 @@ pub fn mark(psn: Psn, user: &[u8], side: &[u8], image: &[u8]) -> Text
 pub fn tally(input: &[u8]) -> Text
     ensures { λ r. ⌜ r ≡ textOf (tallyText (tallied (now (input .entry)))) ⌝ }
 {
-    let tally = gaps::tally_of(input);
+    let tally = frame_gaps::tally_of(input);
     report::tally_text(tally)
 }

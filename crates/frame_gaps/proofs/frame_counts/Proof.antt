@@ -1,8 +1,8 @@
 -- `frame_counts` meets its contract: the frame is counted where it was written (FrameCounted). Assumes nothing.
-use Rattle.gaps.proofs.FrameCounted.{frame-counted}
+use Rattle.frame_gaps.proofs.FrameCounted.{frame-counted}
 use borrow.Author.Needs.{needs}
-use Rattle.gaps.proofs.frame_counts.Statement.{statement}
-use Rattle.gaps.proofs.frame_counts.Tie as tie
+use Rattle.frame_gaps.proofs.frame_counts.Statement.{statement}
+use Rattle.frame_gaps.proofs.frame_counts.Tie as tie
 
 no-table-requires : tie.Need-no-table-requires
 no-table-requires c κs = search needs

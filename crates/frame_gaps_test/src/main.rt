@@ -20,7 +20,7 @@ fn print_counts(counts: [u32; 8]) {
 
 fn tally_line(text: &[u8], input: &[u8]) {
     io::write_all(1, text);
-    let answer: Tally = gaps::tally_of(input);
+    let answer: Tally = frame_gaps::tally_of(input);
     if answer.accepted {
         let counts = answer.counts;
         print_counts(counts);

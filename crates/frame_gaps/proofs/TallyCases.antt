@@ -12,11 +12,11 @@ use Rattle.laws.specs.Bytes.{Bytes}
 use Rattle.frame.specs.Sync.{fs}
 use Rattle.frame.specs.Frame.{frame}
 use Rattle.frame.proofs.Frame.{length-frame}
 use Rattle.gaps.specs.declared.Tally.{Tally}
 use Rattle.gaps.specs.Gaps.{gapCounts, gapAt, howMany}
-use Rattle.gaps.specs.Tally.{dcIn, accepted, refusal, frameIn, tallied, inputOf}
-use Rattle.gaps.proofs.FrameCounted.{bits-frame}
+use Rattle.frame_gaps.specs.Tally.{dcIn, accepted, refusal, frameIn, tallied, inputOf}
+use Rattle.frame_gaps.proofs.FrameCounted.{bits-frame}
 use Rattle.gaps.proofs.Neighbours.{counts-often}
 
 and-false : (a b : Bool) → b ≡ false → (a && b) ≡ false
 and-false true b e = e

@@ -3,8 +3,8 @@ use native.Mathlib.Omega.{arith}
 use Prim.Native.Nat.{_-_}
 use Rattle.gaps.proofs.Counting.{zero-counted, empty-counted, long-counted, gap-counted}
 use borrow.Author.Needs.{needs}
-use Rattle.gaps.proofs.count_bit.Statement.{statement}
-use Rattle.gaps.proofs.count_bit.Tie as tie
+use Rattle.gaps.proofs.steps.count_bit.Statement.{statement}
+use Rattle.gaps.proofs.steps.count_bit.Tie as tie
 
 add-result : tie.Need-add-result
 add-result c = search needs

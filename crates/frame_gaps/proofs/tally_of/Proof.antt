@@ -1,8 +1,8 @@
 -- `tally_of` meets its contract, case by case of the definition (TallyCases). Assumes nothing.
-use Rattle.gaps.proofs.TallyCases.{refused-length, refused-hash, refused-number, refused-dc, tallied-counts}
+use Rattle.frame_gaps.proofs.TallyCases.{refused-length, refused-hash, refused-number, refused-dc, tallied-counts}
 use borrow.Author.Needs.{needs}
-use Rattle.gaps.proofs.tally_of.Statement.{statement}
-use Rattle.gaps.proofs.tally_of.Tie as tie
+use Rattle.frame_gaps.proofs.tally_of.Statement.{statement}
+use Rattle.frame_gaps.proofs.tally_of.Tie as tie
 
 refused-requires : tie.Need-refused-requires
 refused-requires c κs = search needs

@@ -3,8 +3,8 @@ use native.Mathlib.Omega.{arith}
 use Prim.Native.Nat.{_-_}
 use borrow.Author.Needs.{needs}
 use Rattle.gaps.proofs.Counting.{Counting, counting-none, counting-few, counting-more, counting-all}
-use Rattle.gaps.proofs.gap_counts.Statement.{statement}
-use Rattle.gaps.proofs.gap_counts.Tie as tie
+use Rattle.gaps.proofs.steps.gap_counts.Statement.{statement}
+use Rattle.gaps.proofs.steps.gap_counts.Tie as tie
 
 abbrev Inv-loop : tie.InvT-loop
 Inv-loop bytes n counts₀ zeros₀ i₀ counts zeros i = Counting bytes n i counts zeros
