@@ -6,3 +6,4 @@ pub mod Scatter
 pub mod First
 pub mod Bytes
 pub mod Xor
+pub mod Zeros

@@ -3,3 +3,4 @@ pub mod Tabulate
 pub mod Bytes
 pub mod First
 pub mod Scatter
+pub mod Zeros

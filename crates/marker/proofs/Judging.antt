@@ -13,8 +13,8 @@ use Rattle.answer.specs.Answer.{isDone}
 use Rattle.answer.proofs.Tests.{Sizes, done-is, lengths-done}
 use Rattle.reader.specs.Outcome.{Lent, Outcome, judgedOutcome, sizesAnswer, outcome}
 use Rattle.bits.specs.Bits.{bitsOf}
-use Rattle.marker.specs.declared.Verdict.{Verdict}
-use Rattle.marker.specs.declared.Verdict.the-variants.{Pass, Refused, OtherPsn, OtherUser, OtherSide}
+use Rattle.verdict.specs.declared.Verdict.{Verdict}
+use Rattle.verdict.specs.declared.Verdict.the-variants.{Pass, Refused, OtherPsn, OtherUser, OtherSide}
 use Rattle.marker.specs.Marked.{givenAnswer, other, firstOther, compared, judged, Marked, marked}
 
 -- ---- bytes that differ
