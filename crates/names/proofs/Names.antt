@@ -11,7 +11,7 @@ use lib.Dec.{eqb}
 use lib.ListN.{length, getD, set, take, drop}
 use lib.Seq.{ext-getD, sets, sets-eq, length-sets, length-take-le}
 use Rattle.io.specs.Counts.{Counts}
-use Rattle.notation.specs.Names.{isDash, ending, partAdded, partLength}
+use Rattle.names.specs.Names.{isDash, ending, partAdded, partLength}
 
 module _ (name : List ℕ) where
   pub another-length : (length name ≡ 1 → ⊥) → false ≡ isDash name

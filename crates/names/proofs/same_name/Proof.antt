@@ -1,10 +1,10 @@
 -- `same_name` meets its contract: the names agree so far (Names).
-use Rattle.notation.proofs.Names.{Agree, agree-none, agree-more, all-agree, other-length, other-byte}
+use Rattle.names.proofs.Names.{Agree, agree-none, agree-more, all-agree, other-length, other-byte}
 use Prim.Native.Nat.{_-_}
 use lib.ListN.{length}
 use borrow.Author.Needs.{needs}
-use Rattle.notation.proofs.same_name.Statement.{statement}
-use Rattle.notation.proofs.same_name.Tie as tie
+use Rattle.names.proofs.same_name.Statement.{statement}
+use Rattle.names.proofs.same_name.Tie as tie
 
 abbrev Inv-loop : tie.InvT-loop
 Inv-loop a b k₀ k = Agree a b k

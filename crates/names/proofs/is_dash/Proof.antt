@@ -1,9 +1,9 @@
 -- `is_dash` meets its contract (Names).
 use native.Mathlib.Omega.{arith}
-use Rattle.notation.proofs.Names.{another-length, one-byte}
+use Rattle.names.proofs.Names.{another-length, one-byte}
 use borrow.Author.Needs.{needs}
-use Rattle.notation.proofs.is_dash.Statement.{statement}
-use Rattle.notation.proofs.is_dash.Tie as tie
+use Rattle.names.proofs.is_dash.Statement.{statement}
+use Rattle.names.proofs.is_dash.Tie as tie
 
 returns : tie.Need-returns
 returns c = another-length (c .before .args .path .now) (search needs)

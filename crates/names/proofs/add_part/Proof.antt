@@ -1,10 +1,10 @@
 -- `add_part` meets its contract: five stores (Names).
 use native.Mathlib.Omega.{arith}
 use lib.ListN.{length-set}
-use Rattle.notation.proofs.Names.{no-room, added}
+use Rattle.names.proofs.Names.{no-room, added}
 use borrow.Author.Needs.{needs}
-use Rattle.notation.proofs.add_part.Statement.{statement}
-use Rattle.notation.proofs.add_part.Tie as tie
+use Rattle.names.proofs.add_part.Statement.{statement}
+use Rattle.names.proofs.add_part.Tie as tie
 
 returns : tie.Need-returns
 returns c = no-room _ _ (omega arith)
