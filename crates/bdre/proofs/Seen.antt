@@ -13,10 +13,11 @@ use Rattle.writer.specs.Outcome as writer
 use Rattle.writer.specs.Promise.{WritesExactly}
 use Rattle.reader.specs.Outcome as reader
 use Rattle.reader.specs.Promise.{ReadsExactly}
-use Rattle.marker.specs.declared.Verdict.{Verdict}
-use Rattle.marker.specs.declared.Verdict.the-variants.{Pass, Refused, OtherPsn, OtherUser, OtherSide}
+use Rattle.verdict.specs.declared.Verdict.{Verdict}
+use Rattle.verdict.specs.declared.Verdict.the-variants.{Pass, Refused, OtherPsn, OtherUser, OtherSide}
+use Rattle.verdict.specs.Verdict.{kindOf, refusalIn, psnIn, placeIn}
 use Rattle.marker.specs.Marked as marker
-use Rattle.bdre.specs.Seen.{Writing, Reading, Marking, Number, kindOf, refusalIn, psnIn, placeIn, writing, reading, marking, psnSeen, aunSeen, paaSeen}
+use Rattle.bdre.specs.Seen.{Writing, Reading, Marking, Number, writing, reading, marking, psnSeen, aunSeen, paaSeen}
 
 -- what is promised of an answer's number is promised of the number that is returned
 pub same-writing : {number place : ℕ} {a : Answer} {image work : List ℕ} {o : writer.Outcome} {input : Input} {before entry : List ℕ} → number ≡ Answer.numberOf a → place ≡ Answer.placeOf a

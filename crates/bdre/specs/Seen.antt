@@ -8,8 +8,7 @@ use Rattle.address.specs.declared.AunAnswer.{AunAnswer}
 use Rattle.address.specs.declared.PaaAnswer.{PaaAnswer}
 use Rattle.writer.specs.Outcome as writer
 use Rattle.reader.specs.Outcome as reader
-use Rattle.marker.specs.declared.Verdict.{Verdict}
-use Rattle.marker.specs.declared.Verdict.the-variants.{Pass, Refused, OtherPsn, OtherUser, OtherSide}
+use Rattle.verdict.specs.Verdict.{kindOf, refusalIn, psnIn, placeIn}
 use Rattle.marker.specs.Marked as marker
 
 -- of the writer: the answer, and the two slices that it is lent to write
@@ -32,35 +31,7 @@ pub record Reading : Type 0 where
 abbrev pub reading : reader.Outcome → Reading
 reading o = record { number = Answer.numberOf (o .answer); place = Answer.placeOf (o .answer); psn = o .psn; lent = o .lent }
 
--- of the marker: the verdict as a number, its parts, each 0 where the verdict has none, and the four slices that it is lent
-abbrev pub kindOf : Verdict → ℕ
-kindOf Pass = 0
-kindOf (Refused a) = 1
-kindOf (OtherPsn psn) = 2
-kindOf (OtherUser n) = 3
-kindOf (OtherSide n) = 4
-
-abbrev pub refusalIn : Verdict → ℕ
-refusalIn Pass = 0
-refusalIn (Refused a) = Answer.numberOf a
-refusalIn (OtherPsn psn) = 0
-refusalIn (OtherUser n) = 0
-refusalIn (OtherSide n) = 0
-
-abbrev pub psnIn : Verdict → ℕ
-psnIn Pass = 0
-psnIn (Refused a) = 0
-psnIn (OtherPsn psn) = psn .0
-psnIn (OtherUser n) = 0
-psnIn (OtherSide n) = 0
-
-abbrev pub placeIn : Verdict → ℕ
-placeIn Pass = 0
-placeIn (Refused a) = Answer.placeOf a
-placeIn (OtherPsn psn) = 0
-placeIn (OtherUser n) = n
-placeIn (OtherSide n) = n
-
+-- of the marker: the verdict as a number, its parts, and the four slices that it is lent
 pub record Marking : Type 0 where
   pub verdict : ℕ
   pub number : ℕ

@@ -3,7 +3,6 @@ use address::Aun;
 use address::Paa;
 use address::Psn;
 use answer::Answer;
-use marker::Verdict;
 ghost use mathlib.Core.Path.{_≡_};
 ghost use mathlib.Core.Logic.{_↔_};
 ghost use Rattle.image.specs.Image.{Input};
@@ -13,7 +12,7 @@ ghost use Rattle.writer.specs.Promise.{WritesExactly};
 ghost use Rattle.reader.specs.Promise.{RightSlices, ReadsExactly};
 ghost use Rattle.marker.specs.Marked.{IsImageOf, marked};
 ghost use Rattle.address.specs.Conversions.{psnToPaa, paaToPsn, psnToAun, aunToPsn};
-ghost use Rattle.bdre.specs.Seen.{Writing, Reading, Marking, Number, kindOf, refusalIn, psnIn, placeIn, writing, reading, marking, numbered, psnSeen, aunSeen, paaSeen};
+ghost use Rattle.bdre.specs.Seen.{Writing, Reading, Marking, Number, writing, reading, marking, numbered, psnSeen, aunSeen, paaSeen};
 
 // Document 01's number and place.
 #[repr(C)]
@@ -53,54 +52,6 @@ fn numbered(given: Answer, value: u32) -> Converted
     Converted {
         number: given.number(),
         value,
-    }
-}
-
-fn kind(verdict: Verdict) -> u32
-    ensures { λ r. ⌜ r ≡ kindOf verdict ⌝ }
-{
-    match verdict {
-        Verdict::Pass => 0,
-        Verdict::Refused(_) => 1,
-        Verdict::OtherPsn(_) => 2,
-        Verdict::OtherUser(_) => 3,
-        Verdict::OtherSide(_) => 4,
-    }
-}
-
-fn refusal(verdict: Verdict) -> u32
-    ensures { λ r. ⌜ r ≡ refusalIn verdict ⌝ }
-{
-    match verdict {
-        Verdict::Pass => 0,
-        Verdict::Refused(answer) => answer.number(),
-        Verdict::OtherPsn(_) => 0,
-        Verdict::OtherUser(_) => 0,
-        Verdict::OtherSide(_) => 0,
-    }
-}
-
-fn own_psn(verdict: Verdict) -> u32
-    ensures { λ r. ⌜ r ≡ psnIn verdict ⌝ }
-{
-    match verdict {
-        Verdict::Pass => 0,
-        Verdict::Refused(_) => 0,
-        Verdict::OtherPsn(psn) => psn.0,
-        Verdict::OtherUser(_) => 0,
-        Verdict::OtherSide(_) => 0,
-    }
-}
-
-fn place(verdict: Verdict) -> usize
-    ensures { λ r. ⌜ r ≡ placeIn verdict ⌝ }
-{
-    match verdict {
-        Verdict::Pass => 0,
-        Verdict::Refused(answer) => answer.place(),
-        Verdict::OtherPsn(_) => 0,
-        Verdict::OtherUser(n) => n,
-        Verdict::OtherSide(n) => n,
     }
 }
 
@@ -168,10 +119,10 @@ pub extern "C" fn bdre_mark_image(
 {
     let verdict = marker::mark(Psn(psn), user, side, image, bytes, control, dc, work);
     Marking {
-        verdict: kind(verdict),
-        number: refusal(verdict),
-        psn: own_psn(verdict),
-        place: place(verdict),
+        verdict: verdict.kind(),
+        number: verdict.refusal(),
+        psn: verdict.own_psn(),
+        place: verdict.place(),
     }
 }
 

@@ -14,8 +14,8 @@ use Rattle.notation.specs.Words.{wordsRead, bytesRead}
 use Rattle.gaps.specs.declared.Tally.{Tally}
 use Rattle.writer.specs.Outcome as writer
 use Rattle.reader.specs.Outcome as reader
-use Rattle.marker.specs.declared.Verdict.{Verdict}
-use Rattle.marker.specs.declared.Verdict.the-variants.{Pass}
+use Rattle.verdict.specs.declared.Verdict.{Verdict}
+use Rattle.verdict.specs.declared.Verdict.the-variants.{Pass}
 use Rattle.reader.specs.Promise.{RightSlices}
 use Rattle.marker.specs.Marked.{IsImageOf, Marked, marked}
 use Rattle.report.specs.declared.Text.{Text}

@@ -4,7 +4,7 @@ use report::Text;
 ghost use mathlib.Core.Path.{_≡_};
 ghost use mathlib.Core.Logic.{_↔_};
 ghost use lib.ListN.{length};
-ghost use Rattle.gaps.specs.Tally.{tallied};
+ghost use Rattle.frame_gaps.specs.Tally.{tallied};
 ghost use Rattle.marker.specs.Marked.{IsImageOf};
 ghost use Rattle.report.specs.Text.{the, zeros, textOf};
 ghost use Rattle.report.specs.Words.{tallyText};
@@ -15,46 +15,6 @@ pub struct Said {
     pub keep: bool,
     pub text: Text,
 }
-
-// ---- buffers, zero
-
-pub fn user_bytes() -> [u8; 65536]
-    ensures { λ r. ⌜ (length r ≡ 65536) × (r ≡ zeros 65536) ⌝ }
-{
-    [0u8; 65536]
-}
-
-pub fn side_bytes() -> [u8; 592]
-    ensures { λ r. ⌜ (length r ≡ 592) × (r ≡ zeros 592) ⌝ }
-{
-    [0u8; 592]
-}
-
-pub fn dc_words() -> [u32; 496]
-    ensures { λ r. ⌜ (length r ≡ 496) × (r ≡ zeros 496) ⌝ }
-{
-    [0u32; 496]
-}
-
-pub fn dc_bytes() -> [u8; 1984]
-    ensures { λ r. ⌜ (length r ≡ 1984) × (r ≡ zeros 1984) ⌝ }
-{
-    [0u8; 1984]
-}
-
-pub fn image_bytes() -> [u8; 119788]
-    ensures { λ r. ⌜ (length r ≡ 119788) × (r ≡ zeros 119788) ⌝ }
-{
-    [0u8; 119788]
-}
-
-pub fn work_bytes() -> [u8; 76880]
-    ensures { λ r. ⌜ (length r ≡ 76880) × (r ≡ zeros 76880) ⌝ }
-{
-    [0u8; 76880]
-}
-
-// ---- the commands
 
 // The image of a cluster with these dc words.
 fn encode_words(psn: Psn, user: &[u8], side: &[u8], words: &[u32], image: &mut [u8]) -> Said
@@ -142,12 +102,4 @@ pub fn mark(psn: Psn, user: &[u8], side: &[u8], image: &[u8]) -> Text
         &mut work,
     );
     report::verdict_text(verdict)
-}
-
-// How often each gap length occurs in the frame that the input gives.
-pub fn tally(input: &[u8]) -> Text
-    ensures { λ r. ⌜ r ≡ textOf (tallyText (tallied (now (input .entry)))) ⌝ }
-{
-    let tally = gaps::tally_of(input);
-    report::tally_text(tally)
 }

@@ -1,5 +1,5 @@
 // What the programs share: arguments, whole files, and texts printed.
-use report::Text;
+use texts::Text;
 ghost use mathlib.Core.Path.{_≡_};
 ghost use Rattle.io.specs.Counts.{Counts};
 
@@ -48,7 +48,7 @@ fn file_name(i: usize, name: &mut [u8]) -> usize
 fn is_dash(i: usize) -> bool {
     let mut name = io::buffer();
     let n = os::arg(i, &mut name);
-    notation::is_dash(&name[..n])
+    names::is_dash(&name[..n])
 }
 
 // ---- what is read is not written over, and nothing is written twice; names are compared byte by byte
@@ -62,7 +62,7 @@ fn same_argument(i: usize, j: usize) -> bool {
     if m == 0 {
         return false;
     }
-    notation::same_name(&name[..m], &other[..n])
+    names::same_name(&name[..m], &other[..n])
 }
 
 fn complain_of(i: usize, text: &[u8]) {
@@ -95,11 +95,11 @@ fn is_part_of(i: usize, j: usize) -> bool {
     let mut other = io::buffer();
     let m = os::arg(i, &mut name);
     let n = os::arg(j, &mut other);
-    let k = notation::add_part(&mut other, n);
+    let k = names::add_part(&mut other, n);
     if k == 0 {
         return false;
     }
-    notation::same_name(&name[..m], &other[..k])
+    names::same_name(&name[..m], &other[..k])
 }
 
 fn clash(i: usize, j: usize) -> bool {
@@ -209,7 +209,7 @@ pub fn write_part(i: usize, bytes: &[u8]) -> bool {
     if n == 0 {
         return false;
     }
-    let m = notation::add_part(&mut name, n);
+    let m = names::add_part(&mut name, n);
     if m == 0 {
         no_name();
         return false;
@@ -220,7 +220,7 @@ pub fn write_part(i: usize, bytes: &[u8]) -> bool {
 pub fn remove_part(i: usize) {
     let mut name = io::buffer();
     let n = file_name(i, &mut name);
-    let m = notation::add_part(&mut name, n);
+    let m = names::add_part(&mut name, n);
     os::unlink(&name[..m]);
 }
 
@@ -239,6 +239,6 @@ fn rename(part: &[u8], i: usize) -> bool {
 pub fn keep_part(i: usize) -> bool {
     let mut name = io::buffer();
     let n = file_name(i, &mut name);
-    let m = notation::add_part(&mut name, n);
+    let m = names::add_part(&mut name, n);
     rename(&name[..m], i)
 }

@@ -11,7 +11,8 @@ use lib.Seq.{getD-set-same, getD-set-other, drop-cons, getD-take, length-take-le
 use Rattle.laws.proofs.Tabulate.{is-tabulate}
 use Rattle.bits.specs.Bits.{bitsOf}
 use Rattle.bits.proofs.Bits.{length-bits}
-use Rattle.gaps.specs.Gaps.{gapsAfter, gaps, count, gapCounts, BitCounted, Counts}
+use Rattle.gaps.specs.Gaps.{gapsAfter, gaps, count, gapCounts}
+use Rattle.gaps.specs.steps.Counted.{BitCounted, Counts}
 
 count-same : (n x : ℕ) (l : List ℕ) → x ≡ n → count n (x ∷ l) ≡ suc (count n l)
 count-same n x l e = rw (eq-eqb x n e)

@@ -1,5 +1,3 @@
--- Laws of gap counts and of the tally.
+-- Laws of gap counts.
 pub mod Counting
-pub mod FrameCounted
-pub mod TallyCases
 pub mod Neighbours

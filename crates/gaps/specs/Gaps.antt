@@ -1,10 +1,9 @@
 -- Document 01, the tally: how often each gap length occurs between the first and the last one of a list of bits.
 use mathlib.Core.Bool.{Bool, false, _&&_, cond}
 use mathlib.Core.List.{List, [], _∷_}
-use mathlib.Core.Path.{_≡_}
-use Prim.Native.Nat.{ℕ, zero, suc, _+_, _<_, _≤_}
+use Prim.Native.Nat.{ℕ, zero, suc}
 use lib.Dec.{eqb}
-use lib.ListN.{length, getD, drop}
+use lib.ListN.{getD, drop}
 use Rattle.laws.specs.Tabulate.{tabulate}
 
 -- the lengths of the gaps up to the last one, of which the first has z zeros already
@@ -44,17 +43,3 @@ gapAt l n i = eqb (getD l i 0) 1 && endsGap 0 n (drop (suc i) l)
 unfoldable pub howMany : ℕ → (ℕ → Bool) → ℕ
 howMany zero p = 0
 howMany (suc m) p = cond (p zero) (suc (howMany m (λ i. p (suc i)))) (howMany m (λ i. p (suc i)))
-
--- ---- what a step of counting leaves
-
--- a bit more is counted, behind `zeros` zeros; r zeros are the beginning of the next gap
-pub record BitCounted (bit zeros : ℕ) (before after : List ℕ) (r : ℕ) : Type 0 where
-  pub size : length after ≡ length before
-  pub zeros-are : r ≤ zeros + 1
-  pub most : (k : ℕ) → getD after k 0 ≤ getD before k 0 + 1
-  pub counts-are : (l : List ℕ) (k : ℕ) → k < 8 → getD after k 0 + count (suc k) (gapsAfter r l) ≡ getD before k 0 + count (suc k) (gapsAfter zeros (bit ∷ l))
-
--- no count exceeds m
-pub record Counts (m : ℕ) (counts : List ℕ) : Type 0 where
-  pub size : length counts ≡ 8
-  pub most : (k : ℕ) → getD counts k 0 ≤ m

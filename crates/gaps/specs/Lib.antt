@@ -1,3 +1,3 @@
--- Gap lengths counted, and the tally program's answer.
+-- Gap lengths counted.
 pub mod Gaps
-pub mod Tally
+pub mod steps

@@ -12,7 +12,7 @@ use Rattle.bits.specs.Bits.{Bits, bitsOf, packed}
 use Rattle.bits.proofs.Bits.{bits-then}
 use Rattle.bits.proofs.Pack.{bits-packed}
 use Rattle.modulation.specs.Stream.{stream}
-use Rattle.modulation.specs.Gaps.{LongGaps, Spaced, NoSeven}
+use Rattle.modulation.specs.Gaps.{LongGaps, Spaced, EndsLong, NoSeven}
 use Rattle.modulation.proofs.Bits.{pairs-injective}
 use Rattle.modulation.proofs.Fronts.{bits-groups}
 use Rattle.modulation.proofs.Streams.{length-stream}
@@ -95,7 +95,7 @@ images-equal first a b ha hb = (apart, together)
 -- over all bits: each of the 497 syncs has its two gaps of 8, every other gap has 1 to 7 zeros, and no seven gaps in a row are single zeros
 pub record Limits (l : List ℕ) : Type 0 where
   pub long : (k : ℕ) → k ≤ 496 → LongGaps l (1932 * k)
-  pub others : Spaced l
+  pub others : Spaced EndsLong l
   pub singles : NoSeven l
 
 -- DEMAND 3, second half: whatever the dc words, from one frame into the next as well as inside each, the closing sync included

@@ -21,10 +21,10 @@ use Rattle.frame.proofs.Frame.{length-frame}
 use Rattle.frame_sync.proofs.SyncTables.{fs-number, number-at}
 use Rattle.gaps.specs.declared.Tally.{Tally}
 use Rattle.gaps.specs.Gaps.{gapCounts, gapAt, howMany}
-use Rattle.gaps.specs.Tally.{tallied, inputOf}
-use Rattle.gaps.proofs.FrameCounted.{bits-frame}
+use Rattle.frame_gaps.specs.Tally.{tallied, inputOf}
+use Rattle.frame_gaps.proofs.FrameCounted.{bits-frame}
 use Rattle.gaps.proofs.Neighbours.{counts-often}
-use Rattle.gaps.proofs.TallyCases.{bytes-input, frame-tallied}
+use Rattle.frame_gaps.proofs.TallyCases.{bytes-input, frame-tallied}
 use Rattle.cluster.specs.EccCluster.{rowOf}
 use Rattle.cluster.proofs.Statements.{length-cluster, bytes-cluster}
 use Rattle.image.specs.Image.{Input, IsAccepted, cluster, recording, imageBitsFrom, imageBits, image}

@@ -9,3 +9,4 @@ pub mod Xor
 pub mod Booleans
 pub mod Same
 pub mod Shifts
+pub mod Zeros

@@ -4,3 +4,4 @@ pub mod Bytes
 pub mod First
 pub mod Scatter
 pub mod Same
+pub mod Zeros

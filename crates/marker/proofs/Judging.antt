@@ -13,8 +13,8 @@ use Rattle.answer.proofs.RightLengths.{lengths-done}
 use Rattle.reader.specs.Outcome.{Lent, Outcome, judgedOutcome, sizesAnswer, outcome}
 use Rattle.reader.specs.Promise.{RightSlices}
 use Rattle.bits.specs.Bits.{bitsOf}
-use Rattle.marker.specs.declared.Verdict.{Verdict}
-use Rattle.marker.specs.declared.Verdict.the-variants.{Pass, Refused, OtherPsn, OtherUser, OtherSide}
+use Rattle.verdict.specs.declared.Verdict.{Verdict}
+use Rattle.verdict.specs.declared.Verdict.the-variants.{Pass, Refused, OtherPsn, OtherUser, OtherSide}
 use Rattle.marker.specs.Marked.{other, firstOther, compared, markedRead, Marked, marked}
 
 -- ---- bytes that differ

@@ -20,8 +20,8 @@ use Rattle.image.specs.Image.{Input, IsAccepted}
 use Rattle.reader.specs.Outcome.{Lent, Outcome, outcome}
 use Rattle.reader.specs.Promise.{RightSlices}
 use Rattle.reader.proofs.Statements.{returned, read-back, nothing-else}
-use Rattle.marker.specs.declared.Verdict.{Verdict}
-use Rattle.marker.specs.declared.Verdict.the-variants.{Pass, Refused, OtherPsn, OtherUser, OtherSide}
+use Rattle.verdict.specs.declared.Verdict.{Verdict}
+use Rattle.verdict.specs.declared.Verdict.the-variants.{Pass, Refused, OtherPsn, OtherUser, OtherSide}
 use Rattle.marker.specs.Marked.{IsImageOf, other, firstOther, compared, verdictOf, markedRead, Marked, marked}
 use Rattle.marker.proofs.Judging.{agrees, all-same, given-done}
 

@@ -10,8 +10,8 @@ use Rattle.answer.specs.declared.Answer.the-variants.{WrongUser, WrongSide}
 use Rattle.answer.specs.Answer.{isDone, andThen, sized}
 use Rattle.image.specs.Image as Image
 use Rattle.reader.specs.Outcome.{Lent, Outcome, outcome}
-use Rattle.marker.specs.declared.Verdict.{Verdict}
-use Rattle.marker.specs.declared.Verdict.the-variants.{Pass, Refused, OtherPsn, OtherUser, OtherSide}
+use Rattle.verdict.specs.declared.Verdict.{Verdict}
+use Rattle.verdict.specs.declared.Verdict.the-variants.{Pass, Refused, OtherPsn, OtherUser, OtherSide}
 
 -- ---- what a pass says
 

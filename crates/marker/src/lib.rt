@@ -1,6 +1,7 @@
 // The marker's verdict: whether an image is that of these user bytes, this side data and this PSN under some dc-control bits.
 use address::Psn;
 use answer::Answer;
+use verdict::Verdict;
 ghost use mathlib.Core.Path.{_≡_};
 ghost use mathlib.Core.Logic.{_↔_};
 ghost use Prim.Native.Nat.{_≤_};
@@ -8,18 +9,6 @@ ghost use lib.ListN.{length};
 ghost use Rattle.reader.specs.Outcome.{Lent, outcome};
 ghost use Rattle.reader.specs.Promise.{RightSlices};
 ghost use Rattle.marker.specs.Marked.{firstOther, compared, markedRead, Marked, marked, IsImageOf};
-
-// Document 01 has no number for it; `Refused` carries the reader's answer.
-pub enum Verdict {
-    Pass,
-    // The reader's answer; or 1 or 2, where the given user bytes or side data have another length.
-    Refused(Answer),
-    // The image's own PSN.
-    OtherPsn(Psn),
-    // The first byte that is another.
-    OtherUser(usize),
-    OtherSide(usize),
-}
 
 // The first of n bytes that differs, or n.
 fn first_other(n: usize, a: &[u8], b: &[u8]) -> usize

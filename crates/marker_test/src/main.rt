@@ -1,6 +1,6 @@
 // Each verdict, on images that the writer makes of a pattern.
 use address::Psn;
-use marker::Verdict;
+use verdict::Verdict;
 
 fn say(text: &[u8], n: usize) {
     io::write_all(1, text);

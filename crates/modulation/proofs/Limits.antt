@@ -59,22 +59,22 @@ module _ (h : Bool) (n : FS) where
       }
 
   -- cut at its ones at bits 4, 13 and 22
-  sync-spaced : Spaced one
+  sync-spaced : Spaced EndsLong one
   sync-spaced i j m = ⊎-elim (λ l. up-to-22 l) (λ g. behind g) (one-side one 22 i j refl m)
     where
-      long : (p q : ℕ) → EndsLong q → q ≡ p + 9 → (i ≡ p) × (j ≡ q) → Gap i j
+      long : (p q : ℕ) → EndsLong q → q ≡ p + 9 → (i ≡ p) × (j ≡ q) → Gap EndsLong i j
       long p q e d s = inl (subst EndsLong (sym (s .1)) e, omega arith)
 
-      up-to-4 : j ≤ 4 → Gap i j
+      up-to-4 : j ≤ 4 → Gap EndsLong i j
       up-to-4 l = inr (fine-gaps (bits (next h)) 1 6 (next-fine h) i j (in-first (bits (next h)) (drop 6 one) i j (omega arith) m))
 
-      up-to-13 : j ≤ 13 → Gap i j
+      up-to-13 : j ≤ 13 → Gap EndsLong i j
       up-to-13 l = ⊎-elim (λ l. up-to-4 l) (λ g. long 4 13 (inl refl) refl (between one 4 13 i j (sync-long .first) m g l)) (one-side one 4 i j refl m)
 
-      up-to-22 : j ≤ 22 → Gap i j
+      up-to-22 : j ≤ 22 → Gap EndsLong i j
       up-to-22 l = ⊎-elim (λ l. up-to-13 l) (λ g. long 13 22 (inr refl) refl (between one 13 22 i j (sync-long .second) m g l)) (one-side one 13 i j refl m)
 
-      behind : 22 ≤ i → Gap i j
+      behind : 22 ≤ i → Gap EndsLong i j
       behind g =
           let f = fine-gaps (bits (closing n)) 1 6 (closing-fine n) (i - 21) (j - 21) (in-second (bits (opening h)) (bits (closing n)) i j (omega arith) m) in
           inr (omega (arith, m .before))
@@ -91,7 +91,7 @@ module _ (h : Bool) (n : FS) where
 -- ---- a sync, its frame and the sync that follows
 
 -- a gap further on by k frames
-gap-on : (k i j : ℕ) → 1932 * k ≤ i → i < j → Gap (i - 1932 * k) (j - 1932 * k) → Gap i j
+gap-on : (k i j : ℕ) → 1932 * k ≤ i → i < j → Gap EndsLong (i - 1932 * k) (j - 1932 * k) → Gap EndsLong i j
 gap-on k i j hi hj (inl g) = inl (⊎-elim (λ e. inl (omega arith)) (λ e. inr (omega arith)) (g .0), omega (arith, g .1))
 gap-on k i j hi hj (inr g) = inr (omega arith)
 
@@ -152,12 +152,12 @@ module _ (h : Bool) (n : FS) (ds : List Two) (n′ : FS) (full : length ds ≡ 6
       ∙ ap (λ (k : ℕ). getD (bits (sync h n ++ frame) ++ bits (sync h′ n′)) (k + p) 0) (sym length-front)
       ∙ getD-append-add (bits (sync h n ++ frame)) (bits (sync h′ n′)) p 0
 
-  block-spaced : (i j : ℕ) → Neighbours whole i j → 22 ≤ i → Gap i j
+  block-spaced : (i j : ℕ) → Neighbours whole i j → 22 ≤ i → Gap EndsLong i j
   block-spaced i j m g =
       ⊎-elim
       (λ l. inr (in-piece l (in-second (bits (opening h)) (bits (piece n ds) ++ bits (core n′)) i j (omega arith) (subst (λ (b : List ℕ). Neighbours b i j) at-piece m))))
       (λ l. gap-on 1 i j (omega arith) (m .before)
-      (subst (λ (k : ℕ). Gap (i - k) (j - k)) length-front
+      (subst (λ (k : ℕ). Gap EndsLong (i - k) (j - k)) length-front
       (sync-spaced h′ n′ (i - length (bits (sync h n ++ frame))) (j - length (bits (sync h n ++ frame)))
       (in-second (bits (sync h n ++ frame)) (bits (sync h′ n′)) i j (omega (arith, length-front)) (subst (λ (b : List ℕ). Neighbours b i j) at-next m)))))
       (one-side whole 1936 i j (next-bit 4) m)
@@ -234,7 +234,7 @@ module _ (c : Recording) where
       (long-first (bits (stream c n)) _ (long-gaps n (full-less c n full) k (le-of-suc-le-suc l))))
       (eq-or-lt-of-le h)
 
-  pub spaced : (n : ℕ) → Full c n → Spaced (bits (stream c n))
+  pub spaced : (n : ℕ) → Full c n → Spaced EndsLong (bits (stream c n))
   unfolding run
   spaced zero full = sync-spaced (c .first) (c .number 0)
   spaced (suc n) full = λ i j m.

@@ -14,7 +14,7 @@ use Rattle.modulation.specs.Modulation.{Two, rows, rowAt, fits, choose, 
 use Rattle.modulation.specs.Bits.{pairs, dataBits, bits, ones}
 use Rattle.modulation.specs.Sync.{FS, FS0, sync, syncNumber}
 use Rattle.modulation.specs.Stream.{Recording, modulated, run, stream, Full}
-use Rattle.modulation.specs.Gaps.{LongGaps, Spaced, NoSeven}
+use Rattle.modulation.specs.Gaps.{LongGaps, Spaced, EndsLong, NoSeven}
 use Rattle.modulation.specs.Demodulator.{demodulate}
 use Rattle.laws.proofs.Booleans.{implies, given, beq-same}
 use Rattle.modulation.proofs.Bits.{bits-injective, length-bits, length-pairs, dataBits-pairs, pairs-injective}
@@ -92,7 +92,7 @@ pub long-gaps : (c : Recording) (n : ℕ) → Full c n → (k : ℕ) → k ≤ n
 long-gaps = Limits.long-gaps
 
 -- every gap between neighbouring ones is one of those, or has 1 to 7 zeros
-pub gap-limits : (c : Recording) (n : ℕ) → Full c n → Spaced (bits (stream c n))
+pub gap-limits : (c : Recording) (n : ℕ) → Full c n → Spaced EndsLong (bits (stream c n))
 gap-limits = Limits.spaced
 
 -- no seven gaps of a single zero follow one another
@@ -120,9 +120,9 @@ module _ (hash : Bool) (n : FS) (ds : List Two) (next : FS) (full : length ds �
     subst (λ (l : List ℕ). LongGaps l 1932) is-stream (long-gaps one 1 (λ k h. full) 1 (omega arith)),
   )
 
-  pub frame-gap-limits : Spaced (framed hash n ds next)
+  pub frame-gap-limits : Spaced EndsLong (framed hash n ds next)
   unfolding one
-  frame-gap-limits = subst Spaced is-stream (gap-limits one 1 (λ k h. full))
+  frame-gap-limits = subst (Spaced EndsLong) is-stream (gap-limits one 1 (λ k h. full))
 
   pub frame-no-seven : NoSeven (framed hash n ds next)
   unfolding one

@@ -17,17 +17,17 @@ pub record LongGaps (l : List ℕ) (s : ℕ) : Type 0 where
   pub first : Neighbours l (s + 4) (s + 13)
   pub second : Neighbours l (s + 13) (s + 22)
 
--- a sync's long gap ends at j, where a sync and its frame are 1,932 bits
-abbrev pub EndsLong : ℕ → Type 0
-EndsLong j = (j % 1932 ≡ 13) ⊎ (j % 1932 ≡ 22)
-
--- the gap between neighbours at i and j has 8 zeros and is a sync's long one, or it has 1 to 7
-abbrev pub Gap : ℕ → ℕ → Type 0
-Gap i j = (EndsLong j × (j ≡ i + 9)) ⊎ ((i + 2 ≤ j) × (j ≤ i + 8))
+-- the gap between neighbours at i and j has 8 zeros and ends where a long one is permitted, or it has 1 to 7
+abbrev pub Gap : (ℕ → Type 0) → ℕ → ℕ → Type 0
+Gap Permitted i j = (Permitted j × (j ≡ i + 9)) ⊎ ((i + 2 ≤ j) × (j ≤ i + 8))
 
 -- every gap is one of these
-abbrev pub Spaced : List ℕ → Type 0
-Spaced l = (i j : ℕ) → Neighbours l i j → Gap i j
+abbrev pub Spaced : (ℕ → Type 0) → List ℕ → Type 0
+Spaced Permitted l = (i j : ℕ) → Neighbours l i j → Gap Permitted i j
+
+-- in a run of frames, each 1,932 bits with its sync: a sync's long gap ends at j
+abbrev pub EndsLong : ℕ → Type 0
+EndsLong j = (j % 1932 ≡ 13) ⊎ (j % 1932 ≡ 22)
 
 -- no 15 bits read 101010101010101: no seven gaps of a single zero follow one another
 abbrev pub NoSeven : List ℕ → Type 0

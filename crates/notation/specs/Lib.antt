@@ -1,4 +1,3 @@
--- PSNs, dc words and file names, as arguments and files have them.
+-- PSNs and dc words, as arguments and files have them.
 pub mod Psn
 pub mod Words
-pub mod Names

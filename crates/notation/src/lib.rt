@@ -1,12 +1,8 @@
-// How the programs' arguments and files write a PSN, the dc words and file names.
+// How the programs' arguments and files write a PSN and the dc words.
 use address::Psn;
 ghost use mathlib.Core.Path.{_≡_};
-ghost use mathlib.Core.Bool.{true};
-ghost use mathlib.Core.Logic.{_↔_};
 ghost use Prim.Native.Nat.{_<_};
 ghost use lib.ListN.{length};
-ghost use Rattle.io.specs.Counts.{Counts};
-ghost use Rattle.notation.specs.Names.{isDash, partAdded, partLength};
 ghost use Rattle.notation.specs.Psn.{digitOf, psnOf};
 ghost use Rattle.notation.specs.Words.{wordFrom, wordAt, byteOf, wordsRead, bytesRead};
 
@@ -108,50 +104,4 @@ pub fn bytes_of(words: &[u32], bytes: &mut [u8])
         bytes[k] = byte_of(words[k / 4], k % 4);
         k += 1;
     }
-}
-
-// `-`
-pub fn is_dash(path: &[u8]) -> bool
-    ensures { λ r. ⌜ r ≡ isDash (now (path .entry)) ⌝ }
-{
-    if path.len() != 1 {
-        return false;
-    }
-    path[0] == b'-'
-}
-
-// Whether two names have the same bytes.
-pub fn same_name(a: &[u8], b: &[u8]) -> bool
-    ensures { λ r. ⌜ ((r ≡ true) ↔ (now (a .entry) ≡ now (b .entry))) ⌝ }
-{
-    if a.len() != b.len() {
-        return false;
-    }
-    let mut k = 0;
-    while k < a.len() {
-        if a[k] != b[k] {
-            return false;
-        }
-        k += 1;
-    }
-    true
-}
-
-// `.part` behind the first n bytes of name; how many there are then, 0 where there is no room.
-pub fn add_part(name: &mut [u8], n: usize) -> usize
-    ensures { λ r. ⌜ Counts r (now (name .exit)) ⌝ }
-    ensures { λ r. ⌜ (now (name .exit) ≡ partAdded (now (name .entry)) n) × (r ≡ partLength (now (name .entry)) n) ⌝ }
-{
-    if name.len() < 5 {
-        return 0;
-    }
-    if name.len() - 5 < n {
-        return 0;
-    }
-    name[n] = b'.';
-    name[n + 1] = b'p';
-    name[n + 2] = b'a';
-    name[n + 3] = b'r';
-    name[n + 4] = b't';
-    n + 5
 }

@@ -1,6 +1,3 @@
--- Laws of texts and of printed numbers.
-pub mod Texts
-pub mod Numbers
+-- Laws of what is printed.
 pub mod Words
-pub mod Distinct
 pub mod Statements

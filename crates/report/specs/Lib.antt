@@ -1,4 +1,2 @@
--- Texts that the programs print.
-pub mod Text
-pub mod Numbers
+-- What the programs print.
 pub mod Words

@@ -1,15 +1,13 @@
--- What is printed for an answer, a verdict, a PSN and a tally.
-use mathlib.Core.Bool.{cond}
-use mathlib.Core.List.{List, [], _∷_, _++_}
-use Prim.Native.Nat.{ℕ, suc}
+-- What is printed for an answer, a verdict and a PSN.
+use mathlib.Core.List.{List, [], _++_}
+use Prim.Native.Nat.{ℕ}
 use Rattle.answer.specs.declared.Answer.{Answer}
 use Rattle.answer.specs.declared.Answer.the-variants.{Done, WrongUser, WrongSide, WrongDc, WrongImage, WrongWork, NoMultiple, NoZone, DcWord, LastBits, Sync, Frame, BisColumn, AddressUnit, NoPsn, LdcColumn, Sector}
 use Rattle.answer.specs.Answer.{numberOf, placeOf}
-use Rattle.gaps.specs.declared.Tally.{Tally}
-use Rattle.marker.specs.declared.Verdict.{Verdict}
-use Rattle.marker.specs.declared.Verdict.the-variants.{Pass, Refused, OtherPsn, OtherUser, OtherSide}
-use Rattle.report.specs.Text.{the}
-use Rattle.report.specs.Numbers.{decimal, hexadecimal}
+use Rattle.verdict.specs.declared.Verdict.{Verdict}
+use Rattle.verdict.specs.declared.Verdict.the-variants.{Pass, Refused, OtherPsn, OtherUser, OtherSide}
+use Rattle.texts.specs.Text.{the}
+use Rattle.texts.specs.Numbers.{decimal, hexadecimal}
 
 -- ---- answers
 
@@ -48,16 +46,3 @@ verdictText (Refused a) = answerText a
 verdictText (OtherPsn psn) = the "the PSN differs: the image has " ++ psnText (psn .0)
 verdictText (OtherUser n) = the "user byte " ++ decimal n ++ the " differs\n"
 verdictText (OtherSide n) = the "side byte " ++ decimal n ++ the " differs\n"
-
--- ---- the tally's table (document 01)
-
-unfoldable pub row : ℕ → ℕ → List ℕ
-row gap count = decimal gap ++ the " " ++ decimal count ++ the "\n"
-
--- the rows of the gap lengths from n on
-unfoldable pub rowsFrom : ℕ → List ℕ → List ℕ
-rowsFrom n [] = []
-rowsFrom n (x ∷ counts) = row n x ++ rowsFrom (suc n) counts
-
-unfoldable pub tallyText : Tally → List ℕ
-tallyText tally = cond (tally .accepted) (the "gap count\n" ++ rowsFrom 1 (tally .counts)) (the "refused\n")

@@ -2,7 +2,7 @@
 use address::Psn;
 use answer::Answer;
 use gaps::Tally;
-use marker::Verdict;
+use verdict::Verdict;
 
 fn print_answer(answer: Answer) {
     console::print(report::answer_text(answer));

@@ -1,5 +1,6 @@
 -- `answer_text` meets its contract: number, place and meaning (Words).
 use Rattle.report.proofs.Words.{answer-is}
+use Rattle.texts.specs.Pieces.{piece}
 use borrow.Author.Needs.{needs}
 use Rattle.report.proofs.answer_text.Statement.{statement}
 use Rattle.report.proofs.answer_text.Tie as tie
@@ -16,22 +17,20 @@ cast-put-decimal c = search needs
 put-decimal-requires : tie.Need-put-decimal-requires
 put-decimal-requires c κs = search needs
 
-slice-aggregate-put-place : tie.Need-slice-aggregate-put-place
-slice-aggregate-put-place c = search needs
+slice-aggregate-put-piece : tie.Need-slice-aggregate-put-piece
+slice-aggregate-put-piece c = search needs
 
 place-requires : tie.Need-place-requires
 place-requires c κs = search needs
 
-slice-aggregate-put-place-2 : tie.Need-slice-aggregate-put-place-2
-slice-aggregate-put-place-2 c = search needs
-
-put-place-requires : tie.Need-put-place-requires
-put-place-requires c κs = search needs
+put-piece-requires : tie.Need-put-piece-requires
+put-piece-requires c κs = search needs
 
 put-meaning-requires : tie.Need-put-meaning-requires
 put-meaning-requires c κs = search needs
 
 returns : tie.Need-returns
+unfolding piece
 returns c = search (answer-is)
 
 pub answer-text-spec : {M : Type 1} → statement M
@@ -42,9 +41,8 @@ answer-text-spec =
     number-requires
     cast-put-decimal
     put-decimal-requires
-    slice-aggregate-put-place
+    slice-aggregate-put-piece
     place-requires
-    slice-aggregate-put-place-2
-    put-place-requires
+    put-piece-requires
     put-meaning-requires
     returns)

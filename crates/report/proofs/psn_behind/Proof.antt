@@ -10,8 +10,8 @@ blank-requires c κs = search needs
 put-requires : tie.Need-put-requires
 put-requires c κs = search needs
 
-put-psn-requires : tie.Need-put-psn-requires
-put-psn-requires c κs = search needs
+put-hexadecimal-requires : tie.Need-put-hexadecimal-requires
+put-hexadecimal-requires c κs = search needs
 
 slice-aggregate-put : tie.Need-slice-aggregate-put
 slice-aggregate-put c = search needs
@@ -28,7 +28,7 @@ psn-behind-spec =
     (tie.spec
     blank-requires
     put-requires
-    put-psn-requires
+    put-hexadecimal-requires
     slice-aggregate-put
     put-requires-2
     returns)

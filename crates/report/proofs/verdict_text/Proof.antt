@@ -1,6 +1,7 @@
 -- `verdict_text` meets its contract: the words of each verdict (Words).
 use Rattle.report.proofs.Words.{verdict-is, refused-is}
 use Rattle.report.specs.Words.{verdictText}
+use Rattle.texts.specs.Pieces.{piece}
 use borrow.Author.Needs.{needs}
 use Rattle.report.proofs.verdict_text.Statement.{statement}
 use Rattle.report.proofs.verdict_text.Tie as tie
@@ -38,14 +39,11 @@ enum-known-verdict-3 c = search needs
 blank-requires-2 : tie.Need-blank-requires-2
 blank-requires-2 c κs = search needs
 
-slice-aggregate-put-place : tie.Need-slice-aggregate-put-place
-slice-aggregate-put-place c = search needs
+slice-aggregate-put-piece : tie.Need-slice-aggregate-put-piece
+slice-aggregate-put-piece c = search needs
 
-slice-aggregate-put-place-2 : tie.Need-slice-aggregate-put-place-2
-slice-aggregate-put-place-2 c = search needs
-
-put-place-requires : tie.Need-put-place-requires
-put-place-requires c κs = search needs
+put-piece-requires : tie.Need-put-piece-requires
+put-piece-requires c κs = search needs
 
 enum-known-verdict-4 : tie.Need-enum-known-verdict-4
 enum-known-verdict-4 c = search needs
@@ -53,33 +51,30 @@ enum-known-verdict-4 c = search needs
 blank-requires-3 : tie.Need-blank-requires-3
 blank-requires-3 c κs = search needs
 
-slice-aggregate-put-place-3 : tie.Need-slice-aggregate-put-place-3
-slice-aggregate-put-place-3 c = search needs
+slice-aggregate-put-piece-2 : tie.Need-slice-aggregate-put-piece-2
+slice-aggregate-put-piece-2 c = search needs
 
-slice-aggregate-put-place-4 : tie.Need-slice-aggregate-put-place-4
-slice-aggregate-put-place-4 c = search needs
-
-put-place-requires-2 : tie.Need-put-place-requires-2
-put-place-requires-2 c κs = search needs
+put-piece-requires-2 : tie.Need-put-piece-requires-2
+put-piece-requires-2 c κs = search needs
 
 returns : tie.Need-returns
-unfolding verdictText
+unfolding verdictText piece
 returns c = search (verdict-is)
 
 returns-2 : tie.Need-returns-2
-unfolding verdictText
+unfolding verdictText piece
 returns-2 c = search (refused-is)
 
 returns-3 : tie.Need-returns-3
-unfolding verdictText
+unfolding verdictText piece
 returns-3 c = search (verdict-is)
 
 returns-4 : tie.Need-returns-4
-unfolding verdictText
+unfolding verdictText piece
 returns-4 c = search (verdict-is)
 
 returns-5 : tie.Need-returns-5
-unfolding verdictText
+unfolding verdictText piece
 returns-5 c = search (verdict-is)
 
 pub verdict-text-spec : {M : Type 1} → statement M
@@ -97,14 +92,12 @@ verdict-text-spec =
     psn-behind-requires
     enum-known-verdict-3
     blank-requires-2
-    slice-aggregate-put-place
-    slice-aggregate-put-place-2
-    put-place-requires
+    slice-aggregate-put-piece
+    put-piece-requires
     enum-known-verdict-4
     blank-requires-3
-    slice-aggregate-put-place-3
-    slice-aggregate-put-place-4
-    put-place-requires-2
+    slice-aggregate-put-piece-2
+    put-piece-requires-2
     returns
     returns-2
     returns-3

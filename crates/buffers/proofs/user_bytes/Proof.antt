@@ -1,0 +1,14 @@
+-- `user_bytes` meets its contract: computed.
+use mathlib.Core.Path.{refl}
+use Prim.Native.Nat.{ℕ}
+use lib.ListN.{length-replicate}
+use Rattle.laws.specs.Zeros.{zeros}
+use Rattle.buffers.proofs.user_bytes.Statement.{statement}
+use Rattle.buffers.proofs.user_bytes.Tie as tie
+
+returns : tie.Need-returns
+unfolding zeros
+returns c = (length-replicate {A = ℕ} 65536 0, refl)
+
+pub user-bytes-spec : {M : Type 1} → statement M
+user-bytes-spec = tie.close (tie.spec returns)

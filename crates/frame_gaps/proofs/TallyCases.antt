@@ -1,0 +1,107 @@
+-- The tally's answer, case by case of its definition. Assumes nothing.
+use mathlib.Core.Bool.{Bool, true, false, _&&_, cond}
+use mathlib.Core.List.{List}
+use mathlib.Core.Path.{_≡_, refl, ap, ap₂, _∙_}
+use Prim.Native.Nat.{ℕ, zero, suc, _-_, _^_, _<_, _≤_}
+use native.Mathlib.Omega.{arith}
+use borrow.Author.Tests.{eq-eqb, ne-eqb, lt-ltb, le-ltb}
+use lib.Dec.{eqb, ltb}
+use lib.ListN.{length, getD, take, drop, length-drop}
+use lib.Seq.{take-all}
+use Rattle.laws.specs.Bytes.{Bytes}
+use Rattle.frame_sync.specs.Sync.{fs}
+use Rattle.frame.specs.Frame.{frame}
+use Rattle.frame.proofs.Frame.{length-frame}
+use Rattle.gaps.specs.declared.Tally.{Tally}
+use Rattle.gaps.specs.Gaps.{gapCounts, gapAt, howMany}
+use Rattle.frame_gaps.specs.Tally.{dcIn, accepted, refusal, frameIn, tallied, inputOf}
+use Rattle.frame_gaps.proofs.FrameCounted.{bits-frame}
+use Rattle.gaps.proofs.Neighbours.{counts-often}
+
+and-false : (a b : Bool) → b ≡ false → (a && b) ≡ false
+and-false true b e = e
+and-false false b e = refl
+
+module _ (input : List ℕ) {a : Tally} (r : a ≡ refusal) where
+  refused : accepted input ≡ false → a ≡ tallied input
+  unfolding tallied
+  refused e = r ∙ rw e
+
+  pub refused-length : (length input ≡ 161 → ⊥) → a ≡ tallied input
+  refused-length h = refused (rw (ne-eqb (length input) 161 h))
+
+  pub refused-hash : 1 < getD input 0 0 → a ≡ tallied input
+  refused-hash h = refused (and-false (eqb (length input) 161) _ (rw (le-ltb (getD input 0 0) 2 h)))
+
+  pub refused-number : 6 < getD input 1 0 → a ≡ tallied input
+  refused-number h = refused (and-false (eqb (length input) 161) _ (and-false (ltb (getD input 0 0) 2) _ (rw (le-ltb (getD input 1 0) 7 h))))
+
+  pub refused-dc : {dc : ℕ} → dc ≡ dcIn input → 268435455 < dc → a ≡ tallied input
+  refused-dc {dc} e h =
+      refused
+      (and-false (eqb (length input) 161) _ (and-false (ltb (getD input 0 0) 2) _
+      (and-false (ltb (getD input 1 0) 7) _ (le-ltb (dcIn input) (2 ^ 28) (omega arith)))))
+
+-- the row is lent as the part of the input from 6 on
+pub tallied-counts : (input : List ℕ) {dc : ℕ} {c : List ℕ} → length input ≡ 161 → getD input 0 0 ≤ 1 → getD input 1 0 ≤ 6 → dc ≡ dcIn input → dc ≤ 268435455
+    → c ≡ gapCounts (frame (eqb (getD input 0 0) 1) (fs (getD input 1 0)) (take (length input - 6) (drop 6 input)) dc)
+    → record { accepted = true; counts = c } ≡ tallied input
+unfolding tallied
+tallied-counts input {dc} {c} size hash number e small counts =
+    rw (
+      eq-eqb (length input) 161 size,
+      lt-ltb (getD input 0 0) 2 (omega arith),
+      lt-ltb (getD input 1 0) 7 (omega arith),
+      lt-ltb (dcIn input) (2 ^ 28) (omega arith),
+      counts,
+      e,
+      take-all (length input - 6) (drop 6 input) (omega (arith, length-drop 6 input)),
+    )
+
+-- ---- what is tallied
+
+-- of an accepted input: of each length from 1 to 8, how many places of the frame's 1,932 bits begin such a gap
+pub tallied-often : (input : List ℕ) → accepted input ≡ true → (k : ℕ) → k < 8 → getD (tallied input .counts) k 0 ≡ howMany 1932 (gapAt (frameIn input) (suc k))
+unfolding tallied
+tallied-often input e k h =
+    ap (λ (t : Bool). getD (cond t (record { accepted = true; counts = gapCounts (frameIn input) }) refusal .counts) k 0) e
+    ∙ counts-often (frameIn input) (bits-frame _ _ _ _) k h
+    ∙ ap (λ (m : ℕ). howMany m (gapAt (frameIn input) (suc k))) (length-frame _ _ _ _)
+
+-- of the bytes that give a frame: its gap counts
+module _ (hash : Bool) (number : ℕ) (row : List ℕ) (dc : ℕ) (size : length row ≡ 155) (few : number < 7) (small : dc < 2 ^ 28) where
+  same-hash : (t : Bool) → (eqb (cond t 1 0) 1 ≡ t) × (ltb (cond t 1 0) 2 ≡ true)
+  same-hash true = (refl, refl)
+  same-hash false = (refl, refl)
+
+  same-dc : dcIn (inputOf hash number row dc) ≡ dc
+  same-dc = omega arith
+
+  given : accepted (inputOf hash number row dc) ≡ true
+  given =
+      rw (
+        eq-eqb (length (inputOf hash number row dc)) 161 (omega arith),
+        same-hash hash .1,
+        lt-ltb number 7 few,
+        lt-ltb (dcIn (inputOf hash number row dc)) (2 ^ 28) (omega (arith, same-dc)),
+      )
+
+  pub frame-tallied : tallied (inputOf hash number row dc) ≡ record { accepted = true; counts = gapCounts (frame hash (fs number) row dc) }
+  unfolding tallied
+  frame-tallied =
+      ap (λ (t : Bool). cond t (record { accepted = true; counts = gapCounts (frameIn (inputOf hash number row dc)) }) refusal) given
+      ∙ ap₂ (λ (h : Bool) (d : ℕ). record { accepted = true; counts = gapCounts (frame h (fs number) row d) }) (same-hash hash .0) same-dc
+
+  -- and they are bytes
+  pub bytes-input : Bytes row → Bytes (inputOf hash number row dc)
+  bytes-input rest zero = bit hash
+    where
+      bit : (t : Bool) → cond t 1 0 < 256
+      bit true = omega arith
+      bit false = omega arith
+  bytes-input rest (suc zero) = omega arith
+  bytes-input rest (suc (suc zero)) = omega arith
+  bytes-input rest (suc (suc (suc zero))) = omega arith
+  bytes-input rest (suc (suc (suc (suc zero)))) = omega arith
+  bytes-input rest (suc (suc (suc (suc (suc zero))))) = omega arith
+  bytes-input rest (suc (suc (suc (suc (suc (suc i)))))) = rest i

@@ -1,0 +1,2 @@
+-- The tally program's answer.
+pub mod Tally

@@ -1,0 +1,76 @@
+// How often each gap length occurs in a frame: the answer of the tally program (document 01).
+use gaps::Tally;
+ghost use mathlib.Core.Path.{_≡_};
+ghost use Prim.Native.Nat.{_<_};
+ghost use lib.ListN.{length};
+ghost use Rattle.gaps.specs.Gaps.{gapCounts};
+ghost use Rattle.frame_sync.specs.Sync.{fs};
+ghost use Rattle.frame.specs.Frame.{frame};
+ghost use Rattle.frame_gaps.specs.Tally.{dcIn, refusal, tallied};
+
+// Room for a frame.
+fn blank() -> [u8; 242]
+    ensures { λ r. ⌜ length r ≡ 242 ⌝ }
+{
+    [0u8; 242]
+}
+
+// The counts of the frame of a row and a dc word.
+fn frame_counts(row: &[u8], dc: u32, number: usize, hash: bool) -> [u32; 8]
+    requires { ⌜ (length (now row) ≡ 155) × (number < 7) ⌝ }
+    ensures { λ r. ⌜ r ≡ gapCounts (frame hash (fs number) (now (row .entry)) dc) ⌝ }
+{
+    let mut table = modulator::steps::no_table();
+    modulator::steps::fill_table(&mut table);
+    let mut image = blank();
+    frame::steps::write_frame(&table, row, dc, number, State { hash }, &mut image, 0);
+    gaps::steps::gap_counts(&image, 1932)
+}
+
+fn refused() -> Tally
+    ensures { λ r. ⌜ r ≡ refusal ⌝ }
+{
+    Tally {
+        accepted: false,
+        counts: [0u32; 8],
+    }
+}
+
+fn wide(x: u8) -> u32
+    ensures { λ r. ⌜ (r ≡ x) × (r < 256) ⌝ }
+{
+    x as u32
+}
+
+// The dc word of the input, four bytes from 2 on.
+fn dc_in(input: &[u8]) -> u32
+    requires { ⌜ length (now input) ≡ 161 ⌝ }
+    ensures { λ r. ⌜ r ≡ dcIn (now (input .entry)) ⌝ }
+{
+    ((wide(input[2]) * 256 + wide(input[3])) * 256 + wide(input[4])) * 256 + wide(input[5])
+}
+
+// The tally's answer to its input: # (0 or 1), sync number, dc word in four bytes, 155 frame bytes.
+pub fn tally_of(input: &[u8]) -> Tally
+    ensures { λ r. ⌜ r ≡ tallied (now (input .entry)) ⌝ }
+{
+    if input.len() != 161 {
+        return refused();
+    }
+    let hash = input[0];
+    if 1 < hash {
+        return refused();
+    }
+    let number = input[1];
+    if 6 < number {
+        return refused();
+    }
+    let dc = dc_in(input);
+    if 0x0fff_ffff < dc {
+        return refused();
+    }
+    Tally {
+        accepted: true,
+        counts: frame_counts(&input[6..], dc, number as usize, hash == 1),
+    }
+}

@@ -1,0 +1,2 @@
+-- Definitions that only the steps need.
+pub mod Counted

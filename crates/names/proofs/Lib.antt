@@ -1,0 +1,2 @@
+-- Laws of file names.
+pub mod Names

@@ -1,0 +1,2 @@
+-- File names.
+pub mod Names

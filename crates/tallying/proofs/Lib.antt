@@ -1,0 +1,3 @@
+-- Laws of the tally's table.
+pub mod Table
+pub mod Statements

@@ -1,0 +1,2 @@
+-- What the tally program prints.
+pub mod Table

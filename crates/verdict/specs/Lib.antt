@@ -1,0 +1,2 @@
+-- Verdicts as numbers.
+pub mod Verdict
