@@ -1,4 +1,5 @@
 // How often each gap length occurs in a frame: the answer of the tally program (document 01).
+use frame::State;
 use gaps::Tally;
 ghost use mathlib.Core.Path.{_≡_};
 ghost use Prim.Native.Nat.{_<_};

@@ -32,17 +32,17 @@ pass-only (OtherSide n) e = absurd (omega (arith, ap (λ (l : List ℕ). getD l 
 
 abbrev answers : ℕ → List Answer
 answers n =
-    Done ∷ WrongUser ∷ WrongSide ∷ WrongDc ∷ WrongImage ∷ WrongWork ∷ NoMultiple ∷ NoZone ∷ DcWord n ∷ LastBits ∷ Sync n ∷ Frame n ∷ BisColumn n ∷ AddressUnit n ∷ NoPsn ∷ LdcColumn n ∷ Sector n ∷ []
+    Done ∷ WrongUser n ∷ WrongSide ∷ WrongDc ∷ WrongImage ∷ WrongWork ∷ NoMultiple n ∷ NoZone n ∷ DcWord n ∷ LastBits ∷ Sync n ∷ Frame n ∷ BisColumn n ∷ AddressUnit n ∷ NoPsn ∷ LdcColumn n ∷ Sector n ∷ []
 
 told : (a : Answer) → (getD (answers (placeOf a)) (numberOf a) Done ≡ a) × (numberOf a < 10 ^ 20)
 told Done = (refl, omega arith)
-told WrongUser = (refl, omega arith)
+told (WrongUser n) = (refl, omega arith)
 told WrongSide = (refl, omega arith)
 told WrongDc = (refl, omega arith)
 told WrongImage = (refl, omega arith)
 told WrongWork = (refl, omega arith)
-told NoMultiple = (refl, omega arith)
-told NoZone = (refl, omega arith)
+told (NoMultiple n) = (refl, omega arith)
+told (NoZone n) = (refl, omega arith)
 told (DcWord n) = (refl, omega arith)
 told LastBits = (refl, omega arith)
 told (Sync n) = (refl, omega arith)
