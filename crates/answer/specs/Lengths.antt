@@ -4,19 +4,20 @@ use Prim.Native.Nat.{ℕ}
 use Rattle.answer.specs.declared.Answer.{Answer}
 use Rattle.answer.specs.declared.Answer.the-variants.{WrongUser, WrongSide, WrongDc, WrongImage, WrongWork}
 use Rattle.answer.specs.Answer.{andThen, sized}
+use Rattle.sizes.specs.Sizes.{workSize, imageSize, sideSize, frameCount, userSize}
 
 -- of user bytes, side data, dc words, image and work, in rising order
 unfoldable pub lengthsAnswer : ℕ → ℕ → ℕ → ℕ → ℕ → Answer
 lengthsAnswer user side dc image work =
-    andThen (sized user 65536 (WrongUser 0))
-    (andThen (sized side 592 WrongSide)
-    (andThen (sized dc 496 WrongDc)
-    (andThen (sized image 119788 WrongImage)
-    (sized work 76880 WrongWork))))
+    andThen (sized user userSize (WrongUser 0))
+    (andThen (sized side sideSize WrongSide)
+    (andThen (sized dc frameCount WrongDc)
+    (andThen (sized image imageSize WrongImage)
+    (sized work workSize WrongWork))))
 
 -- user bytes, side data, dc words and work have their lengths; that of the image stands beside it
 pub record RightLengths (u s d w : ℕ) : Type 0 where
-  pub user : u ≡ 65536
-  pub side : s ≡ 592
-  pub dc : d ≡ 496
-  pub work : w ≡ 76880
+  pub user : u ≡ userSize
+  pub side : s ≡ sideSize
+  pub dc : d ≡ frameCount
+  pub work : w ≡ workSize

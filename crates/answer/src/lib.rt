@@ -110,10 +110,10 @@ pub fn sized(size: usize, right: usize, refusal: Answer) -> Answer
 pub fn lengths(user: usize, side: usize, dc: usize, image: usize, work: usize) -> Answer
     ensures { λ r. ⌜ r ≡ lengthsAnswer user side dc image work ⌝ }
 {
-    let one = sized(user, 65536, Answer::WrongUser(0));
-    let two = sized(side, 592, Answer::WrongSide);
-    let three = sized(dc, 496, Answer::WrongDc);
-    let four = sized(image, 119788, Answer::WrongImage);
-    let five = sized(work, 76880, Answer::WrongWork);
+    let one = sized(user, sizes::USER, Answer::WrongUser(0));
+    let two = sized(side, sizes::SIDE, Answer::WrongSide);
+    let three = sized(dc, sizes::FRAMES, Answer::WrongDc);
+    let four = sized(image, sizes::IMAGE, Answer::WrongImage);
+    let five = sized(work, sizes::WORK, Answer::WrongWork);
     one.and_then(two.and_then(three.and_then(four.and_then(five))))
 }

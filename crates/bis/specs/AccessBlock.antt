@@ -9,11 +9,12 @@ use Rattle.laws.specs.Bytes.{Bytes}
 use Rattle.laws.specs.Tabulate.{tabulate}
 use Rattle.address.specs.Conversions.{aunOf}
 use Rattle.bis.specs.AddressField.{addressField}
+use Rattle.sizes.specs.Sizes.{sideSize}
 
 -- Side data (document 01): 16 flag bytes, one for each address unit, then 32 × 18 bytes of user control data. They are taken unit by unit: byte j
 -- of unit S at 16 + 18 S + j (docs/DECISIONS).
 pub record Side (side : List ℕ) : Type 0 where
-  pub size : length side ≡ 592
+  pub size : length side ≡ sideSize
   pub bytes : Bytes side
 
 -- the address field of unit y of the cluster at a PSN

@@ -17,6 +17,7 @@ use Rattle.bis.specs.declared.PsnFound.{PsnFound}
 use Rattle.bis.specs.declared.PsnFound.the-variants.{Found, NotFound}
 use Rattle.bis.specs.AddressField.{partlyInverted, aunIn, flagIn}
 use Rattle.bis.specs.AccessBlock.{rowOfAF, columnOfAF, rowOfUC, columnOfUC}
+use Rattle.sizes.specs.Sizes.{sideSize}
 
 -- ---- 12: the lowest column without its 32 roots, or 24
 
@@ -74,11 +75,11 @@ abbrev pub sideByteIn : List (List ℕ) → ℕ → ℕ
 sideByteIn block k = cond (ltb k 16) (flagIn (primaryIn block k)) (getD (getD block (columnOfUC (k - 16)) []) (rowOfUC (k - 16)) 0)
 
 unfoldable pub sideIn : List (List ℕ) → List ℕ
-sideIn block = tabulate 592 (sideByteIn block)
+sideIn block = tabulate sideSize (sideByteIn block)
 
 -- what a lent slice holds afterwards: one of another length stays as it was
 unfoldable pub sideOut : List (List ℕ) → List ℕ → List ℕ
-sideOut block lent = cond (eqb (length lent) 592) (sideIn block) lent
+sideOut block lent = cond (eqb (length lent) sideSize) (sideIn block) lent
 
 -- ---- a block in which nothing is wrong, with what is read in it
 

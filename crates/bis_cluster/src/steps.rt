@@ -6,10 +6,11 @@ ghost use lib.ListN.{length};
 ghost use Rattle.bis.specs.BisCluster.{rowOf, columnOf, bisByte};
 ghost use Rattle.cluster.specs.Multiplex.{bisIndex, columnIn, bisIn};
 ghost use Rattle.bis_cluster.specs.steps.Written.{BisPut};
+ghost use Rattle.sizes.specs.Sizes.{workSize, frameCount};
 
 // A byte of the BIS cluster, out of the BIS block.
 fn bis_byte(block: &Block, row: usize, column: usize) -> u8
-    requires { ⌜ (row < 496) × (column < 3) ⌝ }
+    requires { ⌜ (row < frameCount) × (column < 3) ⌝ }
     ensures { λ r. ⌜ r ≡ bisByte (now (block .entry)) row column ⌝ }
 {
     let unit = row / 31;
@@ -21,14 +22,14 @@ fn bis_byte(block: &Block, row: usize, column: usize) -> u8
 
 // The BIS cluster, row by row.
 pub fn put_bis(work: &mut [u8], block: &Block)
-    requires { ⌜ length (now work) ≡ 76880 ⌝ }
+    requires { ⌜ length (now work) ≡ workSize ⌝ }
     ensures { λ _. ⌜ BisPut (now (work .entry)) (now (block .entry)) (now (work .exit)) ⌝ }
 {
     let mut m = 0;
     while m < 1488 {
         let row = m / 3;
         let column = m % 3;
-        work[155 * row + 39 * column + 38] = bis_byte(block, row, column);
+        work[sizes::ROW * row + 39 * column + 38] = bis_byte(block, row, column);
         m += 1;
     }
 }
@@ -41,7 +42,7 @@ fn bis_index(n: usize, c: usize) -> usize
     let in_unit = n / 2;
     let unit = (in_unit + 8 - c / 3) % 8 + 8 * (n % 2);
     let row = 31 * unit + in_unit;
-    155 * row + 39 * ((c + in_unit) % 3) + 38
+    sizes::ROW * row + 39 * ((c + in_unit) % 3) + 38
 }
 
 fn zero_column() -> [u8; 62]
@@ -52,7 +53,7 @@ fn zero_column() -> [u8; 62]
 
 // BIS code word c.
 fn bis_column(work: &[u8], c: usize) -> [u8; 62]
-    requires { ⌜ (length (now work) ≡ 76880) × (c < 24) ⌝ }
+    requires { ⌜ (length (now work) ≡ workSize) × (c < 24) ⌝ }
     ensures { λ r. ⌜ r ≡ columnIn (now (work .entry)) c ⌝ }
 {
     let mut column = zero_column();
@@ -72,7 +73,7 @@ fn zero_block() -> Block
 
 // The BIS block of a cluster.
 pub fn bis_block(work: &[u8]) -> Block
-    requires { ⌜ length (now work) ≡ 76880 ⌝ }
+    requires { ⌜ length (now work) ≡ workSize ⌝ }
     ensures { λ r. ⌜ r ≡ bisIn (now (work .entry)) ⌝ }
 {
     let mut block = zero_block();

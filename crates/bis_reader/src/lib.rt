@@ -12,6 +12,7 @@ ghost use Rattle.answer.specs.declared.Answer.the-variants.{Done};
 ghost use Rattle.address.specs.Judged.{judged};
 ghost use Rattle.bis.specs.AddressField.{restored};
 ghost use Rattle.bis.specs.Reading.{firstWrongColumn, fieldIn, primaryIn, firstWrongField, aunAt, firstOtherUnit, psnIn, sideByteIn, sideOut};
+ghost use Rattle.sizes.specs.Sizes.{sideSize};
 
 // The same, by remainders of its own.
 pub fn first_wrong_column(block: Block) -> usize
@@ -119,7 +120,7 @@ pub fn psn_in(block: Block) -> PsnFound
 
 // Byte k of the side data.
 fn side_byte(block: &Block, k: usize) -> u8
-    requires { ⌜ k < 592 ⌝ }
+    requires { ⌜ k < sideSize ⌝ }
     ensures { λ r. ⌜ r ≡ sideByteIn (now (block .entry)) k ⌝ }
 {
     if k < 16 {
@@ -133,11 +134,11 @@ fn side_byte(block: &Block, k: usize) -> u8
 pub fn side_data(block: Block, side: &mut [u8])
     ensures { λ _. ⌜ now (side .exit) ≡ sideOut block (now (side .entry)) ⌝ }
 {
-    if side.len() != 592 {
+    if side.len() != sizes::SIDE {
         return;
     }
     let mut k: usize = 0;
-    while k < 592 {
+    while k < sizes::SIDE {
         side[k] = side_byte(&block, k);
         k += 1;
     }

@@ -14,10 +14,11 @@ ghost use Rattle.remainders.specs.steps.Remainders.{AreRemainders};
 ghost use Rattle.bis.specs.AddressField.{information};
 ghost use Rattle.bis.specs.AccessBlock.{addressFields, accessByte};
 ghost use Rattle.bis.specs.BisBlock.{accessColumn, codeWord, bisBlock};
+ghost use Rattle.sizes.specs.Sizes.{sideSize};
 
 // The sixteen address fields of a cluster.
 fn address_fields(psn: Psn, side: &[u8]) -> Fields
-    requires { ⌜ (length (now side) ≡ 592) × (judged (psn .0) ≡ Done) ⌝ }
+    requires { ⌜ (length (now side) ≡ sideSize) × (judged (psn .0) ≡ Done) ⌝ }
     ensures { λ r. ⌜ r ≡ addressFields (psn .0) (now (side .entry)) ⌝ }
 {
     let mut fields = [[0u8; 9]; 16];
@@ -32,7 +33,7 @@ fn address_fields(psn: Psn, side: &[u8]) -> Fields
 
 // The byte in a row and a column of the access block.
 fn access_byte(fields: &Fields, side: &[u8], row: usize, c: usize) -> u8
-    requires { ⌜ (length (now side) ≡ 592) × (row < 30) × (c < 24) ⌝ }
+    requires { ⌜ (length (now side) ≡ sideSize) × (row < 30) × (c < 24) ⌝ }
     ensures { λ r. ⌜ r ≡ accessByte (now (fields .entry)) (now (side .entry)) row c ⌝ }
 {
     if row < 6 {
@@ -45,7 +46,7 @@ fn access_byte(fields: &Fields, side: &[u8], row: usize, c: usize) -> u8
 
 // The 30 information bytes of code word c.
 fn access_column(fields: &Fields, side: &[u8], c: usize) -> [u8; 30]
-    requires { ⌜ (length (now side) ≡ 592) × (c < 24) ⌝ }
+    requires { ⌜ (length (now side) ≡ sideSize) × (c < 24) ⌝ }
     ensures { λ r. ⌜ r ≡ accessColumn (now (fields .entry)) (now (side .entry)) c ⌝ }
 {
     let mut column = [0u8; 30];
@@ -83,7 +84,7 @@ fn joined(information: [u8; 30], parity: [u8; 32]) -> [u8; 62]
 
 // Code word c: information and parity.
 fn code_word(table: &Remainders, fields: &Fields, side: &[u8], c: usize) -> [u8; 62]
-    requires { ⌜ AreRemainders (now table) × ((length (now side) ≡ 592) × (c < 24)) ⌝ }
+    requires { ⌜ AreRemainders (now table) × ((length (now side) ≡ sideSize) × (c < 24)) ⌝ }
     ensures { λ r. ⌜ r ≡ codeWord (now (fields .entry)) (now (side .entry)) c ⌝ }
 {
     let information = access_column(fields, side, c);
@@ -94,7 +95,7 @@ fn code_word(table: &Remainders, fields: &Fields, side: &[u8], c: usize) -> [u8;
 
 // The BIS block of the cluster at an accepted PSN, with 592 bytes of side data.
 pub fn block(table: &Remainders, psn: Psn, side: &[u8]) -> Block
-    requires { ⌜ AreRemainders (now table) × ((length (now side) ≡ 592) × (judged (psn .0) ≡ Done)) ⌝ }
+    requires { ⌜ AreRemainders (now table) × ((length (now side) ≡ sideSize) × (judged (psn .0) ≡ Done)) ⌝ }
     ensures { λ r. ⌜ r ≡ bisBlock (psn .0) (now (side .entry)) ⌝ }
 {
     let fields = address_fields(psn, side);

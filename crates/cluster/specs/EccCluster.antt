@@ -11,10 +11,11 @@ use Rattle.scrambling.specs.Scrambling.{scramblingOf, scrambled}
 use Rattle.ldc.specs.LdcCluster.{ldcByte}
 use Rattle.bis.specs.BisBlock.{bisBlock}
 use Rattle.cluster.specs.Multiplex.{multiplexed}
+use Rattle.sizes.specs.Sizes.{workSize, rowSize, userSize}
 
 -- the user bytes of a cluster
 pub record User (user : List ℕ) : Type 0 where
-  pub size : length user ≡ 65536
+  pub size : length user ≡ userSize
   pub bytes : Bytes user
 
 -- sector F of 32: 2,048 user bytes
@@ -34,8 +35,8 @@ eccCluster user psn side = multiplexed (ldcByte (frames psn user)) (bisBlock psn
 
 -- row n, the bytes of recording frame n
 abbrev pub rowOf : List ℕ → ℕ → List ℕ
-rowOf work n = take 155 (drop (155 * n) work)
+rowOf work n = take rowSize (drop (rowSize * n) work)
 
 -- the row that is shown of a lent slice; document 01: empty for n above 495, or a slice that is not 76,880 long
 abbrev pub shownRow : List ℕ → ℕ → List ℕ
-shownRow work n = cond (eqb (length work) 76880) (cond (leb n 495) (rowOf work n) []) []
+shownRow work n = cond (eqb (length work) workSize) (cond (leb n 495) (rowOf work n) []) []

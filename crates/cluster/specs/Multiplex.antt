@@ -7,6 +7,7 @@ use lib.ListN.{getD}
 use Rattle.laws.specs.Tabulate.{tabulate}
 use Rattle.ldc.specs.Places.{placeOf}
 use Rattle.bis.specs.BisCluster as Bis
+use Rattle.sizes.specs.Sizes.{workSize, rowSize}
 
 -- byte j of a row, where `ldc` gives the LDC cluster by row and column and `block` is the BIS block
 abbrev pub rowByte : (ℕ → ℕ → ℕ) → List (List ℕ) → ℕ → ℕ → ℕ
@@ -14,16 +15,16 @@ rowByte ldc block row j = cond (eqb (j % 39) 38) (Bis.bisByte block row (j / 39)
 
 -- the 76,880 bytes, row by row
 unfoldable pub multiplexed : (ℕ → ℕ → ℕ) → List (List ℕ) → List ℕ
-multiplexed ldc block = tabulate 76880 (λ k. rowByte ldc block (k / 155) (k % 155))
+multiplexed ldc block = tabulate workSize (λ k. rowByte ldc block (k / rowSize) (k % rowSize))
 
 -- ---- and back, from 76,880 bytes
 
 -- where a row and a column of the LDC cluster, of the BIS cluster, stand
 abbrev pub ldcIndex : ℕ → ℕ → ℕ
-ldcIndex row column = 155 * row + column + column / 38
+ldcIndex row column = rowSize * row + column + column / 38
 
 abbrev pub bisIndex : ℕ → ℕ → ℕ
-bisIndex row column = 155 * row + 39 * column + 38
+bisIndex row column = rowSize * row + 39 * column + 38
 
 -- where byte N of LDC code word L stands
 abbrev pub wordIndex : ℕ → ℕ → ℕ

@@ -12,6 +12,7 @@ use Rattle.scrambling.specs.Scrambling.{scramblingOf, scrambled}
 use Rattle.ldc.specs.Places.{wordIn, frameIn}
 use Rattle.bis.specs.Reading as Bis
 use Rattle.cluster.specs.Multiplex.{ldcIn, bisIn}
+use Rattle.sizes.specs.Sizes.{userSize}
 
 -- ---- 15: the lowest LDC column without its 32 roots, or 304
 
@@ -38,7 +39,7 @@ abbrev pub userByteIn : List ℕ → List ℕ → ℕ → ℕ
 userByteIn stream work i = getD (dataFrameIn stream work (i / 2048)) (i % 2048) 0
 
 unfoldable pub userIn : List ℕ → List ℕ → List ℕ
-userIn stream work = tabulate 65536 (userByteIn stream work)
+userIn stream work = tabulate userSize (userByteIn stream work)
 
 -- ---- a cluster in which nothing is wrong, with what is read in it
 

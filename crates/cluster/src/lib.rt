@@ -7,13 +7,13 @@ ghost use Rattle.cluster.specs.EccCluster.{shownRow};
 pub fn row(work: &[u8], n: usize) -> &[u8]
     ensures { λ r. ⌜ now r ≡ shownRow (now (work .entry)) n ⌝ }
 {
-    if work.len() != 76880 {
+    if work.len() != sizes::WORK {
         return &work[..0];
     }
     if 495 < n {
         return &work[..0];
     }
-    let start = 155 * n;
-    let end = start + 155;
+    let start = sizes::ROW * n;
+    let end = start + sizes::ROW;
     &work[start..end]
 }

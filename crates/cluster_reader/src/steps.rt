@@ -11,6 +11,7 @@ ghost use Rattle.ldc.specs.Places.{frameIn};
 ghost use Rattle.cluster.specs.Multiplex.{ldcIn};
 ghost use Rattle.cluster.specs.Reading.{firstWrongWord, firstWrongSector, userIn};
 ghost use Rattle.ldc_words.specs.steps.Eighth.{frameAt, framesOf, wrongOf, wrongFrame, userOf};
+ghost use Rattle.sizes.specs.Sizes.{workSize, userSize};
 
 // The lowest of 38 code words that has not its 32 roots, or 38.
 fn first_wrong_of(table: &Remainders, words: &[u8]) -> usize
@@ -32,7 +33,7 @@ fn first_wrong_of(table: &Remainders, words: &[u8]) -> usize
 
 // The lowest LDC column whose parity is wrong, or 304.
 pub fn first_wrong_word(table: &Remainders, work: &[u8]) -> usize
-    requires { ⌜ AreRemainders (now table) × (length (now work) ≡ 76880) ⌝ }
+    requires { ⌜ AreRemainders (now table) × (length (now work) ≡ workSize) ⌝ }
     ensures { λ r. ⌜ r ≡ firstWrongWord (now (work .entry)) ⌝ }
 {
     let mut words = ldc_words::steps::no_words();
@@ -50,7 +51,7 @@ pub fn first_wrong_word(table: &Remainders, work: &[u8]) -> usize
 
 // Data frames 4 e to 4 e + 3 of a cluster, as they stand there.
 fn take_frames(work: &[u8], e: usize, frames: &mut [u8])
-    requires { ⌜ ((length (now work) ≡ 76880) × (length (now frames) ≡ 8208)) × (e < 8) ⌝ }
+    requires { ⌜ ((length (now work) ≡ workSize) × (length (now frames) ≡ 8208)) × (e < 8) ⌝ }
     ensures { λ _. ⌜ now (frames .exit) ≡ framesOf (frameIn (ldcIn (now (work .entry)))) e ⌝ }
 {
     let mut words = ldc_words::steps::no_words();
@@ -96,7 +97,7 @@ fn first_wrong_frame(frames: &[u8], stream: &[u8]) -> usize
 
 // The lowest sector whose EDC is wrong, or 32.
 pub fn first_wrong_sector(work: &[u8], stream: &[u8]) -> usize
-    requires { ⌜ length (now work) ≡ 76880 ⌝ }
+    requires { ⌜ length (now work) ≡ workSize ⌝ }
     ensures { λ r. ⌜ r ≡ firstWrongSector (now (stream .entry)) (now (work .entry)) ⌝ }
 {
     let mut frames = ldc_words::steps::no_frames();
@@ -141,7 +142,7 @@ fn copy_users(frames: &[u8], stream: &[u8], user: &mut [u8])
 
 // The user bytes of a cluster.
 pub fn user_bytes(work: &[u8], stream: &[u8], user: &mut [u8])
-    requires { ⌜ (length (now work) ≡ 76880) × (length (now user) ≡ 65536) ⌝ }
+    requires { ⌜ (length (now work) ≡ workSize) × (length (now user) ≡ userSize) ⌝ }
     ensures { λ _. ⌜ now (user .exit) ≡ userIn (now (stream .entry)) (now (work .entry)) ⌝ }
 {
     let mut frames = ldc_words::steps::no_frames();

@@ -9,10 +9,11 @@ ghost use Rattle.answer.specs.declared.Answer.the-variants.{Done};
 ghost use Rattle.address.specs.Judged.{judged};
 ghost use Rattle.cluster.specs.EccCluster.{scrambledFrames, eccCluster};
 ghost use Rattle.ldc_words.specs.steps.Eighth.{LdcPut, framesOf};
+ghost use Rattle.sizes.specs.Sizes.{workSize, sideSize, userSize};
 
 // Data frames 4 e to 4 e + 3, scrambled.
 fn put_frames(user: &[u8], stream: &[u8], e: usize, frames: &mut [u8])
-    requires { ⌜ (length (now user) ≡ 65536) × ((length (now frames) ≡ 8208) × (e < 8)) ⌝ }
+    requires { ⌜ (length (now user) ≡ userSize) × ((length (now frames) ≡ 8208) × (e < 8)) ⌝ }
     ensures { λ _. ⌜ now (frames .exit) ≡ framesOf (scrambledFrames (now (stream .entry)) (now (user .entry))) e ⌝ }
 {
     let mut f = 0;
@@ -28,7 +29,7 @@ fn put_frames(user: &[u8], stream: &[u8], e: usize, frames: &mut [u8])
 
 // The LDC cluster: the data frames of one eighth after the other, completed to code words, to their places.
 fn put_ldc(table: &Remainders, user: &[u8], stream: &[u8], work: &mut [u8])
-    requires { ⌜ AreRemainders (now table) × ((length (now user) ≡ 65536) × (length (now work) ≡ 76880)) ⌝ }
+    requires { ⌜ AreRemainders (now table) × ((length (now user) ≡ userSize) × (length (now work) ≡ workSize)) ⌝ }
     ensures { λ _. ⌜ LdcPut (scrambledFrames (now (stream .entry)) (now (user .entry))) 304 (now (work .entry)) (now (work .exit)) ⌝ }
 {
     let mut frames = ldc_words::steps::no_frames();
@@ -44,7 +45,7 @@ fn put_ldc(table: &Remainders, user: &[u8], stream: &[u8], work: &mut [u8])
 
 // The ECC cluster of 65,536 user bytes, an accepted PSN and 592 bytes of side data.
 pub fn encode(user: &[u8], psn: Psn, side: &[u8], work: &mut [u8])
-    requires { ⌜ ((length (now user) ≡ 65536) × (length (now side) ≡ 592)) × ((length (now work) ≡ 76880) × (judged (psn .0) ≡ Done)) ⌝ }
+    requires { ⌜ ((length (now user) ≡ userSize) × (length (now side) ≡ sideSize)) × ((length (now work) ≡ workSize) × (judged (psn .0) ≡ Done)) ⌝ }
     ensures { λ _. ⌜ now (work .exit) ≡ eccCluster (now (user .entry)) (psn .0) (now (side .entry)) ⌝ }
 {
     let mut table = remainders::steps::no_remainders();

@@ -18,6 +18,7 @@ use Rattle.frame_bits.specs.FrameBits.{rowOf, dcOf}
 use Rattle.frame.specs.Frame.{framePairs, nextHash}
 use Rattle.frame.specs.declared.FrameRead.{FrameRead}
 use Rattle.frame.specs.declared.FrameRead.the-variants.{Found, NoFrame}
+use Rattle.sizes.specs.Sizes.{rowSize}
 
 -- the 1,268 bits b give the modulation bits m behind sync n, and # of the next sync
 pub record BitsGive (n : FS) (b m : List ℕ) (hash : Bool) : Type 0 where
@@ -27,7 +28,7 @@ pub record BitsGive (n : FS) (b m : List ℕ) (hash : Bool) : Type 0 where
 
 -- row and dc word do
 pub record RowGives (n : FS) (row : List ℕ) (dc : ℕ) (m : List ℕ) (hash : Bool) : Type 0 where
-  pub size : length row ≡ 155
+  pub size : length row ≡ rowSize
   pub bytes : Bytes row
   pub small : dc < 2 ^ 28
   pub bits-are : bits (modulated n (framePairs row dc) .groups) ≡ m

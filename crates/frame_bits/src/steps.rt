@@ -8,6 +8,7 @@ ghost use Rattle.frame_bits.specs.FrameBits.{frameBits, rowOf, dcOf};
 ghost use Rattle.frame_bits.specs.steps.Slices.{FiveBytes};
 ghost use Rattle.frame_bits.specs.steps.Words.{Word, GroupData, SixteenFrom, SixteenOn, bitOf, LastTwo};
 ghost use Rattle.modulation.specs.Words.{bitsIn, Words};
+ghost use Rattle.sizes.specs.Sizes.{rowSize};
 
 // 29 words, all 0.
 pub fn no_words() -> [u64; 29]
@@ -40,7 +41,7 @@ fn eight_bytes(row: &[u8], i: usize) -> u64
 
 // The data bits of group i, which end at bit 45 i + 25 of the row. 35184372088832 is 2^45.
 fn group_data(row: &[u8], i: usize) -> u64
-    requires { ⌜ (length (now row) ≡ 155) × (i < 28) ⌝ }
+    requires { ⌜ (length (now row) ≡ rowSize) × (i < 28) ⌝ }
     ensures { λ r. ⌜ GroupData (now (row .entry)) i r ⌝ }
 {
     if i == 0 {
@@ -61,7 +62,7 @@ fn dc_bit(dc: u32, i: usize) -> u64
 
 // The words of the frame with a row's bytes and a dc word.
 pub fn frame_words(row: &[u8], dc: u32, words: &mut [u64; 29])
-    requires { ⌜ (length (now row) ≡ 155) × Words (now words) ⌝ }
+    requires { ⌜ (length (now row) ≡ rowSize) × Words (now words) ⌝ }
     ensures { λ _. ⌜ Words (now (words .exit)) × (bitsIn (now (words .exit)) ≡ frameBits (now (row .entry)) dc) ⌝ }
 {
     let mut i = 0;
@@ -114,7 +115,7 @@ fn five_in(words: &[u64; 29], m: usize) -> u64
 
 // Its row.
 pub fn row_in(words: &[u64; 29], row: &mut [u8])
-    requires { ⌜ Words (now words) × (length (now row) ≡ 155) ⌝ }
+    requires { ⌜ Words (now words) × (length (now row) ≡ rowSize) ⌝ }
     ensures { λ _. ⌜ now (row .exit) ≡ rowOf (bitsIn (now (words .entry))) ⌝ }
 {
     let mut m = 0;

@@ -8,6 +8,7 @@ ghost use Rattle.gaps.specs.Gaps.{gapCounts};
 ghost use Rattle.frame_sync.specs.Sync.{fs};
 ghost use Rattle.frame.specs.Frame.{frame};
 ghost use Rattle.frame_gaps.specs.Tally.{dcIn, refusal, tallied};
+ghost use Rattle.sizes.specs.Sizes.{rowSize};
 
 // Room for a frame.
 fn blank() -> [u8; 242]
@@ -18,14 +19,14 @@ fn blank() -> [u8; 242]
 
 // The counts of the frame of a row and a dc word.
 fn frame_counts(row: &[u8], dc: u32, number: usize, hash: bool) -> [u32; 8]
-    requires { ⌜ (length (now row) ≡ 155) × (number < 7) ⌝ }
+    requires { ⌜ (length (now row) ≡ rowSize) × (number < 7) ⌝ }
     ensures { λ r. ⌜ r ≡ gapCounts (frame hash (fs number) (now (row .entry)) dc) ⌝ }
 {
     let mut table = modulator::steps::no_table();
     modulator::steps::fill_table(&mut table);
     let mut image = blank();
     frame::steps::write_frame(&table, row, dc, number, State { hash }, &mut image, 0);
-    gaps::steps::gap_counts(&image, 1932)
+    gaps::steps::gap_counts(&image, sizes::FRAME)
 }
 
 fn refused() -> Tally

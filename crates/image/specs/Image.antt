@@ -12,6 +12,7 @@ use Rattle.modulation.specs.Stream.{Recording, stream}
 use Rattle.bis.specs.AccessBlock.{Side}
 use Rattle.cluster.specs.EccCluster.{User, eccCluster}
 use Rattle.recording.specs.Recording.{recordingOf}
+use Rattle.sizes.specs.Sizes.{frameCount}
 
 -- what an image is made of; side data is document 01's term for the flag bytes and the user control data (the demand's control data)
 pub record Input : Type 0 where
@@ -22,8 +23,8 @@ pub record Input : Type 0 where
 
 -- 496 dc words, one for each frame, none above 0FFFFFFFh
 pub record Words (dc : List ℕ) : Type 0 where
-  pub size : length dc ≡ 496
-  pub small : (n : ℕ) → n < 496 → getD dc n 0 ≤ 0x0FFF_FFFF
+  pub size : length dc ≡ frameCount
+  pub small : (n : ℕ) → n < frameCount → getD dc n 0 ≤ 0x0FFF_FFFF
 
 -- 65,536 user bytes, a PSN that is a multiple of 32 and lies in a data zone, 592 bytes of side data, 496 dc words
 pub record IsAccepted (input : Input) : Type 0 where
@@ -42,7 +43,7 @@ recording first input = recordingOf first (cluster input) (input .dc)
 
 -- the 496 frames and the sync that follows, FS0: 958,302 bits
 unfoldable pub imageBitsFrom : Bool → Input → List ℕ
-imageBitsFrom first input = bits (stream (recording first input) 496)
+imageBitsFrom first input = bits (stream (recording first input) frameCount)
 
 -- # of frame 0 is ZERO: 14.2.2.4 leaves it free, document 01 does not
 abbrev pub imageBits : Input → List ℕ

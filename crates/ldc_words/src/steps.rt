@@ -9,6 +9,7 @@ ghost use lib.ListN.{length};
 ghost use Rattle.remainders.specs.steps.Remainders.{AreRemainders};
 ghost use Rattle.cluster.specs.Multiplex.{wordIndex};
 ghost use Rattle.ldc_words.specs.steps.Eighth.{RunOf, BytesTaken, WordsTaken, BytesPut, WordsPut, informationOf, completed, completedWords};
+ghost use Rattle.sizes.specs.Sizes.{workSize};
 
 pub fn no_words() -> Words
     ensures { λ r. ⌜ length r ≡ 9424 ⌝ }
@@ -47,7 +48,7 @@ fn run_of(e: usize, n: usize) -> Run
 
 // Where byte i of a run stands.
 fn run_index(run: Run, i: usize) -> usize
-    requires { ⌜ ((run .first < 76880) × (run .second < 76880)) × (i < 19) ⌝ }
+    requires { ⌜ ((run .first < workSize) × (run .second < workSize)) × (i < 19) ⌝ }
     ensures { λ r. ⌜ ((e n : ℕ) → RunOf e n (run .left) (run .first) (run .second) → r ≡ wordIndex (38 * e + 2 * i) n) ⌝ }
 {
     if i < run.left {
@@ -58,7 +59,7 @@ fn run_index(run: Run, i: usize) -> usize
 
 // Byte n of each code word of eighth e, out of the cluster.
 fn take_bytes(work: &[u8], e: usize, n: usize, words: &mut [u8])
-    requires { ⌜ ((length (now work) ≡ 76880) × (length (now words) ≡ 9424)) × ((e < 8) × (n < 248)) ⌝ }
+    requires { ⌜ ((length (now work) ≡ workSize) × (length (now words) ≡ 9424)) × ((e < 8) × (n < 248)) ⌝ }
     ensures { λ _. ⌜ BytesTaken (now (work .entry)) e n (now (words .entry)) (now (words .exit)) ⌝ }
 {
     let run = run_of(e, n);
@@ -66,14 +67,14 @@ fn take_bytes(work: &[u8], e: usize, n: usize, words: &mut [u8])
     while i < 19 {
         let at = run_index(run, i);
         words[496 * i + n] = work[at];
-        words[496 * i + 248 + n] = work[at + 155];
+        words[496 * i + 248 + n] = work[at + sizes::ROW];
         i += 1;
     }
 }
 
 // The first `count` bytes of each code word of eighth e, out of the cluster.
 pub fn take_words(work: &[u8], e: usize, count: usize, words: &mut [u8])
-    requires { ⌜ ((length (now work) ≡ 76880) × (length (now words) ≡ 9424)) × ((e < 8) × (count ≤ 248)) ⌝ }
+    requires { ⌜ ((length (now work) ≡ workSize) × (length (now words) ≡ 9424)) × ((e < 8) × (count ≤ 248)) ⌝ }
     ensures { λ _. ⌜ WordsTaken (now (work .entry)) e count (now (words .exit)) ⌝ }
 {
     let mut n = 0;
@@ -85,7 +86,7 @@ pub fn take_words(work: &[u8], e: usize, count: usize, words: &mut [u8])
 
 // Byte n of each code word of eighth e, into the cluster.
 fn put_bytes(words: &[u8], e: usize, n: usize, work: &mut [u8])
-    requires { ⌜ ((length (now words) ≡ 9424) × (length (now work) ≡ 76880)) × ((e < 8) × (n < 248)) ⌝ }
+    requires { ⌜ ((length (now words) ≡ 9424) × (length (now work) ≡ workSize)) × ((e < 8) × (n < 248)) ⌝ }
     ensures { λ _. ⌜ BytesPut (now (words .entry)) e n (now (work .entry)) (now (work .exit)) ⌝ }
 {
     let run = run_of(e, n);
@@ -93,14 +94,14 @@ fn put_bytes(words: &[u8], e: usize, n: usize, work: &mut [u8])
     while i < 19 {
         let at = run_index(run, i);
         work[at] = words[496 * i + n];
-        work[at + 155] = words[496 * i + 248 + n];
+        work[at + sizes::ROW] = words[496 * i + 248 + n];
         i += 1;
     }
 }
 
 // The code words of eighth e, into the cluster.
 pub fn put_words(words: &[u8], e: usize, work: &mut [u8])
-    requires { ⌜ ((length (now words) ≡ 9424) × (length (now work) ≡ 76880)) × (e < 8) ⌝ }
+    requires { ⌜ ((length (now words) ≡ 9424) × (length (now work) ≡ workSize)) × (e < 8) ⌝ }
     ensures { λ _. ⌜ WordsPut (now (words .entry)) e 248 (now (work .entry)) (now (work .exit)) ⌝ }
 {
     let mut n = 0;

@@ -4,6 +4,7 @@ use mathlib.Core.Logic.{_⊎_}
 use mathlib.Core.Path.{_≡_}
 use Prim.Native.Nat.{ℕ, _+_, _%_, _<_, _≤_}
 use lib.ListN.{getD, take, drop}
+use Rattle.sizes.specs.Sizes.{frameSize}
 
 -- ones stand at i and at j, and zeros between them
 pub record Neighbours (l : List ℕ) (i j : ℕ) : Type 0 where
@@ -27,7 +28,7 @@ Spaced Permitted l = (i j : ℕ) → Neighbours l i j → Gap Permitted i j
 
 -- in a run of frames, each 1,932 bits with its sync: a sync's long gap ends at j
 abbrev pub EndsLong : ℕ → Type 0
-EndsLong j = (j % 1932 ≡ 13) ⊎ (j % 1932 ≡ 22)
+EndsLong j = (j % frameSize ≡ 13) ⊎ (j % frameSize ≡ 22)
 
 -- no 15 bits read 101010101010101: no seven gaps of a single zero follow one another
 abbrev pub NoSeven : List ℕ → Type 0

@@ -10,11 +10,12 @@ use Rattle.modulation.specs.Sync.{syncNumber}
 use Rattle.frame_bits.specs.FrameBits.{rowOf, dcOf}
 use Rattle.frame_sync.specs.Sync.{hashAt, syncRight}
 use Rattle.frame.specs.Reading.{bitsRead, readable}
+use Rattle.sizes.specs.Sizes.{workSize, frameCount, frameSize, rowSize}
 
 -- ---- 10: the lowest frame whose sync is wrong, or 497; # is judged at frame 0 alone, where it is to be the one given
 
 unfoldable pub wrongSync : Bool → List ℕ → ℕ → Bool
-wrongSync given b n = not (syncRight (syncNumber n) b (1932 * n) && not (eqb n 0 && not (Bool·beq (hashAt b 0) given)))
+wrongSync given b n = not (syncRight (syncNumber n) b (frameSize * n) && not (eqb n 0 && not (Bool·beq (hashAt b 0) given)))
 
 unfoldable pub firstWrongSync : Bool → List ℕ → ℕ
 firstWrongSync given b = first 497 (wrongSync given b)
@@ -23,17 +24,17 @@ firstWrongSync given b = first 497 (wrongSync given b)
 
 -- the 1,902 modulation bits behind the sync of frame n, and # of the sync behind them
 abbrev pub modulatedAt : List ℕ → ℕ → List ℕ
-modulatedAt b n = take 1902 (drop (1932 * n + 30) b)
+modulatedAt b n = take 1902 (drop (frameSize * n + 30) b)
 
 abbrev pub hashBehind : List ℕ → ℕ → Bool
-hashBehind b n = hashAt b (1932 * (n + 1))
+hashBehind b n = hashAt b (frameSize * (n + 1))
 
 -- no such bits exist exactly where this test says so (proofs/Statements: no-frame-iff)
 unfoldable pub noFrame : List ℕ → ℕ → Bool
 noFrame b n = not (readable (syncNumber n) (modulatedAt b n) (hashBehind b n))
 
 unfoldable pub firstNoFrame : List ℕ → ℕ
-firstNoFrame b = first 496 (noFrame b)
+firstNoFrame b = first frameCount (noFrame b)
 
 -- ---- the ECC cluster, row by row, and the dc words
 
@@ -42,13 +43,13 @@ abbrev pub frameBitsIn : List ℕ → ℕ → List ℕ
 frameBitsIn b n = bitsRead (syncNumber n) (modulatedAt b n) (hashBehind b n)
 
 abbrev pub clusterByte : List ℕ → ℕ → ℕ
-clusterByte b k = getD (rowOf (frameBitsIn b (k / 155))) (k % 155) 0
+clusterByte b k = getD (rowOf (frameBitsIn b (k / rowSize))) (k % rowSize) 0
 
 unfoldable pub clusterIn : List ℕ → List ℕ
-clusterIn b = tabulate 76880 (clusterByte b)
+clusterIn b = tabulate workSize (clusterByte b)
 
 abbrev pub dcWordIn : List ℕ → ℕ → ℕ
 dcWordIn b n = dcOf (frameBitsIn b n)
 
 unfoldable pub dcIn : List ℕ → List ℕ
-dcIn b = tabulate 496 (dcWordIn b)
+dcIn b = tabulate frameCount (dcWordIn b)

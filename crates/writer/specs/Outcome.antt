@@ -11,6 +11,7 @@ use Rattle.answer.specs.Answer.{isDone, andThen, lowest}
 use Rattle.answer.specs.Lengths.{lengthsAnswer}
 use Rattle.address.specs.Judged.{judged}
 use Rattle.image.specs.Image.{Input, cluster, image}
+use Rattle.sizes.specs.Sizes.{frameCount}
 
 -- ---- the tests 1 to 8, in rising order
 
@@ -19,11 +20,11 @@ unfoldable pub tooLarge : List ℕ → ℕ → Bool
 tooLarge dc n = ltb 0x0FFF_FFFF (getD dc n 0)
 
 unfoldable pub firstTooLarge : List ℕ → ℕ
-firstTooLarge dc = first 496 (tooLarge dc)
+firstTooLarge dc = first frameCount (tooLarge dc)
 
 -- 6 to 8: the PSN and the dc words
 abbrev pub partsAnswer : ℕ → List ℕ → Answer
-partsAnswer psn dc = andThen (judged psn) (lowest DcWord 496 (firstTooLarge dc))
+partsAnswer psn dc = andThen (judged psn) (lowest DcWord frameCount (firstTooLarge dc))
 
 -- 1 to 8; the lengths of image and work
 unfoldable pub answer : Input → ℕ → ℕ → Answer

@@ -6,12 +6,13 @@ use Prim.Native.Nat.{ℕ}
 use lib.ListN.{length}
 use Rattle.answer.specs.Lengths.{RightLengths}
 use Rattle.image.specs.Image.{Input, IsAccepted, cluster, image}
+use Rattle.sizes.specs.Sizes.{imageSize}
 
 -- an accepted input, and all slices have their lengths
 pub record WellFormed (input : Input) (before work : List ℕ) : Type 0 where
   pub accepted : IsAccepted input
   pub lengths : RightLengths (length (input .user)) (length (input .side)) (length (input .dc)) (length work)
-  pub image-size : length before ≡ 119788
+  pub image-size : length before ≡ imageSize
 
 -- the number returned; the two lent slices were `before` and `work`, and are `after` and `made`
 pub record WritesExactly (input : Input) (before work : List ℕ) (number : ℕ) (after made : List ℕ) : Type 0 where

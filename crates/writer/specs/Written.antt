@@ -8,10 +8,11 @@ use Rattle.modulation.specs.Bits.{bits}
 use Rattle.modulation.specs.Stream as Stream
 use Rattle.image.specs.Image.{Input, cluster, image}
 use Rattle.recording.specs.Recording.{recordingOf}
+use Rattle.sizes.specs.Sizes.{frameCount}
 
 -- the 496 frames, the sync that follows, and two zero bits
 pub record ImageWritten (work dc after : List ℕ) : Type 0 where
-  pub whole : bitsOf after ≡ bits (Stream.stream (recordingOf false work dc) 496) ++ (0 ∷ 0 ∷ [])
+  pub whole : bitsOf after ≡ bits (Stream.stream (recordingOf false work dc) frameCount) ++ (0 ∷ 0 ∷ [])
 
 -- the slices as they are when all is written
 pub record Filled (input : Input) (after work : List ℕ) : Type 0 where

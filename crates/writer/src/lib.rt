@@ -12,14 +12,15 @@ ghost use Rattle.address.specs.Judged.{judged};
 ghost use Rattle.writer.specs.Written.{ImageWritten, Filled};
 ghost use Rattle.writer.specs.Outcome.{partsAnswer, firstTooLarge, outcome};
 ghost use Rattle.writer.specs.Promise.{WritesExactly};
+ghost use Rattle.sizes.specs.Sizes.{workSize, imageSize, frameCount};
 
 // Test 8: the first dc word above 0FFFFFFFh, or 496.
 fn first_too_large(dc: &[u32]) -> usize
-    requires { ⌜ length (now dc) ≡ 496 ⌝ }
+    requires { ⌜ length (now dc) ≡ frameCount ⌝ }
     ensures { λ r. ⌜ r ≡ firstTooLarge (now (dc .entry)) ⌝ }
 {
     let mut n = 0;
-    while n < 496 {
+    while n < sizes::FRAMES {
         if 0x0FFF_FFFF < dc[n] {
             return n;
         }
@@ -30,7 +31,7 @@ fn first_too_large(dc: &[u32]) -> usize
 
 // The frames, the sync that follows, which is FS0, and two zero bits.
 fn put_image(work: &[u8], dc: &[u32], image: &mut [u8])
-    requires { ⌜ ((length (now work) ≡ 76880) × (length (now dc) ≡ 496)) × (length (now image) ≡ 119788) ⌝ }
+    requires { ⌜ ((length (now work) ≡ workSize) × (length (now dc) ≡ frameCount)) × (length (now image) ≡ imageSize) ⌝ }
     ensures { λ _. ⌜ ImageWritten (now (work .entry)) (now (dc .entry)) (now (image .exit)) ⌝ }
 {
     let state = recording::steps::put_frames(work, dc, State { hash: false }, image, 0);
@@ -41,13 +42,13 @@ fn put_image(work: &[u8], dc: &[u32], image: &mut [u8])
 
 // Tests 6 to 8: the PSN and the dc words.
 fn judge_parts(psn: Psn, dc: &[u32]) -> Answer
-    requires { ⌜ length (now dc) ≡ 496 ⌝ }
+    requires { ⌜ length (now dc) ≡ frameCount ⌝ }
     ensures { λ r. ⌜ r ≡ partsAnswer (psn .0) (now (dc .entry)) ⌝ }
 {
     let sector = psn.judge();
     if sector.is_done() {
         let n = first_too_large(dc);
-        if n < 496 {
+        if n < sizes::FRAMES {
             return Answer::DcWord(n);
         }
     }
@@ -67,7 +68,7 @@ fn judge(user: usize, psn: Psn, side: usize, dc: &[u32], image: usize, work: usi
 
 // The ECC cluster in work and the image of an input that passed the tests.
 fn write(user: &[u8], psn: Psn, side: &[u8], dc: &[u32], image: &mut [u8], work: &mut [u8])
-    requires { ⌜ RightLengths (length (now user)) (length (now side)) (length (now dc)) (length (now work)) × ((length (now image) ≡ 119788) × (judged (psn .0) ≡ Done)) ⌝ }
+    requires { ⌜ RightLengths (length (now user)) (length (now side)) (length (now dc)) (length (now work)) × ((length (now image) ≡ imageSize) × (judged (psn .0) ≡ Done)) ⌝ }
     ensures { λ _. ⌜ Filled (record { user = now (user .entry); psn = psn .0; side = now (side .entry); dc = now (dc .entry) }) (now (image .exit)) (now (work .exit)) ⌝ }
 {
     cluster_writer::steps::encode(user, psn, side, work);

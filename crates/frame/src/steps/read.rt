@@ -12,10 +12,11 @@ ghost use Rattle.automaton.specs.steps.Table.{table};
 ghost use Rattle.modulation.specs.Words.{Words};
 ghost use Rattle.frame_sync.specs.Sync.{fs};
 ghost use Rattle.frame.specs.Reading.{StrictlyRead, Taken};
+ghost use Rattle.sizes.specs.Sizes.{frameSize, rowSize};
 
 // The frame of the words, if it was found: then its row is left in the slice.
 fn take_frame(words: &[u64; 29], found: bool, row: &mut [u8]) -> FrameRead
-    requires { ⌜ Words (now words) × (length (now row) ≡ 155) ⌝ }
+    requires { ⌜ Words (now words) × (length (now row) ≡ rowSize) ⌝ }
     ensures { λ r. ⌜ Taken (now (words .entry)) found (now (row .entry)) r (now (row .exit)) ⌝ }
 {
     if found {
@@ -35,7 +36,7 @@ pub fn read_frame(
     hash: bool,
     row: &mut [u8],
 ) -> FrameRead
-    requires { ⌜ (now steps ≡ table) × (((number < 7) × (length (now row) ≡ 155)) × ((at + 1932 ≤ 8 * length (now image)) × (at + 1932 < 18446744073709551616))) ⌝ }
+    requires { ⌜ (now steps ≡ table) × (((number < 7) × (length (now row) ≡ rowSize)) × ((at + frameSize ≤ 8 * length (now image)) × (at + frameSize < 18446744073709551616))) ⌝ }
     ensures { λ r. ⌜ StrictlyRead (fs number) (take 1902 (drop (at + 30) (bitsOf (now (image .entry))))) hash (now (row .entry)) r (now (row .exit)) ⌝ }
 {
     let mut words = frame_bits::steps::no_words();
@@ -53,8 +54,8 @@ pub fn read_frame(
 // The frames of two times 29 words, if they were found: their rows are left in the slice, one behind the other.
 fn take_two(words: &[u64; 29], more: &[u64; 29], found: Found, rows: &mut [u8]) -> TwoRead
     requires { ⌜ (Words (now words) × Words (now more)) × (length (now rows) ≡ 310) ⌝ }
-    ensures { λ r. ⌜ Taken (now (words .entry)) (found .first) (take 155 (now (rows .entry))) (r .first) (take 155 (now (rows .exit)))
-        × Taken (now (more .entry)) (found .second) (drop 155 (now (rows .entry))) (r .second) (drop 155 (now (rows .exit))) ⌝ }
+    ensures { λ r. ⌜ Taken (now (words .entry)) (found .first) (take rowSize (now (rows .entry))) (r .first) (take rowSize (now (rows .exit)))
+        × Taken (now (more .entry)) (found .second) (drop rowSize (now (rows .entry))) (r .second) (drop rowSize (now (rows .exit))) ⌝ }
 {
     let one = take_frame(words, found.first, &mut rows[0..155]);
     let two = take_frame(more, found.second, &mut rows[155..310]);
@@ -76,8 +77,8 @@ pub fn read_two(
     rows: &mut [u8],
 ) -> TwoRead
     requires { ⌜ (now steps ≡ table) × (((first < 7) × (second < 7)) × ((length (now rows) ≡ 310) × ((at + 3864 ≤ 8 * length (now image)) × (at + 3864 < 18446744073709551616)))) ⌝ }
-    ensures { λ r. ⌜ StrictlyRead (fs first) (take 1902 (drop (at + 30) (bitsOf (now (image .entry))))) hash (take 155 (now (rows .entry))) (r .first) (take 155 (now (rows .exit)))
-        × StrictlyRead (fs second) (take 1902 (drop (at + 1962) (bitsOf (now (image .entry))))) sign (drop 155 (now (rows .entry))) (r .second) (drop 155 (now (rows .exit))) ⌝ }
+    ensures { λ r. ⌜ StrictlyRead (fs first) (take 1902 (drop (at + 30) (bitsOf (now (image .entry))))) hash (take rowSize (now (rows .entry))) (r .first) (take rowSize (now (rows .exit)))
+        × StrictlyRead (fs second) (take 1902 (drop (at + 1962) (bitsOf (now (image .entry))))) sign (drop rowSize (now (rows .entry))) (r .second) (drop rowSize (now (rows .exit))) ⌝ }
 {
     let mut words = frame_bits::steps::no_words();
     let mut more = frame_bits::steps::no_words();

@@ -14,6 +14,7 @@ ghost use Rattle.modulator.specs.steps.Put.{FramePut};
 ghost use Rattle.modulation.specs.Bits.{pairs};
 ghost use Rattle.modulation.specs.Words.{bitsIn, Words};
 ghost use Rattle.frame.specs.steps.Around.{Around};
+ghost use Rattle.sizes.specs.Sizes.{frameSize, rowSize};
 
 // The frame in words modulated into 242 bytes, behind the `lag` low bits of `first`, of which the last is the bit before, and before the bits
 // of `last`. Answers whether the frame ended by a terminating row.
@@ -59,7 +60,7 @@ fn modulate(
     last: u8,
     out: &mut [u8],
 ) -> bool
-    requires { ⌜ ((now table ≡ lentTable) × ((length (now row) ≡ 155) × (length (now out) ≡ 242))) × Around first lag last ⌝ }
+    requires { ⌜ ((now table ≡ lentTable) × ((length (now row) ≡ rowSize) × (length (now out) ≡ 242))) × Around first lag last ⌝ }
     ensures { λ r. ⌜ FramePut first lag last (framePairs (now (row .entry)) dc) (now (out .exit)) r ⌝ }
 {
     let mut words = frame_bits::steps::no_words();
@@ -77,7 +78,7 @@ fn write_whole(
     image: &mut [u8],
     at: usize,
 ) -> bool
-    requires { ⌜ ((now table ≡ lentTable) × (length (now row) ≡ 155)) × ((number < 7) × ((at % 4 ≡ 0) × (at + 1932 ≤ 8 * length (now image)))) ⌝ }
+    requires { ⌜ ((now table ≡ lentTable) × (length (now row) ≡ rowSize)) × ((number < 7) × ((at % 4 ≡ 0) × (at + frameSize ≤ 8 * length (now image)))) ⌝ }
     ensures { λ r. ⌜ FrameWritten (fs number) hash (now (row .entry)) dc (now (image .entry)) at (now (image .exit)) r ⌝ }
 {
     let sync = frame_sync::steps::sync_word(hash, number);
@@ -100,11 +101,11 @@ fn blank() -> [u8; 242]
 
 // The first 1,932 bits of 242 bytes, from bit `at` of the image on, one by one.
 fn copy_bits(bytes: &[u8], image: &mut [u8], at: usize)
-    requires { ⌜ (length (now bytes) ≡ 242) × (at + 1932 < 18446744073709551616) ⌝ }
-    ensures { λ _. ⌜ bitsOf (now (image .exit)) ≡ sets (bitsOf (now (image .entry))) at (take 1932 (bitsOf (now (bytes .entry)))) ⌝ }
+    requires { ⌜ (length (now bytes) ≡ 242) × (at + frameSize < 18446744073709551616) ⌝ }
+    ensures { λ _. ⌜ bitsOf (now (image .exit)) ≡ sets (bitsOf (now (image .entry))) at (take frameSize (bitsOf (now (bytes .entry)))) ⌝ }
 {
     let mut k = 0;
-    while k < 1932 {
+    while k < sizes::FRAME {
         bits::write_bit(image, at + k, bits::read_bit(bytes, k));
         k += 1;
     }
@@ -121,7 +122,7 @@ pub fn write_frame(
     image: &mut [u8],
     at: usize,
 ) -> State
-    requires { ⌜ ((now table ≡ lentTable) × (length (now row) ≡ 155)) × ((number < 7) × (at + 1932 < 18446744073709551616)) ⌝ }
+    requires { ⌜ ((now table ≡ lentTable) × (length (now row) ≡ rowSize)) × ((number < 7) × (at + frameSize < 18446744073709551616)) ⌝ }
     ensures { λ r. ⌜ FrameWritten (fs number) (state .hash) (now (row .entry)) dc (now (image .entry)) at (now (image .exit)) (r .hash) ⌝ }
 {
     if at % 4 == 0 {

@@ -13,12 +13,13 @@ use Rattle.sector.specs.DataFrame.{edcRight}
 use Rattle.scrambling.specs.Scrambling.{scrambled}
 use Rattle.ldc.specs.LdcBlock.{dataByte, codeWord}
 use Rattle.cluster.specs.Multiplex.{wordIndex}
+use Rattle.sizes.specs.Sizes.{workSize}
 
 -- ---- code words in the cluster
 
 -- bytes n of the even code words stand in one row, the first `left` of 19 from `first` on and the others from `second` on
 pub record RunOf (e n left first second : ℕ) : Type 0 where
-  pub inside : (first < 76880) × (second < 76880)
+  pub inside : (first < workSize) × (second < workSize)
   pub early : (i : ℕ) → i < 19 → i < left → first + i ≡ wordIndex (38 * e + 2 * i) n
   pub late : (i : ℕ) → i < 19 → left ≤ i → second + i - left ≡ wordIndex (38 * e + 2 * i) n
 

@@ -8,6 +8,7 @@ use Rattle.frame_bits.specs.FrameBits.{rowOf}
 use Rattle.frame.specs.declared.FrameRead.{FrameRead}
 use Rattle.frame.specs.declared.FrameRead.the-variants.{Found, NoFrame}
 use Rattle.recording.specs.Reading.{noFrame, frameBitsIn, dcWordIn, firstNoFrame, clusterIn, dcIn}
+use Rattle.sizes.specs.Sizes.{workSize, frameCount, rowSize}
 
 -- a recording from bit `at` on lies inside the slice
 pub record Within (image : List ℕ) (at : ℕ) : Type 0 where
@@ -24,12 +25,12 @@ pub record TwoFrames (b : List ℕ) (n : ℕ) (before : List ℕ) (first second 
   pub one : FrameAnswer b n first
   pub two : FrameAnswer b (n + 1) second
   pub rows : noFrame b n ≡ false → noFrame b (n + 1) ≡ false
-      → after ≡ take (155 * n) before ++ ((rowOf (frameBitsIn b n) ++ rowOf (frameBitsIn b (n + 1))) ++ drop 310 (drop (155 * n) before))
+      → after ≡ take (rowSize * n) before ++ ((rowOf (frameBitsIn b n) ++ rowOf (frameBitsIn b (n + 1))) ++ drop 310 (drop (rowSize * n) before))
   pub size : length after ≡ length before
 
 -- the frames up to the first that no bits give; where there is none, the dc words and the cluster
 pub record FramesRead (b : List ℕ) (answer : ℕ) (dc work : List ℕ) : Type 0 where
   pub first : answer ≡ firstNoFrame b
-  pub dc-is : 496 ≤ answer → dc ≡ dcIn b
-  pub work-is : 496 ≤ answer → work ≡ clusterIn b
-  pub size : length work ≡ 76880
+  pub dc-is : frameCount ≤ answer → dc ≡ dcIn b
+  pub work-is : frameCount ≤ answer → work ≡ clusterIn b
+  pub size : length work ≡ workSize

@@ -9,6 +9,7 @@ ghost use Rattle.bits.specs.Bits.{bitsOf};
 ghost use Rattle.automaton.specs.steps.Table.{table};
 ghost use Rattle.recording.specs.Reading.{firstWrongSync};
 ghost use Rattle.recording.specs.steps.Read.{Within, TwoFrames, FramesRead};
+ghost use Rattle.sizes.specs.Sizes.{workSize, frameCount};
 
 // Test 10: the lowest frame whose sync is wrong, or 497; # of frame 0 is to be `first`.
 pub fn first_wrong_sync(image: &[u8], at: usize, first: bool) -> usize
@@ -21,7 +22,7 @@ pub fn first_wrong_sync(image: &[u8], at: usize, first: bool) -> usize
     let mut sync = 0;
     while sync < 497 {
         let number = frame_sync::sync_number(sync);
-        if !frame_sync::steps::sync_right(image, at + 1932 * sync, number) {
+        if !frame_sync::steps::sync_right(image, at + sizes::FRAME * sync, number) {
             return sync;
         }
         sync += 1;
@@ -31,19 +32,19 @@ pub fn first_wrong_sync(image: &[u8], at: usize, first: bool) -> usize
 
 // Frames n and n + 1, their rows into their places of the cluster.
 fn read_two(steps: &Table, image: &[u8], at: usize, n: usize, work: &mut [u8]) -> TwoRead
-    requires { ⌜ ((now steps ≡ table) × Within (now image) at) × ((n + 1 < 496) × (length (now work) ≡ 76880)) ⌝ }
+    requires { ⌜ ((now steps ≡ table) × Within (now image) at) × ((n + 1 < frameCount) × (length (now work) ≡ workSize)) ⌝ }
     ensures { λ r. ⌜ TwoFrames (drop at (bitsOf (now (image .entry)))) n (now (work .entry)) (r .first) (r .second) (now (work .exit)) ⌝ }
 {
-    let hash = frame_sync::hash_at(image, at + 1932 * (n + 1));
-    let sign = frame_sync::hash_at(image, at + 1932 * (n + 2));
+    let hash = frame_sync::hash_at(image, at + sizes::FRAME * (n + 1));
+    let sign = frame_sync::hash_at(image, at + sizes::FRAME * (n + 2));
     let first = frame_sync::sync_number(n);
     let second = frame_sync::sync_number(n + 1);
-    let start = 155 * n;
+    let start = sizes::ROW * n;
     let end = start + 310;
     frame::steps::read_two(
         steps,
         image,
-        at + 1932 * n,
+        at + sizes::FRAME * n,
         first,
         second,
         hash,
@@ -54,13 +55,13 @@ fn read_two(steps: &Table, image: &[u8], at: usize, n: usize, work: &mut [u8]) -
 
 // Test 11: the lowest frame that no 1,268 bits give, or 496; then all rows stand in the cluster and the dc words in dc.
 pub fn read_frames(image: &[u8], at: usize, dc: &mut [u32], work: &mut [u8]) -> usize
-    requires { ⌜ Within (now image) at × ((length (now dc) ≡ 496) × (length (now work) ≡ 76880)) ⌝ }
+    requires { ⌜ Within (now image) at × ((length (now dc) ≡ frameCount) × (length (now work) ≡ workSize)) ⌝ }
     ensures { λ r. ⌜ FramesRead (drop at (bitsOf (now (image .entry)))) r (now (dc .exit)) (now (work .exit)) ⌝ }
 {
     let mut steps = automaton::steps::no_table();
     automaton::steps::fill_table(&mut steps);
     let mut n = 0;
-    while n < 496 {
+    while n < sizes::FRAMES {
         let two = read_two(&steps, image, at, n, work);
         let first = two.first;
         let FrameRead::Found(word) = first else {

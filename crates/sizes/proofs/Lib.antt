@@ -1,0 +1,2 @@
+-- How the sizes hang together.
+pub mod Sizes

@@ -1,0 +1,2 @@
+-- Document 01's sizes.
+pub mod Sizes
