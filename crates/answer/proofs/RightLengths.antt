@@ -1,5 +1,5 @@
 -- The lengths: passed exactly where all are right, and refused by 1 to 5. Assumes nothing.
-use mathlib.Core.Path.{_≡_, refl}
+use mathlib.Core.Path.{_≡_, refl, ap₂, _∙_}
 use mathlib.Core.Bool.{Bool, true, false, cond}
 use Prim.Native.Nat.{ℕ, _≤_}
 use native.Mathlib.Omega.{arith}
@@ -38,6 +38,13 @@ module _ (u s d i w : ℕ) where
   -- as the code has it: r is what was answered, t whether it is `Done`
   pub lengths-passed : {r : Answer} {t : Bool} → r ≡ lengthsAnswer u s d i w → t ≡ isDone r → t ≡ true → RightLengths u s d w × (i ≡ 119788)
   lengths-passed hr ht e = lengths-done (done-told hr ht e)
+
+-- as the code has it: what the five tests answered, and what was made of them
+pub lengths-are : (u s d i w : ℕ) {one two three four five last third second r : Answer} → one ≡ sized u 65536 (WrongUser 0) → two ≡ sized s 592 WrongSide → three ≡ sized d 496 WrongDc
+    → four ≡ sized i 119788 WrongImage → five ≡ sized w 76880 WrongWork → last ≡ andThen four five → third ≡ andThen three last → second ≡ andThen two third → r ≡ andThen one second
+    → r ≡ lengthsAnswer u s d i w
+unfolding lengthsAnswer
+lengths-are u s d i w h1 h2 h3 h4 h5 e4 e3 e2 e1 = e1 ∙ ap₂ andThen h1 (e2 ∙ ap₂ andThen h2 (e3 ∙ ap₂ andThen h3 (e4 ∙ ap₂ andThen h4 h5)))
 
 -- ---- a refusal's number
 

@@ -1,5 +1,5 @@
--- `lengths` meets its contract: the five tests, one after the other.
-use Rattle.answer.specs.Lengths.{lengthsAnswer}
+-- `lengths` meets its contract: the five tests, one after the other (RightLengths).
+use Rattle.answer.proofs.RightLengths.{lengths-are}
 use borrow.Author.Needs.{needs}
 use Rattle.answer.proofs.lengths.Statement.{statement}
 use Rattle.answer.proofs.lengths.Tie as tie
@@ -32,8 +32,11 @@ and-then-requires-4 : tie.Need-and-then-requires-4
 and-then-requires-4 c κs = search needs
 
 returns : tie.Need-returns
-unfolding lengthsAnswer
-returns c = cc
+returns c =
+    let four = c .before .before .before .before .before in
+    let two = four .before .before in
+    lengths-are _ _ _ _ _ (two .before .sized .ensures) (two .sized2 .ensures) (four .before .sized3 .ensures) (four .sized4 .ensures) (c .before .before .before .before .sized5 .ensures)
+    (c .before .before .before .and-then .ensures) (c .before .before .and-then2 .ensures) (c .before .and-then3 .ensures) (c .and-then4 .ensures)
 
 pub lengths-spec : {M : Type 1} → statement M
 lengths-spec =
