@@ -12,7 +12,7 @@ use Rattle.modulation.specs.Bits.{bits}
 use Rattle.modulation.specs.Sync.{FS, sync, syncId}
 use Rattle.modulation.specs.Stream.{modulated}
 use Rattle.modulation.proofs.Bits.{bits-append}
-use Rattle.modulation.proofs.Theorems.{size-of-a-frame}
+use Rattle.modulation.proofs.Statements.{size-of-a-frame}
 use Rattle.frame_bits.specs.FrameBits.{frameBits}
 use Rattle.frame_sync.specs.Sync.{hashAt, syncRight}
 use Rattle.frame.specs.Frame.{framePairs, frame, nextHash}

@@ -20,7 +20,7 @@ use Rattle.modulation.proofs.Bits.{length-bits, groups-bits, length-pairs, leng
 use Rattle.modulation.proofs.Fronts.{bits-dataBits}
 use Rattle.modulation.proofs.Size.{size}
 use Rattle.laws.proofs.Booleans.{and-left, and-right, and-true, true-T, beq-same, beq-refl}
-use Rattle.modulation.proofs.Theorems.{comes-back, injective}
+use Rattle.modulation.proofs.Statements.{comes-back, injective}
 use Rattle.frame_bits.specs.FrameBits.{frameBits, rowOf, dcOf}
 use Rattle.frame.specs.Frame.{framePairs, nextHash}
 use Rattle.laws.specs.Same.{same}

@@ -7,9 +7,7 @@ use native.Mathlib.Decide.{ℕ-discrete}
 use native.Mathlib.Omega.{arith}
 use lib.ListN.{length, getD, set, length-set}
 use lib.Seq.{getD-set-same, getD-set-other}
-use Rattle.laws.specs.Tabulate.{tabulate}
 use Rattle.laws.specs.Scatter.{Scattered}
-use Rattle.laws.proofs.Tabulate.{is-tabulate}
 
 module _ {A : Type 0} {d : A} {place : ℕ → ℕ} {v : ℕ → A} {l₀ : List A} where
   pub scattered-none : Scattered d place v l₀ 0 l₀
@@ -33,10 +31,3 @@ module _ {A : Type 0} {d : A} {place : ℕ → ℕ} {v : ℕ → A} {l₀ : List
   -- after the last turn
   pub scattered-end : {i n : ℕ} {l : List A} → i ≡ n → Scattered d place v l₀ i l → Scattered d place v l₀ n l
   scattered-end {i} {n} {l} e s = subst (λ (m : ℕ). Scattered d place v l₀ m l) e s
-
-  -- the places are all of the list's, each with the turn that `turn` says
-  pub scattered-all : {i n : ℕ} {l : List A} (turn : ℕ → ℕ) → length l₀ ≡ n → ((k : ℕ) → k < n → (turn k < i) × (place (turn k) ≡ k))
-      → Scattered d place v l₀ i l → l ≡ tabulate n (λ k. v (turn k))
-  scattered-all {i} {n} {l} turn size every s =
-      is-tabulate d n (λ k. v (turn k)) l (s .size ∙ size)
-      (λ k h. ap (λ (j : ℕ). getD l j d) (sym (every k h .1)) ∙ s .done (turn k) (every k h .0))

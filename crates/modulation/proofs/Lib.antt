@@ -1,4 +1,4 @@
--- The theorems are in Theorems; the other files lead there, and to the proofs of the functions.
+-- What is promised is in Statements; the other files lead there, and to the proofs of the functions.
 pub mod Bits
 pub mod Fronts
 pub mod Words
@@ -13,5 +13,5 @@ pub mod Streams
 pub mod Limits
 pub mod Unique
 pub mod Syncs
-pub mod Theorems
 pub mod Groups
+pub mod Statements

@@ -41,10 +41,6 @@ shifts-all s j next h g e = let end : j ≡ 8 = omega arith in e ∙ ap (λ (n :
 
 -- ---- the scrambling bytes
 
-pub length-scrambling : (psn : ℕ) → length (scramblingOf psn) ≡ 2052
-unfolding scramblingOf
-length-scrambling psn = length-tabulate 2052 (scramblingByte psn)
-
 pub bytes-scrambling : (psn : ℕ) → Bytes (scramblingOf psn)
 unfolding scramblingOf scramblingByte
 bytes-scrambling psn = bytes-tabulate 2052 (scramblingByte psn) (λ k h. mod-lt (register (preset psn) k) (pow-pos 8))

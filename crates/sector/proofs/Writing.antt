@@ -1,6 +1,6 @@
 -- What the code that writes and tests data frames keeps and answers. Assumes nothing.
 use mathlib.Core.Path.{_≡_, refl, sym, ap, subst, _∙_}
-use mathlib.Core.Bool.{Bool, true, false}
+use mathlib.Core.Bool.{true, false}
 use mathlib.Core.List.{List}
 use Prim.Native.Nat.{ℕ, _+_, _/_, _%_, _^_, _<_, _≤_}
 use native.Mathlib.Omega.{arith}
@@ -14,7 +14,7 @@ use Rattle.laws.proofs.Tabulate.{is-tabulate}
 use Rattle.bits.specs.Bits.{bitsOf, number}
 use Rattle.edc.specs.Edc.{edcOf, edcBytes}
 use Rattle.scrambling.specs.Scrambling.{scrambled}
-use Rattle.sector.specs.DataFrame.{dataFrame, edcRight, Framed, framed, framedOf}
+use Rattle.sector.specs.DataFrame.{dataFrame, edcRight, framed, framedOf}
 use Rattle.sector.proofs.Frame.{frame-size, getD-user, getD-code}
 
 -- the first k bytes of l are those of the data frame
@@ -60,10 +60,6 @@ module _ (user stream frame : List ℕ) (h : length user ≡ 2048) (g : length f
   pub framed-done : framedOf user stream frame ≡ framed true (scrambled stream (dataFrame user))
   unfolding framedOf
   framed-done = rw (eq-eqb (length user) 2048 h, eq-eqb (length frame) 2052 g)
-
-  -- what the frame holds for a caller that has the right lengths
-  pub frame-done : (r : Bool) (l : List ℕ) → framed r l ≡ framedOf user stream frame → l ≡ scrambled stream (dataFrame user)
-  frame-done r l e = ap (λ (f : Framed). f .frame) (e ∙ framed-done)
 
   pub both-lengths : (filled l : List ℕ) → filled ≡ dataFrame user → l ≡ scrambled stream filled → framed true l ≡ framedOf user stream frame
   both-lengths filled l e f = rw (framed-done, f, e)
