@@ -1,13 +1,8 @@
--- `encode` meets its contract: the words of its bytes, or none (Commands).
-use Rattle.commands.proofs.Commands.{encode-words, encode-none}
+-- `encode` meets its contract: the words of its bytes, or none (Encoded).
+use Rattle.encoding.proofs.Encoded.{encode-words, encode-none}
 use borrow.Author.Needs.{needs}
-use Rattle.commands.proofs.encode.Statement.{statement}
-use Rattle.commands.proofs.encode.Tie as tie
-use Rattle.commands.proofs.encode.Reads as reads
-use Rattle.commands.proofs.encode.Lts as lts
-use Rattle.commands.proofs.dc_words.Reads as dc-words-reads
-use Rattle.commands.proofs.encode_words.Reads as encode-words-reads
-use Rattle.notation.proofs.words_of.Reads as words-of-reads
+use Rattle.encoding.proofs.encode.Statement.{statement}
+use Rattle.encoding.proofs.encode.Tie as tie
 
 dc-words-requires : tie.Need-dc-words-requires
 dc-words-requires c κs = search needs
