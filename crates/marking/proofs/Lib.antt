@@ -1,2 +1,2 @@
 -- Laws of what mark says.
-pub mod Mark
+pub mod Marking

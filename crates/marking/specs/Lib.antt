@@ -1,2 +1,2 @@
 -- What mark says.
-pub mod Mark
+pub mod Marking

@@ -5,7 +5,7 @@ ghost use mathlib.Core.Path.{_≡_};
 ghost use mathlib.Core.Logic.{_↔_};
 ghost use Rattle.texts.specs.Text.{the, textOf};
 ghost use Rattle.marker.specs.Marked.{IsImageOf};
-ghost use Rattle.marking.specs.Mark.{markText};
+ghost use Rattle.marking.specs.Marking.{markText};
 
 // Whether an image is that of these user bytes, this side data and this PSN under some dc words.
 pub fn mark(psn: Psn, user: &[u8], side: &[u8], image: &[u8]) -> Text

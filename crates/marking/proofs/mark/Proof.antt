@@ -1,5 +1,5 @@
--- `mark` meets its contract: the marker's verdict (Mark).
-use Rattle.marking.proofs.Mark.{mark-is}
+-- `mark` meets its contract: the marker's verdict (Marking).
+use Rattle.marking.proofs.Marking.{mark-is}
 use borrow.Author.Needs.{needs}
 use Rattle.marking.proofs.mark.Statement.{statement}
 use Rattle.marking.proofs.mark.Tie as tie

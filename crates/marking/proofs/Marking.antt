@@ -15,7 +15,7 @@ use Rattle.texts.specs.Text.{the, textOf}
 use Rattle.texts.proofs.Distinct.{text-same}
 use Rattle.report.specs.Words.{verdictText}
 use Rattle.report.proofs.Statements.{pass-only}
-use Rattle.marking.specs.Mark.{room, markText}
+use Rattle.marking.specs.Marking.{room, markText}
 
 fitting : Fitting room
 fitting = record { user = length-zeros 65536; side = length-zeros 592; dc = length-zeros 496; work = length-zeros 76880 }
