@@ -2,17 +2,16 @@
 use mathlib.Core.Path.{_≡_, refl, sym, ap, _∙_}
 use mathlib.Core.Bool.{Bool, true, false, cond}
 use mathlib.Core.List.{List, []}
-use Prim.Native.Nat.{ℕ, _≤_}
+use Prim.Native.Nat.{ℕ}
 use native.Mathlib.Omega.{arith}
 use lib.Dec.{eqb}
 use lib.ListN.{length, take}
 use lib.Seq.{take-all}
-use borrow.Author.Tests.{eq-eqb, ne-eqb}
 use Rattle.laws.specs.Zeros.{zeros}
 use Rattle.laws.proofs.Zeros.{length-zeros}
 use Rattle.answer.specs.declared.Answer.{Answer}
 use Rattle.answer.specs.Answer.{isDone}
-use Rattle.notation.specs.Words.{bytesRead}
+use Rattle.notation.specs.Words.{wordCount, bytesRead}
 use Rattle.reader.specs.Outcome as reader
 use Rattle.texts.specs.declared.Text.{Text}
 use Rattle.texts.specs.Text.{textOf}
@@ -49,18 +48,12 @@ words-decoded image user side dc words work user' side' dc' words' work' a psn k
 
 -- ---- room for the words
 
-pub words-some : (bytes n : ℕ) → bytes ≡ 1984 → n ≡ 496 → (n ≤ 496) × (n ≡ cond (eqb bytes 1984) 496 0)
-words-some bytes n e h = (omega arith, h ∙ rw (eq-eqb bytes 1984 e))
-
-pub words-none : (bytes n : ℕ) → (bytes ≡ 1984 → ⊥) → n ≡ 0 → (n ≤ 496) × (n ≡ cond (eqb bytes 1984) 496 0)
-words-none bytes n e h = (omega arith, h ∙ rw (ne-eqb bytes 1984 e))
-
 -- the first words of 496: all, or none
 front : (t : Bool) → take (cond t 496 0) (zeros 496) ≡ cond t (zeros 496) []
 front true = take-all 496 (zeros 496) (omega (arith, length-zeros 496))
 front false = refl
 
-pub decode-words : (image user side dc words : List ℕ) (n : ℕ) (r : Decoded) → words ≡ zeros 496 → n ≡ cond (eqb (length dc) 1984) 496 0
+pub decode-words : (image user side dc words : List ℕ) (n : ℕ) (r : Decoded) → words ≡ zeros 496 → n ≡ wordCount (length dc)
     → r ≡ decodedWords image user side (take n words) dc → r ≡ decoded image user side dc
 unfolding decoded
 decode-words image user side dc words n r hw hn h =

@@ -3,9 +3,6 @@ use address::Psn;
 use answer::Answer;
 use report::Said;
 ghost use mathlib.Core.Path.{_≡_};
-ghost use mathlib.Core.Bool.{cond};
-ghost use Prim.Native.Nat.{_≤_};
-ghost use lib.Dec.{eqb};
 ghost use Rattle.decoding.specs.Decoded.{SaidOf, Decoded, decodedWords, decoded};
 
 // What is said of an image that was read: the PSN, and dc gets the bytes of the words; or the answer that refuses it.
@@ -43,22 +40,12 @@ fn decode_words(
     say(answer, psn, words, dc)
 }
 
-// How many dc words a slice of so many bytes takes; none where it is no slice for them.
-fn words_for(bytes: usize) -> usize
-    ensures { λ r. ⌜ (r ≤ 496) × (r ≡ cond (eqb bytes 1984) 496 0) ⌝ }
-{
-    if bytes != 1984 {
-        return 0;
-    }
-    496
-}
-
 // What an image was made of; the dc words as four bytes each. No words are read for a slice of another length: 3 refuses it.
 pub fn decode(image: &[u8], user: &mut [u8], side: &mut [u8], dc: &mut [u8]) -> Said
     ensures { λ r. ⌜ record { keep = r .keep; text = r .text; user = now (user .exit); side = now (side .exit); dc = now (dc .exit) }
         ≡ decoded (now (image .entry)) (now (user .entry)) (now (side .entry)) (now (dc .entry)) ⌝ }
 {
     let mut words = buffers::dc_words();
-    let n = words_for(dc.len());
+    let n = notation::word_count(dc.len());
     decode_words(image, user, side, &mut words[..n], dc)
 }

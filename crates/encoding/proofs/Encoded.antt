@@ -1,16 +1,19 @@
 -- What encode leaves is that of the writer's outcome. Assumes nothing.
 use mathlib.Core.Path.{_≡_, refl, ap, ap₂, _∙_}
-use mathlib.Core.Bool.{Bool, cond}
+use mathlib.Core.Bool.{Bool, true, false, cond}
 use mathlib.Core.List.{List, []}
 use Prim.Native.Nat.{ℕ}
-use borrow.Author.Tests.{eq-eqb, ne-eqb}
+use native.Mathlib.Omega.{arith}
+use borrow.Author.Tests.{eq-eqb}
 use lib.Dec.{eqb}
-use lib.ListN.{length}
+use lib.ListN.{length, take}
+use lib.Seq.{take-all}
 use Rattle.laws.specs.Zeros.{zeros}
 use Rattle.laws.proofs.Zeros.{length-zeros}
+use Rattle.laws.proofs.Tabulate.{length-tabulate}
 use Rattle.answer.specs.declared.Answer.{Answer}
 use Rattle.answer.specs.Answer.{isDone}
-use Rattle.notation.specs.Words.{wordsRead}
+use Rattle.notation.specs.Words.{wordCount, wordAt, wordsOf, wordsRead}
 use Rattle.writer.specs.Outcome as writer
 use Rattle.texts.specs.declared.Text.{Text}
 use Rattle.texts.specs.Text.{textOf}
@@ -27,12 +30,14 @@ words-encoded psn user side words image image' work work' a keep t hk ho hd ht =
     ∙ ap encodedBy ho
     ∙ ap (λ (m : List ℕ). encodedBy (writer.outcome (record { user = user; psn = psn; side = side; dc = words }) image m)) hk
 
-module _ (psn : ℕ) (user side dc image : List ℕ) (r : Encoded) where
-  pub encode-words : (words words' : List ℕ) → words ≡ zeros 496 → length dc ≡ 1984 → words' ≡ wordsRead dc words → r ≡ encodedWords psn user side words' image → r ≡ encoded psn user side dc image
-  unfolding encoded wordsRead
-  encode-words words words' hw size hr h =
-      h ∙ ap (λ (l : List ℕ). encodedWords psn user side l image) (hr ∙ rw (eq-eqb (length dc) 1984 size, eq-eqb (length words) 496 (ap length hw ∙ length-zeros 496)))
+-- the first words of those that were read: all, or none
+front : (dc words : List ℕ) → length words ≡ 496 → (t : Bool) → take (cond t 496 0) (cond t (cond (eqb (length words) 496) (wordsOf dc) words) words) ≡ cond t (wordsOf dc) []
+unfolding wordsOf
+front dc words size true = rw (eq-eqb (length words) 496 size) (take-all 496 (wordsOf dc) (omega (arith, length-tabulate 496 (wordAt dc))))
+front dc words size false = refl
 
-  pub encode-none : (length dc ≡ 1984 → ⊥) → r ≡ encodedWords psn user side [] image → r ≡ encoded psn user side dc image
-  unfolding encoded
-  encode-none other h = h ∙ rw (ne-eqb (length dc) 1984 other)
+pub encode-words : (psn : ℕ) (user side dc image words words' : List ℕ) (n : ℕ) (r : Encoded) → words ≡ zeros 496 → words' ≡ wordsRead dc words → n ≡ wordCount (length dc)
+    → r ≡ encodedWords psn user side (take n words') image → r ≡ encoded psn user side dc image
+unfolding encoded wordsRead
+encode-words psn user side dc image words words' n r hw hr hn h =
+    h ∙ ap (λ (l : List ℕ). encodedWords psn user side l image) (ap₂ (λ (k : ℕ) (l : List ℕ). take k l) hn hr ∙ front dc words (ap length hw ∙ length-zeros 496) (eqb (length dc) 1984))

@@ -23,9 +23,7 @@ pub fn encode(psn: Psn, user: &[u8], side: &[u8], dc: &[u8], image: &mut [u8]) -
         ≡ encoded (psn .0) (now (user .entry)) (now (side .entry)) (now (dc .entry)) (now (image .entry)) ⌝ }
 {
     let mut words = buffers::dc_words();
-    if dc.len() != 1984 {
-        return encode_words(psn, user, side, &words[..0], image);
-    }
     notation::words_of(dc, &mut words);
-    encode_words(psn, user, side, &words, image)
+    let n = notation::word_count(dc.len());
+    encode_words(psn, user, side, &words[..n], image)
 }

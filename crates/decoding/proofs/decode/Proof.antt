@@ -9,8 +9,8 @@ use Rattle.decoding.proofs.decode.Tie as tie
 dc-words-requires : tie.Need-dc-words-requires
 dc-words-requires c κs = search needs
 
-words-for-requires : tie.Need-words-for-requires
-words-for-requires c κs = search needs
+word-count-requires : tie.Need-word-count-requires
+word-count-requires c κs = search needs
 
 array-borrow-prefix-words : tie.Need-array-borrow-prefix-words
 array-borrow-prefix-words c = search needs
@@ -38,7 +38,7 @@ decode-spec =
     tie.close
     (tie.spec
     dc-words-requires
-    words-for-requires
+    word-count-requires
     array-borrow-prefix-words
     slice-aggregate-decode-words
     decode-words-requires
