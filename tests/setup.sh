@@ -2,7 +2,7 @@
 # Compared are what is printed, what is said on standard error, bdre's exit status, and every file of the folder.
 umask 022
 vectors=$root/crates/image_test/data
-tallies=$root/crates/gaps_test/stdin
+tallies=$root/crates/frame_gaps_test/stdin
 room=$(mktemp -d)
 trap 'rm -rf "$room"' EXIT
 trap 'exit 1' HUP INT TERM

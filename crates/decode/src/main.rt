@@ -1,5 +1,5 @@
 // decode IMAGE USER SIDE DC: reads an image strictly, and writes what it was made of to files.
-use report::Text;
+use texts::Text;
 
 // The image is none of the files that are written, and these are three.
 fn names_apart() -> bool {
@@ -61,10 +61,10 @@ fn save(user: &[u8], side: &[u8], dc: &[u8], text: Text) {
 }
 
 fn decode(image: &[u8]) {
-    let mut user = commands::user_bytes();
-    let mut side = commands::side_bytes();
-    let mut dc = commands::dc_bytes();
-    let said = commands::decode(image, &mut user, &mut side, &mut dc);
+    let mut user = buffers::user_bytes();
+    let mut side = buffers::side_bytes();
+    let mut dc = buffers::dc_bytes();
+    let said = decoding::decode(image, &mut user, &mut side, &mut dc);
     let text = said.text;
     if said.keep {
         save(&user, &side, &dc, text);
@@ -78,7 +78,7 @@ fn main() {
         io::write_all(1, b"usage: decode IMAGE USER SIDE DC\n");
         return;
     }
-    let mut image = commands::image_bytes();
+    let mut image = buffers::image_bytes();
     if names_apart() {
         if console::load(1, &mut image) {
             decode(&image);

@@ -1,7 +1,7 @@
 // encode PSN USER SIDE DC IMAGE: the image of a cluster, written from files. `-` for SIDE or DC is zeros.
 use address::Psn;
 use notation::PsnText;
-use report::Text;
+use texts::Text;
 
 // IMAGE is none of the files that are read.
 fn names_apart() -> bool {
@@ -35,8 +35,8 @@ fn save(image: &[u8], text: Text) {
 }
 
 fn write(psn: Psn, user: &[u8], side: &[u8], dc: &[u8]) {
-    let mut image = commands::image_bytes();
-    let said = commands::encode(psn, user, side, dc, &mut image);
+    let mut image = buffers::image_bytes();
+    let said = encoding::encode(psn, user, side, dc, &mut image);
     let text = said.text;
     if said.keep {
         save(&image, text);
@@ -46,9 +46,9 @@ fn write(psn: Psn, user: &[u8], side: &[u8], dc: &[u8]) {
 }
 
 fn encode(psn: Psn) {
-    let mut user = commands::user_bytes();
-    let mut side = commands::side_bytes();
-    let mut dc = commands::dc_bytes();
+    let mut user = buffers::user_bytes();
+    let mut side = buffers::side_bytes();
+    let mut dc = buffers::dc_bytes();
     if load(&mut user, &mut side, &mut dc) {
         write(psn, &user, &side, &dc);
     }

@@ -13,11 +13,11 @@ fn load(user: &mut [u8], side: &mut [u8], image: &mut [u8]) -> bool {
 }
 
 fn mark(psn: Psn) {
-    let mut user = commands::user_bytes();
-    let mut side = commands::side_bytes();
-    let mut image = commands::image_bytes();
+    let mut user = buffers::user_bytes();
+    let mut side = buffers::side_bytes();
+    let mut image = buffers::image_bytes();
     if load(&mut user, &mut side, &mut image) {
-        console::print(commands::mark(psn, &user, &side, &image));
+        console::print(marking::mark(psn, &user, &side, &image));
     }
 }
 

@@ -30,10 +30,10 @@ fn print_verdict(verdict: Verdict) {
 
 // With slices of the right lengths lent.
 fn verdict_on(text: &[u8], psn: Psn, user: &[u8], side: &[u8], image: &[u8]) {
-    let mut bytes = commands::user_bytes();
-    let mut control = commands::side_bytes();
-    let mut dc = commands::dc_words();
-    let mut work = commands::work_bytes();
+    let mut bytes = buffers::user_bytes();
+    let mut control = buffers::side_bytes();
+    let mut dc = buffers::dc_words();
+    let mut work = buffers::work_bytes();
     io::write_all(1, text);
     print_verdict(marker::mark(
         psn,
@@ -49,9 +49,9 @@ fn verdict_on(text: &[u8], psn: Psn, user: &[u8], side: &[u8], image: &[u8]) {
 
 // With a work slice that is too short lent.
 fn verdict_without_work(psn: Psn, user: &[u8], side: &[u8], image: &[u8]) {
-    let mut bytes = commands::user_bytes();
-    let mut control = commands::side_bytes();
-    let mut dc = commands::dc_words();
+    let mut bytes = buffers::user_bytes();
+    let mut control = buffers::side_bytes();
+    let mut dc = buffers::dc_words();
     let mut work = [0u8; 10];
     io::write_all(1, b"short work: ");
     print_verdict(marker::mark(
@@ -82,8 +82,8 @@ fn fill_words(words: &mut [u32], word: u32) {
 
 // The image of the pattern with dc words that are all `word`.
 fn image_of(psn: Psn, user: &[u8], side: &[u8], word: u32, image: &mut [u8]) {
-    let mut dc = commands::dc_words();
-    let mut work = commands::work_bytes();
+    let mut dc = buffers::dc_words();
+    let mut work = buffers::work_bytes();
     fill_words(&mut dc, word);
     writer::write_image(user, psn, side, &dc, image, &mut work);
 }
@@ -154,9 +154,9 @@ fn pattern(user: &mut [u8], side: &mut [u8]) {
 }
 
 fn main() {
-    let mut user = commands::user_bytes();
-    let mut side = commands::side_bytes();
-    let mut image = commands::image_bytes();
+    let mut user = buffers::user_bytes();
+    let mut side = buffers::side_bytes();
+    let mut image = buffers::image_bytes();
     pattern(&mut user, &mut side);
     verdicts(Psn(0x02F7_6400), &mut user, &mut side, &mut image);
 }

@@ -6,7 +6,17 @@ use native.Mathlib.Omega.{arith}
 use borrow.Author.Tests.{eq-eqb, ne-eqb}
 use lib.ListN.{length}
 use Rattle.laws.proofs.Fill.{Upto, upto-all}
-use Rattle.notation.specs.Words.{wordAt, wordsOf, byteOf, byteAt, bytesOf, wordsRead, bytesRead}
+use Rattle.notation.specs.Words.{wordCount, wordAt, wordsOf, byteOf, byteAt, bytesOf, wordsRead, bytesRead}
+
+-- ---- how many
+
+pub count-all : (bytes n : ℕ) → bytes ≡ 1984 → n ≡ 496 → (n ≤ 496) × (n ≡ wordCount bytes)
+count-all bytes n e h = (omega arith, h ∙ rw (eq-eqb bytes 1984 e))
+
+pub count-none : (bytes n : ℕ) → (bytes ≡ 1984 → ⊥) → n ≡ 0 → (n ≤ 496) × (n ≡ wordCount bytes)
+count-none bytes n e h = (omega arith, h ∙ rw (ne-eqb bytes 1984 e))
+
+-- ---- which
 
 module _ (bytes before : List ℕ) where
   pub words-other-bytes : (length bytes ≡ 1984 → ⊥) → before ≡ wordsRead bytes before

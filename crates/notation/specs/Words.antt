@@ -6,6 +6,10 @@ use lib.Dec.{eqb}
 use lib.ListN.{length, getD}
 use Rattle.laws.specs.Tabulate.{tabulate}
 
+-- how many words so many bytes hold
+abbrev pub wordCount : ℕ → ℕ
+wordCount bytes = cond (eqb bytes 1984) 496 0
+
 abbrev pub wordFrom : ℕ → ℕ → ℕ → ℕ → ℕ
 wordFrom a b c d = ((a * 256 + b) * 256 + c) * 256 + d
 

@@ -1,10 +1,10 @@
 // How the programs' arguments and files write a PSN and the dc words.
 use address::Psn;
 ghost use mathlib.Core.Path.{_≡_};
-ghost use Prim.Native.Nat.{_<_};
+ghost use Prim.Native.Nat.{_<_, _≤_};
 ghost use lib.ListN.{length};
 ghost use Rattle.notation.specs.Psn.{digitOf, psnOf};
-ghost use Rattle.notation.specs.Words.{wordFrom, wordAt, byteOf, wordsRead, bytesRead};
+ghost use Rattle.notation.specs.Words.{wordCount, wordFrom, wordAt, byteOf, wordsRead, bytesRead};
 
 // A PSN, or a text that is not eight hexadecimal digits. Document 01 has no number for it.
 pub enum PsnText {
@@ -57,6 +57,16 @@ fn word_at(bytes: &[u8], n: usize) -> u32
 {
     let at = 4 * n;
     word(bytes[at], bytes[at + 1], bytes[at + 2], bytes[at + 3])
+}
+
+// How many dc words so many bytes hold: 496 are 1,984 bytes, and no other number holds any.
+pub fn word_count(bytes: usize) -> usize
+    ensures { λ r. ⌜ (r ≤ 496) × (r ≡ wordCount bytes) ⌝ }
+{
+    if bytes != 1984 {
+        return 0;
+    }
+    496
 }
 
 // The 496 dc words of 1,984 bytes, high byte first. Slices of other lengths stay as they were.

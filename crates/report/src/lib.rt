@@ -13,6 +13,12 @@ ghost use mathlib.Core.List.{_++_};
 ghost use Rattle.texts.specs.Text.{blankText, added, textOf};
 ghost use Rattle.report.specs.Words.{meaning, answerText, verdictText, psnText};
 
+// Whether what was made is to be kept, and what is printed.
+pub struct Said {
+    pub keep: bool,
+    pub text: Text,
+}
+
 // What an answer means; nothing for 0.
 fn put_meaning(text: Text, answer: Answer) -> Text
     ensures { λ r. ⌜ r ≡ added text (meaning answer) ⌝ }

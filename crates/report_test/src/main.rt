@@ -51,11 +51,11 @@ fn psns() {
 }
 
 fn tallies() {
-    console::print(report::tally_text(Tally {
+    console::print(tallying::tally_text(Tally {
         accepted: true,
         counts: [0, 9, 10, 160, 319, 4294967295, 1000000000, 2],
     }));
-    console::print(report::tally_text(Tally {
+    console::print(tallying::tally_text(Tally {
         accepted: false,
         counts: [1, 2, 3, 4, 5, 6, 7, 8],
     }));

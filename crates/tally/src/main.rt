@@ -5,5 +5,5 @@ use libc::STDIN_FILENO;
 fn main() {
     let mut input = [0u8; 162];
     let n = io::read_full(STDIN_FILENO, &mut input);
-    console::print(commands::tally(&input[..n]));
+    console::print(tallying::tally(&input[..n]));
 }

@@ -30,7 +30,7 @@ rows-short n (x ∷ counts) h =
     let one : length (decimal n) ≡ 1 = one-digit n (omega arith) in
     simp length-append (omega (arith, decimal-short 20 x, rows-short (suc n) counts (omega arith)))
 
-tally-short : (tally : Tally) → length (tally .counts) ≡ 8 → length (tallyText tally) ≤ 256
+pub tally-short : (tally : Tally) → length (tally .counts) ≡ 8 → length (tallyText tally) ≤ 256
 unfolding tallyText
 tally-short tally h = by (tally .accepted) (rows-short 1 (tally .counts) (omega arith))
   where

@@ -3,8 +3,8 @@ use Prim.Native.Nat.{_-_, _≤_}
 use mathlib.Core.Path.{_≡_}
 use borrow.Author.Needs.{needs}
 use lib.ListN.{length}
-use Rattle.gaps_test.proofs.main.Statement.{statement}
-use Rattle.gaps_test.proofs.main.Tie as tie
+use Rattle.frame_gaps_test.proofs.main.Statement.{statement}
+use Rattle.frame_gaps_test.proofs.main.Tie as tie
 
 abbrev Inv-loop : tie.InvT-loop
 Inv-loop input₀ k₀ input k = (k ≤ 6) × (length input ≡ 162)

@@ -1,8 +1,8 @@
 -- `print_counts` reads within its counts.
 use Prim.Native.Nat.{_-_, _≤_}
 use borrow.Author.Needs.{needs}
-use Rattle.gaps_test.proofs.print_counts.Statement.{statement}
-use Rattle.gaps_test.proofs.print_counts.Tie as tie
+use Rattle.frame_gaps_test.proofs.print_counts.Statement.{statement}
+use Rattle.frame_gaps_test.proofs.print_counts.Tie as tie
 
 abbrev Inv-loop : tie.InvT-loop
 Inv-loop counts k₀ k = k ≤ 8

@@ -1,8 +1,8 @@
--- `mark` meets its contract: the marker's verdict (Commands).
-use Rattle.commands.proofs.Commands.{mark-is}
+-- `mark` meets its contract: the marker's verdict (Marking).
+use Rattle.marking.proofs.Marking.{mark-is}
 use borrow.Author.Needs.{needs}
-use Rattle.commands.proofs.mark.Statement.{statement}
-use Rattle.commands.proofs.mark.Tie as tie
+use Rattle.marking.proofs.mark.Statement.{statement}
+use Rattle.marking.proofs.mark.Tie as tie
 
 user-bytes-requires : tie.Need-user-bytes-requires
 user-bytes-requires c κs = search needs

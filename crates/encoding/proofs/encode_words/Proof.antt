@@ -1,14 +1,8 @@
--- `encode_words` meets its contract: what the writer leaves (Commands).
-use Rattle.commands.proofs.Commands.{words-encoded}
+-- `encode_words` meets its contract: what the writer leaves (Encoded).
+use Rattle.encoding.proofs.Encoded.{words-encoded}
 use borrow.Author.Needs.{needs}
-use Rattle.commands.proofs.encode_words.Statement.{statement}
-use Rattle.commands.proofs.encode_words.Tie as tie
-use Rattle.commands.proofs.encode_words.Reads as reads
-use Rattle.commands.proofs.encode_words.Lts as lts
-use Rattle.answer.proofs.Answer.is_done.Reads as is-done-reads
-use Rattle.commands.proofs.work_bytes.Reads as work-bytes-reads
-use Rattle.report.proofs.answer_text.Reads as answer-text-reads
-use Rattle.writer.proofs.write_image.Reads as write-image-reads
+use Rattle.encoding.proofs.encode_words.Statement.{statement}
+use Rattle.encoding.proofs.encode_words.Tie as tie
 
 work-bytes-requires : tie.Need-work-bytes-requires
 work-bytes-requires c κs = search needs

@@ -1,2 +1,0 @@
--- What the commands show of what they call.
-pub mod Commands

@@ -1,2 +1,0 @@
--- The programs' commands.
-pub mod Commands

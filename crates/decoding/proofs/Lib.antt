@@ -1,0 +1,2 @@
+-- Laws of what decode leaves.
+pub mod Decoded

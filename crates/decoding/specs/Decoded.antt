@@ -1,0 +1,51 @@
+-- What decode says, whether what it read is kept, and what it leaves in the slices that it is lent.
+use mathlib.Core.Bool.{Bool, cond}
+use mathlib.Core.List.{List, []}
+use mathlib.Core.Path.{_≡_}
+use Prim.Native.Nat.{ℕ}
+use lib.Dec.{eqb}
+use lib.ListN.{length}
+use Rattle.laws.specs.Zeros.{zeros}
+use Rattle.answer.specs.declared.Answer.{Answer}
+use Rattle.answer.specs.Answer.{isDone}
+use Rattle.notation.specs.Words.{bytesRead}
+use Rattle.reader.specs.Outcome as reader
+use Rattle.texts.specs.declared.Text.{Text}
+use Rattle.texts.specs.Text.{textOf}
+use Rattle.report.specs.Words.{answerText, psnText}
+
+pub record Decoded : Type 0 where
+  pub keep : Bool
+  pub text : Text
+  pub user : List ℕ
+  pub side : List ℕ
+  pub dc : List ℕ
+
+-- on 0 the PSN and the bytes of the dc words; else the answer's text, and dc as it was
+abbrev pub textFor : Answer → ℕ → Text
+textFor a psn = cond (isDone a) (textOf (psnText psn)) (textOf (answerText a))
+
+abbrev pub dcFor : Answer → List ℕ → List ℕ → List ℕ
+dcFor a words dc = cond (isDone a) (bytesRead words dc) dc
+
+abbrev pub decodedBy : reader.Outcome → List ℕ → Decoded
+decodedBy o dc = record {
+  keep = isDone (o .answer);
+  text = textFor (o .answer) (o .psn);
+  user = o .lent .user;
+  side = o .lent .side;
+  dc = dcFor (o .answer) (o .lent .dc) dc;
+}
+
+abbrev pub decodedWords : List ℕ → List ℕ → List ℕ → List ℕ → List ℕ → Decoded
+decodedWords image user side words dc = decodedBy (reader.outcome image (record { user = user; side = side; dc = words; work = zeros 76880 })) dc
+
+-- into a dc slice of 1,984 bytes; into another no words go, and 3 refuses
+unfoldable pub decoded : List ℕ → List ℕ → List ℕ → List ℕ → Decoded
+decoded image user side dc = decodedWords image user side (cond (eqb (length dc) 1984) (zeros 496) []) dc
+
+-- what is said of an answer, a PSN and the words read with it, and what stands in dc then
+pub record SaidOf (a : Answer) (psn : ℕ) (words before : List ℕ) (keep : Bool) (text : Text) (dc : List ℕ) : Type 0 where
+  pub keep-is : keep ≡ isDone a
+  pub text-is : text ≡ textFor a psn
+  pub dc-is : dc ≡ dcFor a words before

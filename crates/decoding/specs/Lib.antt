@@ -1,0 +1,2 @@
+-- What decode reads and says.
+pub mod Decoded

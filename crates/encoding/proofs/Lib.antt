@@ -1,0 +1,2 @@
+-- Laws of what encode leaves.
+pub mod Encoded

@@ -1,0 +1,2 @@
+-- What encode makes and says.
+pub mod Encoded

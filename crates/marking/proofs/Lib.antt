@@ -1,0 +1,2 @@
+-- Laws of what mark says.
+pub mod Marking

@@ -1,0 +1,2 @@
+-- What mark says.
+pub mod Marking
