@@ -2,9 +2,8 @@
 use mathlib.Core.Path.{_≡_, refl, sym, ap, ap₂, _∙_}
 use mathlib.Core.Bool.{Bool, true, false, cond}
 use mathlib.Core.List.{List}
-use Prim.Native.Nat.{ℕ, _<_, _≤_}
-use borrow.Author.Tests.{eq-eqb, ne-eqb, lt-ltb, le-ltb}
-use lib.ListN.{length, getD}
+use Prim.Native.Nat.{ℕ}
+use lib.ListN.{length}
 use Rattle.answer.specs.declared.Answer.{Answer}
 use Rattle.answer.specs.declared.Answer.the-variants.{Done, WrongUser, WrongSide}
 use Rattle.answer.specs.Answer.{isDone, andThen, sized}
@@ -14,18 +13,9 @@ use Rattle.reader.specs.Outcome.{Lent, Outcome, judgedOutcome, sizesAnswer, out
 use Rattle.reader.specs.Promise.{RightSlices}
 use Rattle.bits.specs.Bits.{bitsOf}
 use Rattle.verdict.specs.declared.Verdict.{Verdict}
-use Rattle.verdict.specs.declared.Verdict.the-variants.{Pass, Refused, OtherPsn, OtherUser, OtherSide}
-use Rattle.marker.specs.Marked.{other, firstOther, compared, markedRead, Marked, marked}
-
--- ---- bytes that differ
-
-pub differs : (a b : List ℕ) (k : ℕ) → (getD a k 0 ≡ getD b k 0 → ⊥) → other a b k ≡ true
-unfolding other
-differs a b k h = rw (ne-eqb (getD a k 0) (getD b k 0) h)
-
-pub agrees : (a b : List ℕ) (k : ℕ) → getD a k 0 ≡ getD b k 0 → other a b k ≡ false
-unfolding other
-agrees a b k h = rw (eq-eqb (getD a k 0) (getD b k 0) h)
+use Rattle.verdict.specs.declared.Verdict.the-variants.{Refused}
+use Rattle.marker.specs.Marked.{markedRead, Marked, marked}
+use Rattle.comparison.specs.Compared.{compared}
 
 -- ---- what is given
 
@@ -34,27 +24,6 @@ module _ (user side : ℕ) where
   given-done e =
       let both = then-done (sized user 65536 (WrongUser 0)) (sized side 592 WrongSide) e in
       (sized-done (WrongUser 0) refl (both .0), sized-done WrongSide refl (both .1))
-
--- ---- what is read; u and s are what was found
-
-module _ (psn : ℕ) (user side : List ℕ) (found : ℕ) (bytes control : List ℕ) where
-  pub other-psn : (found ≡ psn → ⊥) → OtherPsn (record { 0 = found }) ≡ compared psn user side found bytes control
-  unfolding compared
-  other-psn h = rw (ne-eqb found psn h)
-
-  pub other-user : (u : ℕ) → found ≡ psn → u ≡ firstOther 65536 user bytes → u < 65536 → OtherUser u ≡ compared psn user side found bytes control
-  unfolding compared
-  other-user u e hu h = rw (eq-eqb found psn e, ← hu, lt-ltb u 65536 h)
-
-  pub other-side : (u s : ℕ) → found ≡ psn → u ≡ firstOther 65536 user bytes → 65536 ≤ u → s ≡ firstOther 592 side control → s < 592
-      → OtherSide s ≡ compared psn user side found bytes control
-  unfolding compared
-  other-side u s e hu h hs l = rw (eq-eqb found psn e, ← hu, le-ltb u 65536 h, ← hs, lt-ltb s 592 l)
-
-  pub all-same : (u s : ℕ) → found ≡ psn → u ≡ firstOther 65536 user bytes → 65536 ≤ u → s ≡ firstOther 592 side control → 592 ≤ s
-      → Pass ≡ compared psn user side found bytes control
-  unfolding compared
-  all-same u s e hu h hs l = rw (eq-eqb found psn e, ← hu, le-ltb u 65536 h, ← hs, le-ltb s 592 l)
 
 -- ---- as the code has it: a, p and l are what the reader answered and left, d whether a is `Done`
 

@@ -22,8 +22,10 @@ use Rattle.reader.specs.Promise.{RightSlices}
 use Rattle.reader.proofs.Statements.{returned, read-back, nothing-else}
 use Rattle.verdict.specs.declared.Verdict.{Verdict}
 use Rattle.verdict.specs.declared.Verdict.the-variants.{Pass, Refused, OtherPsn, OtherUser, OtherSide}
-use Rattle.marker.specs.Marked.{IsImageOf, other, firstOther, compared, verdictOf, markedRead, Marked, marked}
-use Rattle.marker.proofs.Judging.{agrees, all-same, given-done}
+use Rattle.marker.specs.Marked.{IsImageOf, verdictOf, markedRead, Marked, marked}
+use Rattle.comparison.specs.Compared.{other, firstOther, compared}
+use Rattle.marker.proofs.Judging.{given-done}
+use Rattle.comparison.proofs.Compared.{agrees, all-same}
 
 -- ---- lists without a difference
 

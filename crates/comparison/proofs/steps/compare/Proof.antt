@@ -1,8 +1,8 @@
 -- `compare` meets its contract (Judging).
-use Rattle.marker.proofs.Judging.{other-psn, other-user, other-side, all-same}
+use Rattle.comparison.proofs.Compared.{other-psn, other-user, other-side, all-same}
 use borrow.Author.Needs.{needs}
-use Rattle.marker.proofs.compare.Statement.{statement}
-use Rattle.marker.proofs.compare.Tie as tie
+use Rattle.comparison.proofs.steps.compare.Statement.{statement}
+use Rattle.comparison.proofs.steps.compare.Tie as tie
 
 returns : tie.Need-returns
 returns c = search (other-psn)

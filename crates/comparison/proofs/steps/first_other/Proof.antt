@@ -5,10 +5,10 @@ use native.Mathlib.Omega.{arith}
 use lib.ListN.{length}
 use borrow.Author.Needs.{needs}
 use Rattle.laws.proofs.First.{Passed, passed-none, passed-more, first-here, first-past}
-use Rattle.marker.specs.Marked.{other, firstOther}
-use Rattle.marker.proofs.Judging.{differs, agrees}
-use Rattle.marker.proofs.first_other.Statement.{statement}
-use Rattle.marker.proofs.first_other.Tie as tie
+use Rattle.comparison.specs.Compared.{other, firstOther}
+use Rattle.comparison.proofs.Compared.{differs, agrees}
+use Rattle.comparison.proofs.steps.first_other.Statement.{statement}
+use Rattle.comparison.proofs.steps.first_other.Tie as tie
 
 abbrev Inv-loop : tie.InvT-loop
 Inv-loop n a b k₀ k = (k ≤ n) × (n ≤ length a) × (n ≤ length b) × Passed (other a b) k

@@ -1,0 +1,2 @@
+-- The verdict, comparison by comparison.
+pub mod Compared

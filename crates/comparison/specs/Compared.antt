@@ -1,0 +1,23 @@
+-- PSN, user bytes and side data that are given, beside what was read in an image.
+use mathlib.Core.Bool.{Bool, cond, not}
+use mathlib.Core.List.{List}
+use Prim.Native.Nat.{ℕ}
+use lib.Dec.{eqb, ltb}
+use lib.ListN.{getD}
+use Rattle.laws.specs.First.{first}
+use Rattle.verdict.specs.declared.Verdict.{Verdict}
+use Rattle.verdict.specs.declared.Verdict.the-variants.{Pass, OtherPsn, OtherUser, OtherSide}
+
+-- the lowest index below n at which two lists differ, or n
+unfoldable pub other : List ℕ → List ℕ → ℕ → Bool
+other a b k = not (eqb (getD a k 0) (getD b k 0))
+
+unfoldable pub firstOther : ℕ → List ℕ → List ℕ → ℕ
+firstOther n a b = first n (other a b)
+
+-- PSN, user bytes and side data, each given and read
+unfoldable pub compared : ℕ → List ℕ → List ℕ → ℕ → List ℕ → List ℕ → Verdict
+compared psn user side found bytes control =
+    cond (eqb found psn)
+    (cond (ltb (firstOther 65536 user bytes) 65536) (OtherUser (firstOther 65536 user bytes)) (cond (ltb (firstOther 592 side control) 592) (OtherSide (firstOther 592 side control)) Pass))
+    (OtherPsn (record { 0 = found }))

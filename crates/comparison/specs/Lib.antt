@@ -1,0 +1,2 @@
+-- What is given beside what was read.
+pub mod Compared
