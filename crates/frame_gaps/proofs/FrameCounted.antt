@@ -11,7 +11,7 @@ use Rattle.bits.proofs.Bits.{length-bits}
 use Rattle.modulation.specs.Sync.{FS}
 use Rattle.modulation.proofs.Fronts.{bits-groups}
 use Rattle.frame.specs.Frame.{frame, frameGroups}
-use Rattle.frame.specs.steps.Written.{FrameWritten}
+use Rattle.frame_writer.specs.steps.Written.{FrameWritten}
 use Rattle.frame.proofs.Frame.{length-frame}
 use Rattle.gaps.specs.Gaps.{gapCounts}
 

@@ -25,7 +25,7 @@ fn frame_counts(row: &[u8], dc: u32, number: usize, hash: bool) -> [u32; 8]
     let mut table = modulator::steps::no_table();
     modulator::steps::fill_table(&mut table);
     let mut image = blank();
-    frame::steps::write_frame(&table, row, dc, number, State { hash }, &mut image, 0);
+    frame_writer::steps::write_frame(&table, row, dc, number, State { hash }, &mut image, 0);
     gaps::steps::gap_counts(&image, sizes::FRAME)
 }
 

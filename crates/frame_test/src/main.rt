@@ -103,7 +103,7 @@ fn read_line(
 {
     io::write_all(1, text);
     let mut row = no_row();
-    let read = frame::steps::read_frame(steps, image, at, sync, hash, &mut row);
+    let read = frame_reader::steps::read_frame(steps, image, at, sync, hash, &mut row);
     match read {
         FrameRead::Found(dc) => {
             io::print_hex(1, dc as u64, 8);
@@ -159,7 +159,7 @@ fn flip_one(
 {
     flip(image, bit);
     let mut row = no_row();
-    let read = frame::steps::read_frame(steps, image, at, sync, hash, &mut row);
+    let read = frame_reader::steps::read_frame(steps, image, at, sync, hash, &mut row);
     flip(image, bit);
     match read {
         FrameRead::Found(dc) => Flips {
@@ -236,7 +236,7 @@ fn written(input: &[u8], at: usize, image: &mut [u8]) -> bool
     let head = head_of(input);
     let mut table = modulator::steps::no_table();
     modulator::steps::fill_table(&mut table);
-    frame::steps::write_frame(
+    frame_writer::steps::write_frame(
         &table,
         &input[6..161],
         head.dc,

@@ -76,7 +76,7 @@ fn read_two(steps: &Table, image: &[u8], n: usize, work: &mut [u8]) -> TwoRead
     let second = frame_sync::sync_number(n + 1);
     let start = 155 * n;
     let end = start + 310;
-    frame::steps::read_two(
+    frame_reader::steps::read_two(
         steps,
         image,
         1932 * n,

@@ -19,7 +19,7 @@ use Rattle.modulation.proofs.Streams.{length-run-bits}
 use Rattle.frame_sync.specs.Sync.{fs, fsNumber}
 use Rattle.frame_sync.proofs.SyncTables.{fs-number}
 use Rattle.frame.specs.Frame.{frame, frameGroups}
-use Rattle.frame.specs.steps.Written.{FrameWritten}
+use Rattle.frame_writer.specs.steps.Written.{FrameWritten}
 use Rattle.cluster.specs.EccCluster.{rowOf, shownRow}
 use Rattle.cluster.proofs.Rows.{length-row}
 use Rattle.recording.specs.Recording.{recordingOf}

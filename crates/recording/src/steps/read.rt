@@ -41,7 +41,7 @@ fn read_two(steps: &Table, image: &[u8], at: usize, n: usize, work: &mut [u8]) -
     let second = frame_sync::sync_number(n + 1);
     let start = sizes::ROW * n;
     let end = start + 310;
-    frame::steps::read_two(
+    frame_reader::steps::read_two(
         steps,
         image,
         at + sizes::FRAME * n,

@@ -6,7 +6,7 @@ ghost use Prim.Native.Nat.{_+_, _*_, _<_};
 ghost use lib.ListN.{length, getD};
 ghost use Rattle.modulation.specs.Sync.{syncNumber};
 ghost use Rattle.modulator.specs.steps.Table.{lentTable};
-ghost use Rattle.frame.specs.steps.Written.{FrameWritten};
+ghost use Rattle.frame_writer.specs.steps.Written.{FrameWritten};
 ghost use Rattle.cluster.specs.EccCluster.{rowOf};
 ghost use Rattle.recording.specs.steps.Written.{FramesWritten};
 ghost use Rattle.sizes.specs.Sizes.{workSize, frameCount, frameSize};
@@ -26,7 +26,7 @@ fn put_frame(
 {
     let row = cluster::row(work, n);
     let number = frame_sync::sync_number(n);
-    frame::steps::write_frame(table, row, dc[n], number, state, image, at + sizes::FRAME * n)
+    frame_writer::steps::write_frame(table, row, dc[n], number, state, image, at + sizes::FRAME * n)
 }
 
 // The 496 frames, from bit `at` on. `first` has # of the first sync, and the answer # of the sync behind them.

@@ -1,0 +1,4 @@
+-- Recording frames written.
+pub mod Copy
+pub mod Image
+pub mod Going

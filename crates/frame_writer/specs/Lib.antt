@@ -1,0 +1,2 @@
+-- Recording frames written.
+pub mod steps

@@ -1,0 +1,3 @@
+-- Recording frames written.
+pub mod Written
+pub mod Around
