@@ -15,7 +15,7 @@ use Rattle.modulation.specs.Machine.{Wait, w, w00, w0000, w000000, w000010, w11
 use Rattle.modulation.proofs.Machine.{machine-is}
 use Rattle.laws.proofs.Booleans.{T-true, true-T, beq-same, implies, given}
 use Rattle.modulation.proofs.Fronts.{three-injective, starts-split}
-use Rattle.automaton.specs.Automaton.{reads, ends, start, next, added, ending, stateAfter, numberAfter, accepts, numberOf, onto}
+use Rattle.automaton.specs.Automaton.{reads, ends, start, next, added, ending, stateAfter, numberAfter, accepts, numberRead, onto}
 use Rattle.automaton.proofs.Complete.{each, among, each-at}
 
 -- ---- pairs as digits
@@ -356,7 +356,7 @@ dead-not gs false e = false≢true (sym (ap (λ (s : ℕ). eqb (ending s false %
 record Back (m : Met) (n : ℕ) (gs : List Three) (hash : Bool) : Type 0 where
   ds : List Two
   gives : machine ds (m .wait) (m .bit) ≡ record { groups = m .lag ++ gs; terminated = hash }
-  number : onto n ds ≡ numberOf (m .state) (n * 4 ^ unfed (m .state) + m .base) gs hash
+  number : onto n ds ≡ numberRead (m .state) (n * 4 ^ unfed (m .state) + m .base) gs hash
 
 -- the number grows by a group as its pairs are decided: n before c at weight p is n, f and r at weight q
 numbers-meet : (n p c out f x q r : ℕ) → f * q + r ≡ 4 * c + out → x * q ≡ 4 * p → 4 * (n * p + c) + out ≡ (n * x + f) * q + r
@@ -372,7 +372,7 @@ step-back m n g gs hash t back =
     record {
       ds = decided m g ++ back .ds;
       gives = fed (decided m g) (back .ds) (m .wait) (m .bit) ∙ ap (put (given-now m g .out)) (back .gives) ∙ λ i. record { groups = read i; terminated = hash };
-      number = onto-append n (decided m g) (back .ds) ∙ back .number ∙ ap (λ (a : ℕ). numberOf (to m g) a gs hash) (sym grows);
+      number = onto-append n (decided m g) (back .ds) ∙ back .number ∙ ap (λ (a : ℕ). numberRead (to m g) a gs hash) (sym grows);
     }
   where
     front : m .lag ++ g ∷ [] ≡ given-now m g .out ++ drop (length (given-now m g .out)) (m .lag ++ g ∷ [])
@@ -431,12 +431,12 @@ sound-from (g ∷ gs) m n hash t e = by (eqb (to m g) 2) refl (λ u. sound-from 
 pub record Sound (before : Bool) (gs : List Three) (hash : Bool) : Type 0 where
   pub ds : List Two
   pub gives : modulate before ds ≡ record { groups = gs; terminated = hash }
-  pub number : onto 0 ds ≡ numberOf (start before) 0 gs hash
+  pub number : onto 0 ds ≡ numberRead (start before) 0 gs hash
 
 pub sound : (before : Bool) (gs : List Three) (hash : Bool) → accepts (start before) gs hash ≡ true → Sound before gs hash
 sound before gs hash e = from before e
   where
-    with : (b : Bool) → Back (at (start b) w b 0 []) 0 gs hash → numberOf (start b) (0 * 4 ^ unfed (start b) + 0) gs hash ≡ numberOf (start b) 0 gs hash → Sound b gs hash
+    with : (b : Bool) → Back (at (start b) w b 0 []) 0 gs hash → numberRead (start b) (0 * 4 ^ unfed (start b) + 0) gs hash ≡ numberRead (start b) 0 gs hash → Sound b gs hash
     with b back z = record { ds = back .ds; gives = sym (machine-is (back .ds) w b) ∙ back .gives; number = back .number ∙ z }
 
     from : (b : Bool) → accepts (start b) gs hash ≡ true → Sound b gs hash

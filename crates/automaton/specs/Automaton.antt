@@ -67,8 +67,8 @@ abbrev pub accepts : ℕ → List Three → Bool → Bool
 accepts s gs hash = eqb (ending (stateAfter s gs) hash % 2) 0
 
 -- the number of its data bits
-abbrev pub numberOf : ℕ → ℕ → List Three → Bool → ℕ
-numberOf s a gs hash = numberAfter s a gs + ending (stateAfter s gs) hash / 2
+abbrev pub numberRead : ℕ → ℕ → List Three → Bool → ℕ
+numberRead s a gs hash = numberAfter s a gs + ending (stateAfter s gs) hash / 2
 
 -- the number with the pairs ds behind it
 unfoldable pub onto : ℕ → List Two → ℕ

@@ -15,7 +15,7 @@ use Rattle.reader.specs.Outcome as reader
 use Rattle.reader.specs.Promise.{ReadsExactly}
 use Rattle.verdict.specs.declared.Verdict.{Verdict}
 use Rattle.verdict.specs.declared.Verdict.the-variants.{Pass, Refused, OtherPsn, OtherUser, OtherSide}
-use Rattle.verdict.specs.Verdict.{kindOf, refusalIn, psnIn, placeIn}
+use Rattle.verdict.specs.Verdict.{kindOf, refusalIn, ownPsn, placeIn}
 use Rattle.marker.specs.Marked as marker
 use Rattle.bdre.specs.Seen.{Writing, Reading, Marking, Number, writing, reading, marking, psnSeen, aunSeen, paaSeen}
 
@@ -52,14 +52,14 @@ same-pass : (kind : ℕ) (v : Verdict) (P : Type 0) → kind ≡ kindOf v → (v
 same-pass kind v P hk h = (λ e. h .0 (pass-is v (sym hk ∙ e)), λ p. hk ∙ ap kindOf (h .1 p))
 
 pub same-marking : (kind number psn place : ℕ) (v : Verdict) (lent : reader.Lent) (m : marker.Marked) (F P : Type 0)
-    → kind ≡ kindOf v → number ≡ refusalIn v → psn ≡ psnIn v → place ≡ placeIn v
+    → kind ≡ kindOf v → number ≡ refusalIn v → psn ≡ ownPsn v → place ≡ placeIn v
     → (record { verdict = v; lent = lent } ≡ m) × (F → (v ≡ Pass) ↔ P)
     → (record { verdict = kind; number = number; psn = psn; place = place; lent = lent } ≡ marking m) × (F → (kind ≡ 0) ↔ P)
 same-marking kind number psn place v lent m F P hk hn hs hp h = (
   ap (λ (k : ℕ). record { verdict = k; number = number; psn = psn; place = place; lent = lent }) hk
       ∙ ap (λ (n : ℕ). record { verdict = kindOf v; number = n; psn = psn; place = place; lent = lent }) hn
       ∙ ap (λ (s : ℕ). record { verdict = kindOf v; number = refusalIn v; psn = s; place = place; lent = lent }) hs
-      ∙ ap (λ (p : ℕ). record { verdict = kindOf v; number = refusalIn v; psn = psnIn v; place = p; lent = lent }) hp
+      ∙ ap (λ (p : ℕ). record { verdict = kindOf v; number = refusalIn v; psn = ownPsn v; place = p; lent = lent }) hp
       ∙ ap marking (h .0),
   λ f. same-pass kind v P hk (h .1 f),
 )

@@ -8,7 +8,7 @@ use Rattle.address.specs.declared.AunAnswer.{AunAnswer}
 use Rattle.address.specs.declared.PaaAnswer.{PaaAnswer}
 use Rattle.writer.specs.Outcome as writer
 use Rattle.reader.specs.Outcome as reader
-use Rattle.verdict.specs.Verdict.{kindOf, refusalIn, psnIn, placeIn}
+use Rattle.verdict.specs.Verdict.{kindOf, refusalIn, ownPsn, placeIn}
 use Rattle.marker.specs.Marked as marker
 
 -- of the writer: the answer, and the two slices that it is lent to write
@@ -40,7 +40,7 @@ pub record Marking : Type 0 where
   pub lent : reader.Lent
 
 abbrev pub marking : marker.Marked → Marking
-marking m = record { verdict = kindOf (m .verdict); number = refusalIn (m .verdict); psn = psnIn (m .verdict); place = placeIn (m .verdict); lent = m .lent }
+marking m = record { verdict = kindOf (m .verdict); number = refusalIn (m .verdict); psn = ownPsn (m .verdict); place = placeIn (m .verdict); lent = m .lent }
 
 -- of a conversion
 pub record Number : Type 0 where

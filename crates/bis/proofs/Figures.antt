@@ -7,7 +7,7 @@ use native.Mathlib.Omega.{arith}
 use lib.ListN.{getD}
 use Rattle.laws.proofs.Finite.{all, all₂, equal-below₂, bounded-below₂}
 use Rattle.bis.specs.AccessBlock.{rowOfAF, columnOfAF, controlAt}
-use Rattle.bis.specs.BisCluster.{unitOf, rowInUnit, rowOf, columnOf, byteAt, wordAt}
+use Rattle.bis.specs.BisCluster.{unitOf, rowInUnit, bisRow, bisColumn, byteAt, wordAt}
 
 abbrev at : List ℕ → ℕ → ℕ
 at l i = getD l i 0
@@ -107,35 +107,35 @@ unit-lists = refl
 -- ---- Figure 36: AF x,y stands in row x / 3 of address unit y, in column x % 3
 
 module _ (x y : ℕ) (hx : x < 9) (hy : y < 16) where
-  pub figure-36-row : rowOf (rowOfAF x y) (columnOfAF x y) ≡ 31 * y + x / 3
+  pub figure-36-row : bisRow (rowOfAF x y) (columnOfAF x y) ≡ 31 * y + x / 3
   unfolding all all₂
-  figure-36-row = equal-below₂ 9 16 (λ x y. rowOf (rowOfAF x y) (columnOfAF x y)) (λ x y. 31 * y + x / 3) tt x y hx hy
+  figure-36-row = equal-below₂ 9 16 (λ x y. bisRow (rowOfAF x y) (columnOfAF x y)) (λ x y. 31 * y + x / 3) tt x y hx hy
 
-  pub figure-36-column : columnOf (rowOfAF x y) (columnOfAF x y) ≡ x % 3
+  pub figure-36-column : bisColumn (rowOfAF x y) (columnOfAF x y) ≡ x % 3
   unfolding all all₂
-  figure-36-column = equal-below₂ 9 16 (λ x y. columnOf (rowOfAF x y) (columnOfAF x y)) (λ x y. x % 3) tt x y hx hy
+  figure-36-column = equal-below₂ 9 16 (λ x y. bisColumn (rowOfAF x y) (columnOfAF x y)) (λ x y. x % 3) tt x y hx hy
 
 -- ---- 13.13's conclusions: which rows of an address unit hold what
 
 module _ (N C : ℕ) (hN : N < 62) (hC : C < 24) where
-  row-in : rowOf N C % 31 ≡ rowInUnit N
+  row-in : bisRow N C % 31 ≡ rowInUnit N
   unfolding all all₂
-  row-in = equal-below₂ 62 24 (λ N C. rowOf N C % 31) (λ N C. rowInUnit N) tt N C hN hC
+  row-in = equal-below₂ 62 24 (λ N C. bisRow N C % 31) (λ N C. rowInUnit N) tt N C hN hC
 
   -- information bytes, b 0,C to b 29,C, in the first 15
-  pub information-rows : N < 30 → rowOf N C % 31 < 15
+  pub information-rows : N < 30 → bisRow N C % 31 < 15
   information-rows h = omega (arith, row-in)
 
   -- parity bytes, pb 30,C to pb 61,C, in the last 16
-  pub parity-rows : 30 ≤ N → (15 ≤ rowOf N C % 31) × (rowOf N C % 31 < 31)
+  pub parity-rows : 30 ≤ N → (15 ≤ bisRow N C % 31) × (bisRow N C % 31 < 31)
   parity-rows h = (omega (arith, row-in), omega arith)
 
 -- each address field, in the first 3 of its own
 module _ (x y : ℕ) (hx : x < 9) (hy : y < 16) where
-  pub address-unit : rowOf (rowOfAF x y) (columnOfAF x y) / 31 ≡ y
+  pub address-unit : bisRow (rowOfAF x y) (columnOfAF x y) / 31 ≡ y
   unfolding all all₂
-  address-unit = equal-below₂ 9 16 (λ x y. rowOf (rowOfAF x y) (columnOfAF x y) / 31) (λ x y. y) tt x y hx hy
+  address-unit = equal-below₂ 9 16 (λ x y. bisRow (rowOfAF x y) (columnOfAF x y) / 31) (λ x y. y) tt x y hx hy
 
-  pub address-rows : rowOf (rowOfAF x y) (columnOfAF x y) % 31 < 3
+  pub address-rows : bisRow (rowOfAF x y) (columnOfAF x y) % 31 < 3
   unfolding all all₂
-  address-rows = bounded-below₂ 9 16 3 (λ x y. rowOf (rowOfAF x y) (columnOfAF x y) % 31) tt x y hx hy
+  address-rows = bounded-below₂ 9 16 3 (λ x y. bisRow (rowOfAF x y) (columnOfAF x y) % 31) tt x y hx hy

@@ -48,19 +48,19 @@ af-column-lt = bounded-below₂ 9 16 24 Access.columnOfAF tt
 -- ---- 13.13: 24 × 62 bytes of the BIS block, 496 × 3 places of the BIS cluster
 
 module _ (N C : ℕ) (hN : N < 62) (hC : C < 24) where
-  pub bis-row-lt : Bis.rowOf N C < 496
+  pub bis-row-lt : Bis.bisRow N C < 496
   unfolding all all₂
-  bis-row-lt = bounded-below₂ 62 24 496 Bis.rowOf tt N C hN hC
+  bis-row-lt = bounded-below₂ 62 24 496 Bis.bisRow tt N C hN hC
 
-  pub bis-byte-there : Bis.byteAt (Bis.rowOf N C) ≡ N
+  pub bis-byte-there : Bis.byteAt (Bis.bisRow N C) ≡ N
   unfolding all all₂
-  bis-byte-there = equal-below₂ 62 24 (λ n c. Bis.byteAt (Bis.rowOf n c)) (λ n c. n) tt N C hN hC
+  bis-byte-there = equal-below₂ 62 24 (λ n c. Bis.byteAt (Bis.bisRow n c)) (λ n c. n) tt N C hN hC
 
-  pub bis-word-there : Bis.wordAt (Bis.rowOf N C) (Bis.columnOf N C) ≡ C
+  pub bis-word-there : Bis.wordAt (Bis.bisRow N C) (Bis.bisColumn N C) ≡ C
   unfolding all all₂
-  bis-word-there = equal-below₂ 62 24 (λ n c. Bis.wordAt (Bis.rowOf n c) (Bis.columnOf n c)) (λ n c. c) tt N C hN hC
+  bis-word-there = equal-below₂ 62 24 (λ n c. Bis.wordAt (Bis.bisRow n c) (Bis.bisColumn n c)) (λ n c. c) tt N C hN hC
 
-pub bis-column-lt : (N C : ℕ) → Bis.columnOf N C < 3
+pub bis-column-lt : (N C : ℕ) → Bis.bisColumn N C < 3
 bis-column-lt N C = omega arith
 
 module _ (row column : ℕ) (hr : row < 496) (hc : column < 3) where
@@ -70,13 +70,13 @@ module _ (row column : ℕ) (hr : row < 496) (hc : column < 3) where
   pub bis-word-lt : Bis.wordAt row column < 24
   bis-word-lt = omega arith
 
-  pub bis-row-back : Bis.rowOf (Bis.byteAt row) (Bis.wordAt row column) ≡ row
+  pub bis-row-back : Bis.bisRow (Bis.byteAt row) (Bis.wordAt row column) ≡ row
   unfolding all all₂
-  bis-row-back = equal-below₂ 496 3 (λ r c. Bis.rowOf (Bis.byteAt r) (Bis.wordAt r c)) (λ r c. r) tt row column hr hc
+  bis-row-back = equal-below₂ 496 3 (λ r c. Bis.bisRow (Bis.byteAt r) (Bis.wordAt r c)) (λ r c. r) tt row column hr hc
 
-  pub bis-column-back : Bis.columnOf (Bis.byteAt row) (Bis.wordAt row column) ≡ column
+  pub bis-column-back : Bis.bisColumn (Bis.byteAt row) (Bis.wordAt row column) ≡ column
   unfolding all all₂
-  bis-column-back = equal-below₂ 496 3 (λ r c. Bis.columnOf (Bis.byteAt r) (Bis.wordAt r c)) (λ r c. c) tt row column hr hc
+  bis-column-back = equal-below₂ 496 3 (λ r c. Bis.bisColumn (Bis.byteAt r) (Bis.wordAt r c)) (λ r c. c) tt row column hr hc
 
 -- ---- each byte stands where the formulas put it
 
@@ -95,5 +95,5 @@ control-place fields side k =
     rw (le-ltb (Access.rowOfUC k) 6 (omega arith)) (ap (λ (j : ℕ). getD side j 0) place)
 
 -- byte N of code word C
-pub word-place : (block : List (List ℕ)) (N C : ℕ) → N < 62 → C < 24 → Bis.bisByte block (Bis.rowOf N C) (Bis.columnOf N C) ≡ getD (getD block C []) N 0
+pub word-place : (block : List (List ℕ)) (N C : ℕ) → N < 62 → C < 24 → Bis.bisByte block (Bis.bisRow N C) (Bis.bisColumn N C) ≡ getD (getD block C []) N 0
 word-place block N C hN hC = ap₂ (λ (c n : ℕ). getD (getD block c []) n 0) (bis-word-there N C hN hC) (bis-byte-there N C hN hC)

@@ -10,12 +10,12 @@ unitOf N C = (N / 2 + 8 - C / 3) % 8 + 8 * (N % 2)
 abbrev pub rowInUnit : ℕ → ℕ
 rowInUnit N = N / 2
 
-abbrev pub columnOf : ℕ → ℕ → ℕ
-columnOf N C = (C + N / 2) % 3
+abbrev pub bisColumn : ℕ → ℕ → ℕ
+bisColumn N C = (C + N / 2) % 3
 
 -- formula 42's row: a unit has 31 rows
-abbrev pub rowOf : ℕ → ℕ → ℕ
-rowOf N C = 31 * unitOf N C + rowInUnit N
+abbrev pub bisRow : ℕ → ℕ → ℕ
+bisRow N C = 31 * unitOf N C + rowInUnit N
 
 -- the same the other way (proofs/Mapping: word-place): byte and code word of what stands in a row and a column of the cluster
 abbrev pub byteAt : ℕ → ℕ

@@ -7,7 +7,7 @@ use lib.ListN.{length, getD, set}
 use Rattle.laws.specs.Scatter.{Scattered}
 use Rattle.laws.proofs.Fill.{Upto, upto-more}
 use Rattle.laws.proofs.Scatter.{scattered-more}
-use Rattle.bis.specs.BisCluster.{rowOf, columnOf, bisByte}
+use Rattle.bis.specs.BisCluster.{bisRow, bisColumn, bisByte}
 use Rattle.cluster.specs.Multiplex.{bisIndex}
 use Rattle.cluster.proofs.Multiplex.{bis-index-lt}
 use Rattle.cluster.proofs.Places.{bis-index-inj}
@@ -30,7 +30,7 @@ bis-turn work₀ work block m x size hm e s =
 -- ---- reading
 
 -- byte n of column c of the BIS block, read at its index i
-pub column-read : (work : List ℕ) (c n i : ℕ) (bytes : List ℕ) → n < 62 → i ≡ bisIndex (rowOf n c) (columnOf n c)
-    → Upto 0 (λ N. getD work (bisIndex (rowOf N c) (columnOf N c)) 0) 62 n bytes
-    → Upto 0 (λ N. getD work (bisIndex (rowOf N c) (columnOf N c)) 0) 62 (n + 1) (set bytes n (getD work i 0))
+pub column-read : (work : List ℕ) (c n i : ℕ) (bytes : List ℕ) → n < 62 → i ≡ bisIndex (bisRow n c) (bisColumn n c)
+    → Upto 0 (λ N. getD work (bisIndex (bisRow N c) (bisColumn N c)) 0) 62 n bytes
+    → Upto 0 (λ N. getD work (bisIndex (bisRow N c) (bisColumn N c)) 0) 62 (n + 1) (set bytes n (getD work i 0))
 column-read work c n i bytes h e u = upto-more h (ap (λ (k : ℕ). getD work k 0) e) u

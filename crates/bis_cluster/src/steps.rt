@@ -3,7 +3,7 @@ use bis::Block;
 ghost use mathlib.Core.Path.{_≡_};
 ghost use Prim.Native.Nat.{_*_, _/_, _%_, _<_};
 ghost use lib.ListN.{length};
-ghost use Rattle.bis.specs.BisCluster.{rowOf, columnOf, bisByte};
+ghost use Rattle.bis.specs.BisCluster.{bisRow, bisColumn, bisByte};
 ghost use Rattle.cluster.specs.Multiplex.{bisIndex, columnIn, bisIn};
 ghost use Rattle.bis_cluster.specs.steps.Written.{BisPut};
 ghost use Rattle.sizes.specs.Sizes.{workSize, frameCount};
@@ -37,7 +37,7 @@ pub fn put_bis(work: &mut [u8], block: &Block)
 // Where byte n of BIS code word c stands.
 fn bis_index(n: usize, c: usize) -> usize
     requires { ⌜ (n < 62) × (c < 24) ⌝ }
-    ensures { λ r. ⌜ r ≡ bisIndex (rowOf n c) (columnOf n c) ⌝ }
+    ensures { λ r. ⌜ r ≡ bisIndex (bisRow n c) (bisColumn n c) ⌝ }
 {
     let in_unit = n / 2;
     let unit = (in_unit + 8 - c / 3) % 8 + 8 * (n % 2);

@@ -84,12 +84,12 @@ unfolding bisIn columnIn
 bis-back ldc block is = sym (is-tabulate [] 24 (λ C. tabulate 62 (byte C)) block (is .columns) (λ C hC. is-tabulate 0 62 (byte C) (getD block C []) (is .size C hC) (λ N hN. sym (there N C hN hC))))
   where
     byte : ℕ → ℕ → ℕ
-    byte C N = getD (multiplexed ldc block) (bisIndex (Bis.rowOf N C) (Bis.columnOf N C)) 0
+    byte C N = getD (multiplexed ldc block) (bisIndex (Bis.bisRow N C) (Bis.bisColumn N C)) 0
 
     there : (N C : ℕ) → N < 62 → C < 24 → byte C N ≡ getD (getD block C []) N 0
     there N C hN hC =
-        let row = Bis.rowOf N C in
-        let column = Bis.columnOf N C in
+        let row = Bis.bisRow N C in
+        let column = Bis.bisColumn N C in
         getD-multiplexed ldc block (bisIndex row column) (bis-index-lt row column (bis-row-lt N C hN hC) (bis-column-lt N C))
         ∙ bis-row-byte ldc block row column (bis-row-lt N C hN hC) (bis-column-lt N C)
         ∙ ap₂ (λ (c n : ℕ). getD (getD block c []) n 0) (bis-word-there N C hN hC) (bis-byte-there N C hN hC)
@@ -102,21 +102,21 @@ is-block-in work bytes =
     record {
       columns = length-tabulate 24 columns;
       size = λ C h. ap (length {A = ℕ}) (getD-tabulate 24 columns C [] h) ∙ length-tabulate 62 (byte C);
-      bytes = λ C h. subst (λ (l : List ℕ). Bytes l) (sym (getD-tabulate 24 columns C [] h)) (bytes-tabulate 62 (byte C) (λ N _. bytes (bisIndex (Bis.rowOf N C) (Bis.columnOf N C))));
+      bytes = λ C h. subst (λ (l : List ℕ). Bytes l) (sym (getD-tabulate 24 columns C [] h)) (bytes-tabulate 62 (byte C) (λ N _. bytes (bisIndex (Bis.bisRow N C) (Bis.bisColumn N C))));
     }
   where
     byte : ℕ → ℕ → ℕ
-    byte C N = getD work (bisIndex (Bis.rowOf N C) (Bis.columnOf N C)) 0
+    byte C N = getD work (bisIndex (Bis.bisRow N C) (Bis.bisColumn N C)) 0
 
     columns : ℕ → List ℕ
     columns C = tabulate 62 (byte C)
 
 -- byte N of column C of the block
-pub getD-block-in : (work : List ℕ) (N C : ℕ) → N < 62 → C < 24 → getD (getD (bisIn work) C []) N 0 ≡ getD work (bisIndex (Bis.rowOf N C) (Bis.columnOf N C)) 0
+pub getD-block-in : (work : List ℕ) (N C : ℕ) → N < 62 → C < 24 → getD (getD (bisIn work) C []) N 0 ≡ getD work (bisIndex (Bis.bisRow N C) (Bis.bisColumn N C)) 0
 unfolding bisIn columnIn
 getD-block-in work N C hN hC =
-    ap (λ (l : List ℕ). getD l N 0) (getD-tabulate 24 (λ C. tabulate 62 (λ N. getD work (bisIndex (Bis.rowOf N C) (Bis.columnOf N C)) 0)) C [] hC)
-    ∙ getD-tabulate 62 (λ N. getD work (bisIndex (Bis.rowOf N C) (Bis.columnOf N C)) 0) N 0 hN
+    ap (λ (l : List ℕ). getD l N 0) (getD-tabulate 24 (λ C. tabulate 62 (λ N. getD work (bisIndex (Bis.bisRow N C) (Bis.bisColumn N C)) 0)) C [] hC)
+    ∙ getD-tabulate 62 (λ N. getD work (bisIndex (Bis.bisRow N C) (Bis.bisColumn N C)) 0) N 0 hN
 
 pub multiplexed-back : (work : List ℕ) → length work ≡ 76880 → multiplexed (ldcIn work) (bisIn work) ≡ work
 unfolding multiplexed

@@ -4,7 +4,7 @@ use mathlib.Core.Path.{_≡_, sym, ap, ap₂, _∙_}
 use Prim.Native.Nat.{ℕ, _+_, _*_, _-_, _/_, _%_, _<_}
 use native.Mathlib.Omega.{arith}
 use Rattle.ldc.specs.LdcCluster.{Origin, shifted}
-use Rattle.ldc.specs.Places.{placeOf}
+use Rattle.ldc.specs.Places.{ldcPlace}
 use Rattle.ldc.proofs.Interleaving.{shifted-word-lt, shifted-byte-lt, place-row, place-column, place-row-lt, place-column-lt, word-at-place, byte-at-place}
 use Rattle.cluster.specs.Multiplex.{ldcIndex, wordIndex, bisIndex}
 use Rattle.cluster.proofs.Multiplex.{ldc-index-lt, ldc-index-row, ldc-index-byte, ldc-column, bis-index-row, bis-index-byte, index-of-ldc}
@@ -28,10 +28,10 @@ origin-place k e =
 
 module _ (L N : ℕ) (hL : L < 304) (hN : N < 248) where
   abbrev row : ℕ
-  row = placeOf L N .row
+  row = ldcPlace L N .row
 
   abbrev column : ℕ
-  column = placeOf L N .column
+  column = ldcPlace L N .column
 
   hr : row < 496
   hr = place-row-lt L N hN

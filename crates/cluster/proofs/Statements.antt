@@ -23,7 +23,7 @@ use Rattle.sector.proofs.Frame.{length-sector, bytes-sector, sector-back, frame
 use Rattle.scrambling.proofs.Stream.{length-scrambled, bytes-scrambled, bytes-scrambling}
 use Rattle.ldc.specs.LdcCluster.{shifted, ldcByte}
 use Rattle.ldc.specs.LdcBlock.{dataByte, information, codeWord}
-use Rattle.ldc.specs.Places.{placeOf, at, wordIn, dataIn, frameIn}
+use Rattle.ldc.specs.Places.{ldcPlace, at, wordIn, dataIn, frameIn}
 use Rattle.ldc.proofs.CodeWords.{bytes-word, words-back, frames-back, word-roots, cluster-back, length-frame-in, bytes-frame-in}
 use Rattle.ldc.proofs.Interleaving.{place-row-lt, place-column-lt, shifted-word-lt}
 use Rattle.address.specs.declared.Psn.{Psn}
@@ -42,12 +42,12 @@ use Rattle.cluster.proofs.Multiplex.{bytes-multiplexed, length-multiple
 -- ---- code words and data frames depend on the 496 rows and 152 columns alone
 
 module _ (ldc ldc′ : ℕ → ℕ → ℕ) (agree : (row column : ℕ) → row < 496 → column < 152 → ldc row column ≡ ldc′ row column) where
-  same-at : (L N : ℕ) → N < 248 → at ldc (placeOf L N) ≡ at ldc′ (placeOf L N)
-  same-at L N h = agree (placeOf L N .row) (placeOf L N .column) (place-row-lt L N h) (place-column-lt L N)
+  same-at : (L N : ℕ) → N < 248 → at ldc (ldcPlace L N) ≡ at ldc′ (ldcPlace L N)
+  same-at L N h = agree (ldcPlace L N .row) (ldcPlace L N .column) (place-row-lt L N h) (place-column-lt L N)
 
   same-word : (L : ℕ) → wordIn ldc L ≡ wordIn ldc′ L
   unfolding wordIn
-  same-word L = tabulate-ext 0 248 (λ N. at ldc (placeOf L N)) (λ N. at ldc′ (placeOf L N)) (λ N h. same-at L N h)
+  same-word L = tabulate-ext 0 248 (λ N. at ldc (ldcPlace L N)) (λ N. at ldc′ (ldcPlace L N)) (λ N h. same-at L N h)
 
   same-frame : (F : ℕ) → frameIn ldc F ≡ frameIn ldc′ F
   unfolding frameIn

@@ -5,7 +5,7 @@ use Prim.Native.Nat.{ℕ, _+_, _*_, _-_, _/_, _%_}
 use lib.Dec.{eqb}
 use lib.ListN.{getD}
 use Rattle.laws.specs.Tabulate.{tabulate}
-use Rattle.ldc.specs.Places.{placeOf}
+use Rattle.ldc.specs.Places.{ldcPlace}
 use Rattle.bis.specs.BisCluster as Bis
 use Rattle.sizes.specs.Sizes.{workSize, rowSize}
 
@@ -28,7 +28,7 @@ bisIndex row column = rowSize * row + 39 * column + 38
 
 -- where byte N of LDC code word L stands
 abbrev pub wordIndex : ℕ → ℕ → ℕ
-wordIndex L N = ldcIndex (placeOf L N .row) (placeOf L N .column)
+wordIndex L N = ldcIndex (ldcPlace L N .row) (ldcPlace L N .column)
 
 -- the LDC cluster by row and column
 abbrev pub ldcIn : List ℕ → ℕ → ℕ → ℕ
@@ -36,7 +36,7 @@ ldcIn work row column = getD work (ldcIndex row column) 0
 
 -- column C of the BIS block
 unfoldable pub columnIn : List ℕ → ℕ → List ℕ
-columnIn work C = tabulate 62 (λ N. getD work (bisIndex (Bis.rowOf N C) (Bis.columnOf N C)) 0)
+columnIn work C = tabulate 62 (λ N. getD work (bisIndex (Bis.bisRow N C) (Bis.bisColumn N C)) 0)
 
 unfoldable pub bisIn : List ℕ → List (List ℕ)
 bisIn work = tabulate 24 (columnIn work)

@@ -22,7 +22,14 @@ fn first_other(n: usize, a: &[u8], b: &[u8]) -> usize
 }
 
 // What is given beside what was read in an accepted image: the PSN, then the user bytes, then the side data.
-pub fn compare(psn: Psn, user: &[u8], side: &[u8], found: Psn, bytes: &[u8], control: &[u8]) -> Verdict
+pub fn compare(
+    psn: Psn,
+    user: &[u8],
+    side: &[u8],
+    found: Psn,
+    bytes: &[u8],
+    control: &[u8],
+) -> Verdict
     requires { ⌜ ((65536 ≤ length (now user)) × (592 ≤ length (now side))) × ((65536 ≤ length (now bytes)) × (592 ≤ length (now control))) ⌝ }
     ensures { λ r. ⌜ r ≡ compared (psn .0) (now (user .entry)) (now (side .entry)) (found .0) (now (bytes .entry)) (now (control .entry)) ⌝ }
 {

@@ -16,7 +16,7 @@ use Rattle.modulation.proofs.Bits.{bits-injective, pairs-dataBits}
 use Rattle.modulation.proofs.Size.{size}
 use Rattle.modulation.specs.Groups.{Inside, groupsAt, frameAt}
 use Rattle.modulation.proofs.Groups.{length-groupsAt, bits-groupsAt}
-use Rattle.automaton.specs.Automaton.{start, ending, stateAfter, numberAfter, accepts, numberOf}
+use Rattle.automaton.specs.Automaton.{start, ending, stateAfter, numberAfter, accepts, numberRead}
 use Rattle.automaton.specs.steps.Table.{After}
 use Rattle.demodulator.specs.steps.Held.{Held, NextWord, LastWord}
 use Rattle.modulation.specs.Words.{bitsIn, Words, WordsRead}
@@ -147,7 +147,7 @@ module _ {bytes : List ℕ} {at : ℕ} (before hash : Bool) (inside : Inside byt
     words-are : Words after
     words-are = words-set ws 27 word (omega arith) (r .words) (end .below)
 
-    all-joined : joined after 28 ≡ numberOf (start before) 0 whole hash
+    all-joined : joined after 28 ≡ numberRead (start before) 0 whole hash
     all-joined =
         let last : i ≡ 27 = omega (arith, r .within) in
         joined-more ws 27 word (omega (arith, r .words .size))

@@ -21,12 +21,12 @@ use Rattle.modulation.proofs.Fronts.{bits-dataBits}
 use Rattle.modulation.proofs.Size.{size}
 use Rattle.laws.proofs.Booleans.{and-left, and-right, and-true, true-T, beq-same, beq-refl}
 use Rattle.modulation.proofs.Statements.{comes-back, injective}
-use Rattle.frame_bits.specs.FrameBits.{frameBits, rowOf, dcOf}
+use Rattle.frame_bits.specs.FrameBits.{frameBits, rowFrom, dcFrom}
 use Rattle.frame.specs.Frame.{framePairs, nextHash}
 use Rattle.laws.specs.Same.{same}
 use Rattle.frame.specs.declared.FrameRead.{FrameRead}
 use Rattle.frame.specs.declared.FrameRead.the-variants.{Found, NoFrame}
-use Rattle.frame.specs.Reading.{BitsGive, RowGives, StrictlyRead, Taken, bitsRead, readable, frameRead, rowRead}
+use Rattle.frame.specs.Reading.{BitsGive, RowGives, StrictlyRead, Taken, bitsRead, readable, frameRead, rowLeft}
 use Rattle.laws.proofs.Same.{same-true, same-refl}
 use Rattle.frame_bits.proofs.FrameBits.{length-frame-bits, frame-bits-bits, frame-bits-back, frame-bits-inj, length-row, bytes-row, dc-word-lt}
 use Rattle.frame_bits.proofs.Unweaving.{length-words-bits, words-bits-bits}
@@ -42,7 +42,7 @@ module _ {n : FS} {m : List ℕ} {hash : Bool} where
         gives = record { same-bits = r .bits-are; same-end = r .next-is };
       }
 
-  pub bits-row : {b : List ℕ} → BitsGive n b m hash → RowGives n (rowOf b) (dcOf b) m hash
+  pub bits-row : {b : List ℕ} → BitsGive n b m hash → RowGives n (rowFrom b) (dcFrom b) m hash
   bits-row {b} g =
       let back = frame-bits-back b (g .are-bits) (g .size) in
       record {
@@ -145,8 +145,8 @@ module _ {n : FS} {m : List ℕ} {hash : Bool} {before after : List ℕ} {answer
       go NoFrame e = absurd (r .none e .1 (frameBits row dc) (row-bits g))
 
   -- answer and row are those of the definition
-  pub read-is : (answer ≡ frameRead n m hash) × (after ≡ rowRead n m hash before)
-  unfolding frameRead rowRead
+  pub read-is : (answer ≡ frameRead n m hash) × (after ≡ rowLeft n m hash before)
+  unfolding frameRead rowLeft
   read-is = go (readable n m hash) refl
     where
       b : List ℕ
@@ -156,7 +156,7 @@ module _ {n : FS} {m : List ℕ} {hash : Bool} {before after : List ℕ} {answer
       none f (Found x) e = absurd (true≢false (sym (gives-readable n m hash (row-bits (r .found x e))) ∙ f))
       none f NoFrame e = e
 
-      go : (t : Bool) → readable n m hash ≡ t → (answer ≡ cond (readable n m hash) (Found (dcOf b)) NoFrame) × (after ≡ cond (readable n m hash) (rowOf b) before)
+      go : (t : Bool) → readable n m hash ≡ t → (answer ≡ cond (readable n m hash) (Found (dcFrom b)) NoFrame) × (after ≡ cond (readable n m hash) (rowFrom b) before)
       go true t = let u = read-row (bits-row (readable-gives n m hash t)) in rw t (u .0, u .1)
       go false t = let e = none t answer refl in rw t (e, r .none e .0)
 
@@ -185,7 +185,7 @@ reads n {b} {hash} {x} {m} {ws} {before} {after} {answer} eb d t = by x refl
     by true e =
         let is = t .there e in
         record {
-          found = λ v f. let same : v ≡ dcOf (bitsIn ws) = found-is v (dcOf (bitsIn ws)) (sym f ∙ is .0) in rw (is .1, same) (bits-row (words-give e));
+          found = λ v f. let same : v ≡ dcFrom (bitsIn ws) = found-is v (dcFrom (bitsIn ws)) (sym f ∙ is .0) in rw (is .1, same) (bits-row (words-give e));
           none = λ f. absurd (no-found (sym (is .0) ∙ f));
         }
     by false e =
@@ -195,7 +195,7 @@ reads n {b} {hash} {x} {m} {ws} {before} {after} {answer} eb d t = by x refl
           none = λ _. (is .1, λ c g. d .none e (pairs c) (subst (λ (y : Bool). Gives y (pairs c) m hash) (sym eb) (g .gives)));
         }
 
-pub taken-there : {ws before after : List ℕ} {x : Bool} {dc : ℕ} → x ≡ true → after ≡ rowOf (bitsIn ws) → dc ≡ dcOf (bitsIn ws) → Taken ws x before (Found dc) after
+pub taken-there : {ws before after : List ℕ} {x : Bool} {dc : ℕ} → x ≡ true → after ≡ rowFrom (bitsIn ws) → dc ≡ dcFrom (bitsIn ws) → Taken ws x before (Found dc) after
 taken-there e er ed = record { there = λ _. (ap Found ed, er); none = λ f. absurd (true≢false (sym e ∙ f)) }
 
 pub taken-none : {ws before : List ℕ} {x : Bool} → x ≡ false → Taken ws x before NoFrame before

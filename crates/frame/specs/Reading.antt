@@ -14,7 +14,7 @@ use Rattle.modulation.specs.Stream.{modulated}
 use Rattle.modulation.specs.Demodulator.{demodulate}
 use Rattle.modulation.specs.Words.{bitsIn}
 use Rattle.laws.specs.Same.{same}
-use Rattle.frame_bits.specs.FrameBits.{rowOf, dcOf}
+use Rattle.frame_bits.specs.FrameBits.{rowFrom, dcFrom}
 use Rattle.frame.specs.Frame.{framePairs, nextHash}
 use Rattle.frame.specs.declared.FrameRead.{FrameRead}
 use Rattle.frame.specs.declared.FrameRead.the-variants.{Found, NoFrame}
@@ -42,7 +42,7 @@ pub record StrictlyRead (n : FS) (m : List ℕ) (hash : Bool) (before : List ℕ
 
 -- the frame that stands in words, if it was found
 pub record Taken (ws : List ℕ) (found : Bool) (before : List ℕ) (answer : FrameRead) (after : List ℕ) : Type 0 where
-  pub there : found ≡ true → (answer ≡ Found (dcOf (bitsIn ws))) × (after ≡ rowOf (bitsIn ws))
+  pub there : found ≡ true → (answer ≡ Found (dcFrom (bitsIn ws))) × (after ≡ rowFrom (bitsIn ws))
   pub none : found ≡ false → (answer ≡ NoFrame) × (after ≡ before)
 
 -- ---- the same, computed
@@ -59,7 +59,7 @@ readable n m hash =
 
 -- the reader's answer, and the row's slice behind it
 unfoldable pub frameRead : FS → List ℕ → Bool → FrameRead
-frameRead n m hash = cond (readable n m hash) (Found (dcOf (bitsRead n m hash))) NoFrame
+frameRead n m hash = cond (readable n m hash) (Found (dcFrom (bitsRead n m hash))) NoFrame
 
-unfoldable pub rowRead : FS → List ℕ → Bool → List ℕ → List ℕ
-rowRead n m hash before = cond (readable n m hash) (rowOf (bitsRead n m hash)) before
+unfoldable pub rowLeft : FS → List ℕ → Bool → List ℕ → List ℕ
+rowLeft n m hash before = cond (readable n m hash) (rowFrom (bitsRead n m hash)) before

@@ -14,7 +14,7 @@ use Rattle.bits.specs.Bits.{Bits, bitsOf, bitsOfNumber, number, packed}
 use Rattle.bits.proofs.Bits.{length-bits, bits-bits}
 use Rattle.bits.proofs.Number.{number-of-bits, number-lt, length-bits-of, getD-bits-of, number-bit}
 use Rattle.bits.proofs.Pack.{packed-bits, bits-packed, length-packed, bytes-packed}
-use Rattle.frame_bits.specs.FrameBits.{group, position, frameBit, frameBits, dataPlace, dcPlace, rowOf, dcOf}
+use Rattle.frame_bits.specs.FrameBits.{group, position, frameBit, frameBits, dataPlace, dcPlace, rowFrom, dcFrom}
 
 pub length-frame-bits : (row : List ℕ) (dc : ℕ) → length (frameBits row dc) ≡ 1268
 unfolding frameBits
@@ -85,8 +85,8 @@ module _ (row : List ℕ) (dc : ℕ) where
           ∙ data-bit row dc (dataPlace p) (λ e. omega (arith, data-position p))
           ∙ ap (λ (q : ℕ). getD (bitsOf row) q 0) (data-there p)
 
-  pub row-back : length row ≡ 155 → Bytes row → rowOf (frameBits row dc) ≡ row
-  unfolding rowOf
+  pub row-back : length row ≡ 155 → Bytes row → rowFrom (frameBits row dc) ≡ row
+  unfolding rowFrom
   row-back size bytes = ap packed (data-bits size) ∙ packed-bits row bytes
 
   dc-bits : tabulate 28 (λ i. getD (frameBits row dc) (dcPlace i) 0) ≡ bitsOfNumber 28 dc
@@ -99,16 +99,16 @@ module _ (row : List ℕ) (dc : ℕ) where
           ∙ ap (λ (k : ℕ). dc / 2 ^ (27 - k) % 2) (dc-there i)
           ∙ sym (getD-bits-of 28 dc i h)
 
-  pub dc-word-back : dc < 2 ^ 28 → dcOf (frameBits row dc) ≡ dc
-  unfolding dcOf
+  pub dc-word-back : dc < 2 ^ 28 → dcFrom (frameBits row dc) ≡ dc
+  unfolding dcFrom
   dc-word-back small = ap number dc-bits ∙ number-of-bits 28 dc ∙ mod-eq-of-lt small
 
 -- two rows and dc words with the same bits are the same
 pub frame-bits-inj : (row row′ : List ℕ) (dc dc′ : ℕ) → length row ≡ 155 → length row′ ≡ 155 → Bytes row → Bytes row′ → dc < 2 ^ 28 → dc′ < 2 ^ 28
     → frameBits row dc ≡ frameBits row′ dc′ → (row ≡ row′) × (dc ≡ dc′)
 frame-bits-inj row row′ dc dc′ size size′ bytes bytes′ small small′ e = (
-  sym (row-back row dc size bytes) ∙ ap rowOf e ∙ row-back row′ dc′ size′ bytes′,
-  sym (dc-word-back row dc small) ∙ ap dcOf e ∙ dc-word-back row′ dc′ small′,
+  sym (row-back row dc size bytes) ∙ ap rowFrom e ∙ row-back row′ dc′ size′ bytes′,
+  sym (dc-word-back row dc small) ∙ ap dcFrom e ∙ dc-word-back row′ dc′ small′,
 )
 
 -- ---- bits come back
@@ -127,41 +127,41 @@ module _ (b : List ℕ) (bits : Bits b) where
         | no h ↦ rw (List·getD-eq-default (tabulate n (λ k. getD b (place k) 0)) 0 {n = k} (omega (arith, length-tabulate n (λ k. getD b (place k) 0)))) (omega arith)
       ]
 
-  pub length-row : length (rowOf b) ≡ 155
-  unfolding rowOf
+  pub length-row : length (rowFrom b) ≡ 155
+  unfolding rowFrom
   length-row = omega (arith, length-packed taken, length-tabulate 1240 (λ p. getD b (dataPlace p) 0))
 
-  pub bytes-row : Bytes (rowOf b)
-  unfolding rowOf
+  pub bytes-row : Bytes (rowFrom b)
+  unfolding rowFrom
   bytes-row = bytes-packed taken (gathered-bits 1240 dataPlace)
 
-  pub dc-word-lt : dcOf b < 2 ^ 28
-  unfolding dcOf
+  pub dc-word-lt : dcFrom b < 2 ^ 28
+  unfolding dcFrom
   dc-word-lt = subst (λ (n : ℕ). number control < 2 ^ n) (length-tabulate 28 (λ i. getD b (dcPlace i) 0)) (number-lt control (gathered-bits 28 dcPlace))
 
-  row-bits : bitsOf (rowOf b) ≡ taken
-  unfolding rowOf
+  row-bits : bitsOf (rowFrom b) ≡ taken
+  unfolding rowFrom
   row-bits = bits-packed taken (gathered-bits 1240 dataPlace) (omega (arith, length-tabulate 1240 (λ p. getD b (dataPlace p) 0)))
 
-  dc-word-bit : (i : ℕ) → i < 28 → dcOf b / 2 ^ (27 - i) % 2 ≡ getD b (dcPlace i) 0
-  unfolding dcOf
+  dc-word-bit : (i : ℕ) → i < 28 → dcFrom b / 2 ^ (27 - i) % 2 ≡ getD b (dcPlace i) 0
+  unfolding dcFrom
   dc-word-bit i h =
       let size = length-tabulate 28 (λ i. getD b (dcPlace i) 0) in
       sym (ap (λ (n : ℕ). number control / 2 ^ (n - 1 - i) % 2) size)
       ∙ number-bit control i (gathered-bits 28 dcPlace) (omega (arith, size))
       ∙ getD-tabulate 28 (λ i. getD b (dcPlace i) 0) i 0 h
 
-  at-each : (j : ℕ) → j < 1268 → frameBit (rowOf b) (dcOf b) j ≡ getD b j 0
+  at-each : (j : ℕ) → j < 1268 → frameBit (rowFrom b) (dcFrom b) j ≡ getD b j 0
   at-each j h =
       elim (ℕ-discrete (position j) 45) [
-        | yes e ↦ dc-bit (rowOf b) (dcOf b) j e ∙ dc-word-bit (group j) (omega arith) ∙ ap (λ (q : ℕ). getD b q 0) (dc-back j e)
+        | yes e ↦ dc-bit (rowFrom b) (dcFrom b) j e ∙ dc-word-bit (group j) (omega arith) ∙ ap (λ (q : ℕ). getD b q 0) (dc-back j e)
         | no e ↦
-            data-bit (rowOf b) (dcOf b) j e
+            data-bit (rowFrom b) (dcFrom b) j e
             ∙ ap (λ (l : List ℕ). getD l (j - group j) 0) row-bits
             ∙ getD-tabulate 1240 (λ p. getD b (dataPlace p) 0) (j - group j) 0 (omega arith)
             ∙ ap (λ (q : ℕ). getD b q 0) (data-back j (omega arith))
       ]
 
-  pub frame-bits-back : length b ≡ 1268 → frameBits (rowOf b) (dcOf b) ≡ b
+  pub frame-bits-back : length b ≡ 1268 → frameBits (rowFrom b) (dcFrom b) ≡ b
   unfolding frameBits
-  frame-bits-back size = sym (is-tabulate 0 1268 (frameBit (rowOf b) (dcOf b)) b size (λ j h. sym (at-each j h)))
+  frame-bits-back size = sym (is-tabulate 0 1268 (frameBit (rowFrom b) (dcFrom b)) b size (λ j h. sym (at-each j h)))

@@ -19,7 +19,7 @@ use Rattle.bits.specs.Bits.{Bits, number, bitsOfNumber}
 use Rattle.bits.proofs.Number.{length-bits-of, getD-bits-of, number-of-bits}
 use Rattle.bits.proofs.Pack.{getD-packed}
 use Rattle.modulation.specs.Words as words
-use Rattle.frame_bits.specs.FrameBits.{dataPlace, dcPlace, rowOf, dcOf}
+use Rattle.frame_bits.specs.FrameBits.{dataPlace, dcPlace, rowFrom, dcFrom}
 use Rattle.frame_bits.specs.steps.Slices.{FiveBytes}
 use Rattle.frame_bits.proofs.FrameBits.{length-row}
 use Rattle.frame_bits.proofs.Window.{in-first, in-second}
@@ -76,8 +76,8 @@ rowBit b k i = getD b (dataPlace (8 * k + i)) 0
 unfoldable pub dcBit : List ℕ → ℕ → ℕ
 dcBit b i = getD b (dcPlace i) 0
 
-pub row-byte : (b : List ℕ) (k v : ℕ) → k < 155 → v ≡ number (tabulate 8 (rowBit b k)) → v ≡ getD (rowOf b) k 0
-unfolding rowOf rowBit
+pub row-byte : (b : List ℕ) (k v : ℕ) → k < 155 → v ≡ number (tabulate 8 (rowBit b k)) → v ≡ getD (rowFrom b) k 0
+unfolding rowFrom rowBit
 row-byte b k v h e = e ∙ sym (getD-packed all k (omega (arith, size)) ∙ ap number eight)
   where
     all : List ℕ
@@ -94,8 +94,8 @@ row-byte b k v h e = e ∙ sym (getD-packed all k (omega (arith, size)) ∙ ap n
         ∙ getD-drop (8 * k) all i 0
         ∙ getD-tabulate 1240 (λ p. getD b (dataPlace p) 0) (8 * k + i) 0 (omega arith))
 
-pub dc-word : (b : List ℕ) {v : ℕ} → v ≡ number (tabulate 28 (dcBit b)) → v ≡ dcOf b
-unfolding dcOf dcBit
+pub dc-word : (b : List ℕ) {v : ℕ} → v ≡ number (tabulate 28 (dcBit b)) → v ≡ dcFrom b
+unfolding dcFrom dcBit
 dc-word b e = e
 
 -- ---- out of words
@@ -178,7 +178,7 @@ module _ (ws : List ℕ) (m : ℕ) (hm : m < 31) (h : (i : ℕ) → getD ws i 0 
           | no h ↦ in-second 45 a b off small within (omega arith) 40 (omega arith) is u hu (omega arith) ∙ row-bit u (i + 1) (off + u - 45) hu (omega arith) (omega arith)
         ]
 
-    pub five-bytes : FiveBytes (rowOf (words.bitsIn ws)) m v
+    pub five-bytes : FiveBytes (rowFrom (words.bitsIn ws)) m v
     unfolding rowBit
     five-bytes = record { each = λ t ht. (row-byte (words.bitsIn ws) (5 * m + t) (v / 2 ^ (32 - 8 * t) % 256) (omega arith) (sym (number-of-bits 8 (v / 2 ^ (32 - 8 * t))) ∙ ap number (eight t ht))) }
       where
@@ -214,5 +214,5 @@ row-five {row} {l} {m} {v} h five u =
     front : (m : ℕ) → 5 * m + 0 ≡ 5 * m
     front m = omega arith
 
-pub row-all : (b : List ℕ) {row : List ℕ} {m : ℕ} → Bits b → 31 ≤ m → Upto 0 (λ k. getD (rowOf b) k 0) 155 (5 * m) row → row ≡ rowOf b
-row-all b bits h u = upto-all (omega arith) u ∙ sym (is-tabulate 0 155 (λ k. getD (rowOf b) k 0) (rowOf b) (length-row b bits) (λ k _. refl))
+pub row-all : (b : List ℕ) {row : List ℕ} {m : ℕ} → Bits b → 31 ≤ m → Upto 0 (λ k. getD (rowFrom b) k 0) 155 (5 * m) row → row ≡ rowFrom b
+row-all b bits h u = upto-all (omega arith) u ∙ sym (is-tabulate 0 155 (λ k. getD (rowFrom b) k 0) (rowFrom b) (length-row b bits) (λ k _. refl))

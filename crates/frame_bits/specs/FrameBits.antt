@@ -33,8 +33,8 @@ abbrev pub dcPlace : ℕ → ℕ
 dcPlace i = 46 * i + 25
 
 -- the row and the dc word of a frame's bits
-unfoldable pub rowOf : List ℕ → List ℕ
-rowOf b = packed (tabulate 1240 (λ p. getD b (dataPlace p) 0))
+unfoldable pub rowFrom : List ℕ → List ℕ
+rowFrom b = packed (tabulate 1240 (λ p. getD b (dataPlace p) 0))
 
-unfoldable pub dcOf : List ℕ → ℕ
-dcOf b = number (tabulate 28 (λ i. getD b (dcPlace i) 0))
+unfoldable pub dcFrom : List ℕ → ℕ
+dcFrom b = number (tabulate 28 (λ i. getD b (dcPlace i) 0))

@@ -4,7 +4,7 @@ ghost use Prim.Native.Nat.{_+_, _*_, _-_, _/_, _%_, _^_, _<_};
 ghost use lib.ListN.{length, getD};
 ghost use Rattle.bits.specs.Bits.{bitsOf};
 ghost use Rattle.modulation.specs.Bits.{pairs};
-ghost use Rattle.frame_bits.specs.FrameBits.{frameBits, rowOf, dcOf};
+ghost use Rattle.frame_bits.specs.FrameBits.{frameBits, rowFrom, dcFrom};
 ghost use Rattle.frame_bits.specs.steps.Slices.{FiveBytes};
 ghost use Rattle.frame_bits.specs.steps.Words.{Word, GroupData, SixteenFrom, SixteenOn, bitOf, LastTwo};
 ghost use Rattle.modulation.specs.Words.{bitsIn, Words};
@@ -105,7 +105,7 @@ pub fn last_two(words: &[u64; 29]) -> usize
 // The five bytes of its row at 5 m, as a number: 40 of the 45 data bits from 40 m on, out of two words. 35184372088832 is 2^45.
 fn five_in(words: &[u64; 29], m: usize) -> u64
     requires { ⌜ Words (now words) × (m < 31) ⌝ }
-    ensures { λ r. ⌜ FiveBytes (rowOf (bitsIn (now (words .entry)))) m r ⌝ }
+    ensures { λ r. ⌜ FiveBytes (rowFrom (bitsIn (now (words .entry)))) m r ⌝ }
 {
     let p = 40 * m + 20;
     let i = p / 45;
@@ -116,7 +116,7 @@ fn five_in(words: &[u64; 29], m: usize) -> u64
 // Its row.
 pub fn row_in(words: &[u64; 29], row: &mut [u8])
     requires { ⌜ Words (now words) × (length (now row) ≡ rowSize) ⌝ }
-    ensures { λ _. ⌜ now (row .exit) ≡ rowOf (bitsIn (now (words .entry))) ⌝ }
+    ensures { λ _. ⌜ now (row .exit) ≡ rowFrom (bitsIn (now (words .entry))) ⌝ }
 {
     let mut m = 0;
     while m < 31 {
@@ -133,7 +133,7 @@ pub fn row_in(words: &[u64; 29], row: &mut [u8])
 // Its dc word.
 pub fn dc_in(words: &[u64; 29]) -> u32
     requires { ⌜ Words (now words) ⌝ }
-    ensures { λ r. ⌜ r ≡ dcOf (bitsIn (now (words .entry))) ⌝ }
+    ensures { λ r. ⌜ r ≡ dcFrom (bitsIn (now (words .entry))) ⌝ }
 {
     let mut dc = 0;
     let mut i = 0;

@@ -14,7 +14,7 @@ use Rattle.frame.specs.Frame.{frame}
 use Rattle.frame.proofs.Frame.{length-frame}
 use Rattle.gaps.specs.declared.Tally.{Tally}
 use Rattle.gaps.specs.Gaps.{gapCounts, gapAt, howMany}
-use Rattle.frame_gaps.specs.Tally.{dcIn, accepted, refusal, frameIn, tallied, inputOf}
+use Rattle.frame_gaps.specs.Tally.{tallyDc, accepted, refusal, tallyFrame, tallied, inputOf}
 use Rattle.frame_gaps.proofs.FrameCounted.{bits-frame}
 use Rattle.gaps.proofs.Neighbours.{counts-often}
 
@@ -36,14 +36,14 @@ module _ (input : List ℕ) {a : Tally} (r : a ≡ refusal) where
   pub refused-number : 6 < getD input 1 0 → a ≡ tallied input
   refused-number h = refused (and-false (eqb (length input) 161) _ (and-false (ltb (getD input 0 0) 2) _ (rw (le-ltb (getD input 1 0) 7 h))))
 
-  pub refused-dc : {dc : ℕ} → dc ≡ dcIn input → 268435455 < dc → a ≡ tallied input
+  pub refused-dc : {dc : ℕ} → dc ≡ tallyDc input → 268435455 < dc → a ≡ tallied input
   refused-dc {dc} e h =
       refused
       (and-false (eqb (length input) 161) _ (and-false (ltb (getD input 0 0) 2) _
-      (and-false (ltb (getD input 1 0) 7) _ (le-ltb (dcIn input) (2 ^ 28) (omega arith)))))
+      (and-false (ltb (getD input 1 0) 7) _ (le-ltb (tallyDc input) (2 ^ 28) (omega arith)))))
 
 -- the row is lent as the part of the input from 6 on
-pub tallied-counts : (input : List ℕ) {dc : ℕ} {c : List ℕ} → length input ≡ 161 → getD input 0 0 ≤ 1 → getD input 1 0 ≤ 6 → dc ≡ dcIn input → dc ≤ 268435455
+pub tallied-counts : (input : List ℕ) {dc : ℕ} {c : List ℕ} → length input ≡ 161 → getD input 0 0 ≤ 1 → getD input 1 0 ≤ 6 → dc ≡ tallyDc input → dc ≤ 268435455
     → c ≡ gapCounts (frame (eqb (getD input 0 0) 1) (fs (getD input 1 0)) (take (length input - 6) (drop 6 input)) dc)
     → record { accepted = true; counts = c } ≡ tallied input
 unfolding tallied
@@ -52,7 +52,7 @@ tallied-counts input {dc} {c} size hash number e small counts =
       eq-eqb (length input) 161 size,
       lt-ltb (getD input 0 0) 2 (omega arith),
       lt-ltb (getD input 1 0) 7 (omega arith),
-      lt-ltb (dcIn input) (2 ^ 28) (omega arith),
+      lt-ltb (tallyDc input) (2 ^ 28) (omega arith),
       counts,
       e,
       take-all (length input - 6) (drop 6 input) (omega (arith, length-drop 6 input)),
@@ -61,12 +61,12 @@ tallied-counts input {dc} {c} size hash number e small counts =
 -- ---- what is tallied
 
 -- of an accepted input: of each length from 1 to 8, how many places of the frame's 1,932 bits begin such a gap
-pub tallied-often : (input : List ℕ) → accepted input ≡ true → (k : ℕ) → k < 8 → getD (tallied input .counts) k 0 ≡ howMany 1932 (gapAt (frameIn input) (suc k))
+pub tallied-often : (input : List ℕ) → accepted input ≡ true → (k : ℕ) → k < 8 → getD (tallied input .counts) k 0 ≡ howMany 1932 (gapAt (tallyFrame input) (suc k))
 unfolding tallied
 tallied-often input e k h =
-    ap (λ (t : Bool). getD (cond t (record { accepted = true; counts = gapCounts (frameIn input) }) refusal .counts) k 0) e
-    ∙ counts-often (frameIn input) (bits-frame _ _ _ _) k h
-    ∙ ap (λ (m : ℕ). howMany m (gapAt (frameIn input) (suc k))) (length-frame _ _ _ _)
+    ap (λ (t : Bool). getD (cond t (record { accepted = true; counts = gapCounts (tallyFrame input) }) refusal .counts) k 0) e
+    ∙ counts-often (tallyFrame input) (bits-frame _ _ _ _) k h
+    ∙ ap (λ (m : ℕ). howMany m (gapAt (tallyFrame input) (suc k))) (length-frame _ _ _ _)
 
 -- of the bytes that give a frame: its gap counts
 module _ (hash : Bool) (number : ℕ) (row : List ℕ) (dc : ℕ) (size : length row ≡ 155) (few : number < 7) (small : dc < 2 ^ 28) where
@@ -74,7 +74,7 @@ module _ (hash : Bool) (number : ℕ) (row : List ℕ) (dc : ℕ) (size : length
   same-hash true = (refl, refl)
   same-hash false = (refl, refl)
 
-  same-dc : dcIn (inputOf hash number row dc) ≡ dc
+  same-dc : tallyDc (inputOf hash number row dc) ≡ dc
   same-dc = omega arith
 
   given : accepted (inputOf hash number row dc) ≡ true
@@ -83,13 +83,13 @@ module _ (hash : Bool) (number : ℕ) (row : List ℕ) (dc : ℕ) (size : length
         eq-eqb (length (inputOf hash number row dc)) 161 (omega arith),
         same-hash hash .1,
         lt-ltb number 7 few,
-        lt-ltb (dcIn (inputOf hash number row dc)) (2 ^ 28) (omega (arith, same-dc)),
+        lt-ltb (tallyDc (inputOf hash number row dc)) (2 ^ 28) (omega (arith, same-dc)),
       )
 
   pub frame-tallied : tallied (inputOf hash number row dc) ≡ record { accepted = true; counts = gapCounts (frame hash (fs number) row dc) }
   unfolding tallied
   frame-tallied =
-      ap (λ (t : Bool). cond t (record { accepted = true; counts = gapCounts (frameIn (inputOf hash number row dc)) }) refusal) given
+      ap (λ (t : Bool). cond t (record { accepted = true; counts = gapCounts (tallyFrame (inputOf hash number row dc)) }) refusal) given
       ∙ ap₂ (λ (h : Bool) (d : ℕ). record { accepted = true; counts = gapCounts (frame h (fs number) row d) }) (same-hash hash .0) same-dc
 
   -- and they are bytes

@@ -10,22 +10,22 @@ use Rattle.gaps.specs.declared.Tally.{Tally}
 use Rattle.gaps.specs.Gaps.{gapCounts}
 
 -- the input is # (00h or 01h), a sync number from 0 to 6, a dc word of at most 0FFFFFFFh in four bytes, and 155 frame bytes
-abbrev pub dcIn : List ℕ → ℕ
-dcIn input = ((getD input 2 0 * 256 + getD input 3 0) * 256 + getD input 4 0) * 256 + getD input 5 0
+abbrev pub tallyDc : List ℕ → ℕ
+tallyDc input = ((getD input 2 0 * 256 + getD input 3 0) * 256 + getD input 4 0) * 256 + getD input 5 0
 
 abbrev pub accepted : List ℕ → Bool
-accepted input = eqb (length input) 161 && (ltb (getD input 0 0) 2 && (ltb (getD input 1 0) 7 && ltb (dcIn input) (2 ^ 28)))
+accepted input = eqb (length input) 161 && (ltb (getD input 0 0) 2 && (ltb (getD input 1 0) 7 && ltb (tallyDc input) (2 ^ 28)))
 
 abbrev pub refusal : Tally
 refusal = record { accepted = false; counts = replicate 8 0 }
 
 -- the frame that the input gives
-abbrev pub frameIn : List ℕ → List ℕ
-frameIn input = frame (eqb (getD input 0 0) 1) (fs (getD input 1 0)) (drop 6 input) (dcIn input)
+abbrev pub tallyFrame : List ℕ → List ℕ
+tallyFrame input = frame (eqb (getD input 0 0) 1) (fs (getD input 1 0)) (drop 6 input) (tallyDc input)
 
 -- its gap counts, or a refusal
 unfoldable pub tallied : List ℕ → Tally
-tallied input = cond (accepted input) (record { accepted = true; counts = gapCounts (frameIn input) }) refusal
+tallied input = cond (accepted input) (record { accepted = true; counts = gapCounts (tallyFrame input) }) refusal
 
 -- the 161 bytes that give a frame
 abbrev pub inputOf : Bool → ℕ → List ℕ → ℕ → List ℕ

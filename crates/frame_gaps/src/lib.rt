@@ -7,7 +7,7 @@ ghost use lib.ListN.{length};
 ghost use Rattle.gaps.specs.Gaps.{gapCounts};
 ghost use Rattle.frame_sync.specs.Sync.{fs};
 ghost use Rattle.frame.specs.Frame.{frame};
-ghost use Rattle.frame_gaps.specs.Tally.{dcIn, refusal, tallied};
+ghost use Rattle.frame_gaps.specs.Tally.{tallyDc, refusal, tallied};
 ghost use Rattle.sizes.specs.Sizes.{rowSize};
 
 // Room for a frame.
@@ -47,7 +47,7 @@ fn wide(x: u8) -> u32
 // The dc word of the input, four bytes from 2 on.
 fn dc_in(input: &[u8]) -> u32
     requires { ⌜ length (now input) ≡ 161 ⌝ }
-    ensures { λ r. ⌜ r ≡ dcIn (now (input .entry)) ⌝ }
+    ensures { λ r. ⌜ r ≡ tallyDc (now (input .entry)) ⌝ }
 {
     ((wide(input[2]) * 256 + wide(input[3])) * 256 + wide(input[4])) * 256 + wide(input[5])
 }

@@ -1,8 +1,8 @@
 // Recording frames read strictly (13.15, 13.17.4).
-use frame::FrameRead;
-use frame::TwoRead;
 use automaton::Table;
 use demodulator::Found;
+use frame::FrameRead;
+use frame::TwoRead;
 use frame_sync::steps::sync_end;
 ghost use mathlib.Core.Path.{_≡_};
 ghost use Prim.Native.Nat.{_+_, _*_, _<_, _≤_};

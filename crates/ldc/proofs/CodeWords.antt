@@ -15,7 +15,7 @@ use Rattle.column.proofs.Parity.{parity-length, parity-bytes, parity-test, test
 use Rattle.column.proofs.Multiple.{parity-multiple}
 use Rattle.ldc.specs.LdcBlock.{dataByte, information, codeWord}
 use Rattle.ldc.specs.LdcCluster.{shifted, ldcByte}
-use Rattle.ldc.specs.Places.{placeOf, at, wordIn, dataIn, frameIn}
+use Rattle.ldc.specs.Places.{ldcPlace, at, wordIn, dataIn, frameIn}
 use Rattle.ldc.proofs.Interleaving.{place-column-lt, shifted-word-lt, shifted-byte-lt, byte-at-place, word-at-place, place-row, place-column}
 
 -- ---- code words
@@ -65,13 +65,13 @@ module _ (frames : ℕ → List ℕ) (L : ℕ) (bytes : (F : ℕ) → Bytes (fra
 -- ---- what a cluster was made of comes out again
 
 -- the byte at the place of byte N of code word L
-pub byte-at : (frames : ℕ → List ℕ) (L N : ℕ) → L < 304 → at (ldcByte frames) (placeOf L N) ≡ getD (codeWord frames L) N 0
+pub byte-at : (frames : ℕ → List ℕ) (L N : ℕ) → L < 304 → at (ldcByte frames) (ldcPlace L N) ≡ getD (codeWord frames L) N 0
 byte-at frames L N h = ap₂ (λ (l n : ℕ). getD (codeWord frames l) n 0) (word-at-place L N h) (byte-at-place L N h)
 
 pub words-back : (frames : ℕ → List ℕ) → ((F : ℕ) → Bytes (frames F)) → (L : ℕ) → L < 304 → wordIn (ldcByte frames) L ≡ codeWord frames L
 unfolding wordIn
 words-back frames bytes L h =
-    sym (is-tabulate 0 248 (λ N. at (ldcByte frames) (placeOf L N)) (codeWord frames L) (length-word frames L bytes) (λ N _. sym (byte-at frames L N h)))
+    sym (is-tabulate 0 248 (λ N. at (ldcByte frames) (ldcPlace L N)) (codeWord frames L) (length-word frames L bytes) (λ N _. sym (byte-at frames L N h)))
 
 data-back : (frames : ℕ → List ℕ) (p : ℕ) → p < 65664 → dataIn (ldcByte frames) p ≡ dataByte frames p
 data-back frames p h =
@@ -97,21 +97,21 @@ length-frame-in cluster F = length-tabulate 2052 (λ k. dataIn cluster (2052 * F
 module _ (cluster : ℕ → ℕ → ℕ) (bytes : (row column : ℕ) → row < 496 → column < 152 → cluster row column < 256) where
   pub bytes-word-in : (L : ℕ) → Bytes (wordIn cluster L)
   unfolding wordIn
-  bytes-word-in L = bytes-tabulate 248 (λ N. at cluster (placeOf L N)) (λ N h. bytes (placeOf L N .row) (placeOf L N .column) (omega arith) (place-column-lt L N))
+  bytes-word-in L = bytes-tabulate 248 (λ N. at cluster (ldcPlace L N)) (λ N h. bytes (ldcPlace L N .row) (ldcPlace L N .column) (omega arith) (place-column-lt L N))
 
   pub bytes-frame-in : (F : ℕ) → Bytes (frameIn cluster F)
   unfolding frameIn
   bytes-frame-in F =
       bytes-tabulate 2052 (λ k. dataIn cluster (2052 * F + k))
-      (λ k h. let p = 2052 * F + k in bytes (placeOf (p / 216) (p % 216) .row) (placeOf (p / 216) (p % 216) .column) (omega arith) (place-column-lt (p / 216) (p % 216)))
+      (λ k h. let p = 2052 * F + k in bytes (ldcPlace (p / 216) (p % 216) .row) (ldcPlace (p / 216) (p % 216) .column) (omega arith) (place-column-lt (p / 216) (p % 216)))
 
   length-word-in : (L : ℕ) → length (wordIn cluster L) ≡ 248
   unfolding wordIn
-  length-word-in L = length-tabulate 248 (λ N. at cluster (placeOf L N))
+  length-word-in L = length-tabulate 248 (λ N. at cluster (ldcPlace L N))
 
-  getD-word-in : (L N : ℕ) → N < 248 → getD (wordIn cluster L) N 0 ≡ at cluster (placeOf L N)
+  getD-word-in : (L N : ℕ) → N < 248 → getD (wordIn cluster L) N 0 ≡ at cluster (ldcPlace L N)
   unfolding wordIn
-  getD-word-in L N h = getD-tabulate 248 (λ N. at cluster (placeOf L N)) N 0 h
+  getD-word-in L N h = getD-tabulate 248 (λ N. at cluster (ldcPlace L N)) N 0 h
 
   -- the information bytes of a code word are those of the data block
   message-in : (L : ℕ) → L < 304 → take 216 (wordIn cluster L) ≡ information (frameIn cluster) L
@@ -120,7 +120,7 @@ module _ (cluster : ℕ → ℕ → ℕ) (bytes : (row column : ℕ) → row < 4
       is-tabulate 0 216 (λ i. dataByte (frameIn cluster) (216 * L + i)) (take 216 (wordIn cluster L)) (length-take-le 216 (wordIn cluster L) (omega (arith, length-word-in L)))
       (λ i l. getD-take 216 (wordIn cluster L) i 0 l ∙ getD-word-in L i (omega arith) ∙ sym (byte i l))
     where
-      byte : (i : ℕ) → i < 216 → dataByte (frameIn cluster) (216 * L + i) ≡ at cluster (placeOf L i)
+      byte : (i : ℕ) → i < 216 → dataByte (frameIn cluster) (216 * L + i) ≡ at cluster (ldcPlace L i)
       byte i l =
           let p = 216 * L + i in
           let whole : 2052 * (p / 2052) + p % 2052 ≡ p = omega arith in
@@ -128,7 +128,7 @@ module _ (cluster : ℕ → ℕ → ℕ) (bytes : (row column : ℕ) → row < 4
           let place : p % 216 ≡ i = omega arith in
           getD-tabulate 2052 (λ k. dataIn cluster (2052 * (p / 2052) + k)) (p % 2052) 0 (omega arith)
           ∙ ap (dataIn cluster) whole
-          ∙ ap₂ (λ (w n : ℕ). at cluster (placeOf w n)) word place
+          ∙ ap₂ (λ (w n : ℕ). at cluster (ldcPlace w n)) word place
 
   pub made-of-words : (L : ℕ) → L < 304 → hasRoots 32 (wordIn cluster L) ≡ true → codeWord (frameIn cluster) L ≡ wordIn cluster L
   unfolding codeWord

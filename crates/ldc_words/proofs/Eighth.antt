@@ -22,7 +22,7 @@ use Rattle.sector.specs.DataFrame.{edcRight}
 use Rattle.scrambling.specs.Scrambling.{scrambled}
 use Rattle.ldc.specs.declared.Place.{Place}
 use Rattle.ldc.specs.LdcBlock.{dataByte, information, codeWord}
-use Rattle.ldc.specs.Places.{placeOf, wordIn, dataIn, frameIn}
+use Rattle.ldc.specs.Places.{ldcPlace, wordIn, dataIn, frameIn}
 use Rattle.ldc.proofs.CodeWords.{length-frame-in}
 use Rattle.ldc.proofs.Interleaving.{place-column-lt}
 use Rattle.cluster.specs.Multiplex.{ldcIndex, wordIndex, ldcIn}
@@ -75,9 +75,9 @@ late c i hc hi h =
 
 module _ (e n : ℕ) where
   abbrev column : ℕ
-  column = placeOf (38 * e) n .column
+  column = ldcPlace (38 * e) n .column
 
-  column-of : (i : ℕ) → placeOf (38 * e + 2 * i) n .column ≡ (column + i) % 152
+  column-of : (i : ℕ) → ldcPlace (38 * e + 2 * i) n .column ≡ (column + i) % 152
   column-of i = omega arith
 
   index-of : (i : ℕ) → wordIndex (38 * e + 2 * i) n ≡ 310 * n + offset ((column + i) % 152)
@@ -93,7 +93,7 @@ module _ (e n : ℕ) where
       ap₂ (λ (r h : ℕ). ldcIndex (2 * n + r) ((h + 152 - 3 * n % 152) % 152)) odd half ∙ omega arith
 
   -- the run that begins at the column where `locate` finds byte n of the first code word
-  pub run-of : (p : Place) → n < 248 → p ≡ placeOf (38 * e) n
+  pub run-of : (p : Place) → n < 248 → p ≡ ldcPlace (38 * e) n
       → RunOf e n (38 - p .column % 38) (310 * n + p .column + p .column / 38) (310 * n + next (p .column) + next (p .column) / 38)
   run-of p hn eq = subst (λ (q : Place). RunOf e n (38 - q .column % 38) (310 * n + q .column + q .column / 38) (310 * n + next (q .column) + next (q .column) / 38)) (sym eq)
       (record {
@@ -110,7 +110,7 @@ pub run-inside : (e n i k : ℕ) → e < 8 → n < 248 → i < 19 → k ≡ word
 run-inside e n i k he hn hi at = omega (arith, at, odd-index e n i, word-index-lt (38 * e + (2 * i + 1)) n (omega arith) hn)
 
 -- what `locate` answers is a column of the LDC cluster
-pub located : (p : Place) (L N : ℕ) → p ≡ placeOf L N → p .column < 152
+pub located : (p : Place) (L N : ℕ) → p ≡ ldcPlace L N → p .column < 152
 located p L N at = subst (λ (q : Place). q .column < 152) (sym at) (place-column-lt L N)
 
 -- ---- a turn of each loop

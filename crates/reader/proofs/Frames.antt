@@ -11,11 +11,11 @@ use lib.Seq.{getD-append-add}
 use Rattle.laws.proofs.First.{Passed, passed-none, passed-more, first-here, first-past}
 use Rattle.laws.proofs.Fill.{Upto, upto-none, upto-more, upto-part, upto-all}
 use Rattle.modulation.specs.Sync.{FS, syncNumber}
-use Rattle.frame_bits.specs.FrameBits.{rowOf}
+use Rattle.frame_bits.specs.FrameBits.{rowFrom}
 use Rattle.frame_sync.specs.Sync.{fs, fsNumber}
 use Rattle.frame.specs.declared.FrameRead.{FrameRead}
 use Rattle.frame.specs.declared.FrameRead.the-variants.{Found, NoFrame}
-use Rattle.frame.specs.Reading.{StrictlyRead, readable, frameRead, rowRead}
+use Rattle.frame.specs.Reading.{StrictlyRead, readable, frameRead, rowLeft}
 use Rattle.frame_sync.proofs.SyncTables.{fs-number}
 use Rattle.frame_bits.proofs.FrameBits.{length-row}
 use Rattle.frame.proofs.Reading.{readable-gives, read-is, found-is, no-found}
@@ -30,7 +30,7 @@ module _ (b : List ℕ) (n : ℕ) where
   readable-is e = not-false (readable (syncNumber n) (modulatedAt b n) (hashBehind b n)) e
 
   -- where some bits give it, its row has 155 bytes
-  pub length-row-in : noFrame b n ≡ false → length (rowOf (frameBitsIn b n)) ≡ 155
+  pub length-row-in : noFrame b n ≡ false → length (rowFrom (frameBitsIn b n)) ≡ 155
   length-row-in e = length-row (frameBitsIn b n) (readable-gives (syncNumber n) (modulatedAt b n) (hashBehind b n) (readable-is e) .are-bits)
 
 -- a frame as it is read with the number of its sync, from bit q on
@@ -53,16 +53,16 @@ module _ (b : List ℕ) (n number q : ℕ) {before p : List ℕ} {hash : Bool} {
           let answered : r ≡ NoFrame = read-is strictly .0 ∙ rw e in
           record { found = λ dc f. absurd (no-found (sym f ∙ answered)); none = λ f. ap not e }
 
-  pub row-is : noFrame b n ≡ false → p ≡ rowOf (frameBitsIn b n)
-  unfolding rowRead
+  pub row-is : noFrame b n ≡ false → p ≡ rowFrom (frameBitsIn b n)
+  unfolding rowLeft
   row-is e = read-is strictly .1 ∙ rw (readable-is b n e)
 
 -- two rows in the places of frames n and n + 1, as `read_two` leaves p there
-pub two-rows : (b work p : List ℕ) (n m : ℕ) → m ≡ 310 → take 155 p ≡ rowOf (frameBitsIn b n) → drop 155 p ≡ rowOf (frameBitsIn b (n + 1))
+pub two-rows : (b work p : List ℕ) (n m : ℕ) → m ≡ 310 → take 155 p ≡ rowFrom (frameBitsIn b n) → drop 155 p ≡ rowFrom (frameBitsIn b (n + 1))
     → take (155 * n) work ++ (p ++ drop m (drop (155 * n) work))
-    ≡ take (155 * n) work ++ ((rowOf (frameBitsIn b n) ++ rowOf (frameBitsIn b (n + 1))) ++ drop 310 (drop (155 * n) work))
+    ≡ take (155 * n) work ++ ((rowFrom (frameBitsIn b n) ++ rowFrom (frameBitsIn b (n + 1))) ++ drop 310 (drop (155 * n) work))
 two-rows b work p n m em row next =
-    let rows : p ≡ rowOf (frameBitsIn b n) ++ rowOf (frameBitsIn b (n + 1)) = sym (take-append-drop 155 p) ∙ ap₂ _++_ row next in
+    let rows : p ≡ rowFrom (frameBitsIn b n) ++ rowFrom (frameBitsIn b (n + 1)) = sym (take-append-drop 155 p) ∙ ap₂ _++_ row next in
     ap₂ (λ (l : List ℕ) (k : ℕ). take (155 * n) work ++ (l ++ drop k (drop (155 * n) work))) rows em
 
 -- ---- the loop
@@ -98,7 +98,7 @@ module _ {b dc work after : List ℕ} {n : ℕ} {first second : FrameRead} (u : 
       }
     where
       row : ℕ → List ℕ
-      row k = rowOf (frameBitsIn b k)
+      row k = rowFrom (frameBitsIn b k)
 
       long : noFrame b n ≡ false → noFrame b (n + 1) ≡ false → length (row n ++ row (n + 1)) ≡ 310
       long e f = omega (arith, length-append (row n) (row (n + 1)), length-row-in b n e, length-row-in b (n + 1) f)

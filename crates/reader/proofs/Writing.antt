@@ -16,7 +16,7 @@ use Rattle.modulation.specs.Bits.{bits}
 use Rattle.modulation.specs.Sync.{sync, syncNumber}
 use Rattle.modulation.specs.Stream.{Recording, hash, stream}
 use Rattle.modulation.proofs.Streams.{frame-bits, sync-bits}
-use Rattle.frame_bits.specs.FrameBits.{frameBits, rowOf, dcOf}
+use Rattle.frame_bits.specs.FrameBits.{frameBits, rowFrom, dcFrom}
 use Rattle.frame.specs.Frame.{frame}
 use Rattle.frame_sync.specs.Sync.{hashAt}
 use Rattle.frame.specs.Reading.{RowGives}
@@ -132,7 +132,7 @@ module _ (input : Input) (is : IsAccepted input) where
           let n = k / 155 in
           let hn : n < 496 = omega arith in
           let whole : 155 * n + k % 155 ≡ k = omega arith in
-          ap (λ (l : List ℕ). getD (rowOf l) (k % 155) 0) (bits-there n hn)
+          ap (λ (l : List ℕ). getD (rowFrom l) (k % 155) 0) (bits-there n hn)
           ∙ ap (λ (l : List ℕ). getD l (k % 155) 0) (row-back (Ecc.rowOf work n) (getD (input .dc) n 0) (row-size n hn) (row-bytes n))
           ∙ getD-take 155 (drop (155 * n) work) (k % 155) 0 (omega arith)
           ∙ getD-drop (155 * n) work (k % 155) 0
@@ -141,4 +141,4 @@ module _ (input : Input) (is : IsAccepted input) where
   pub dc-there : dcIn b ≡ input .dc
   unfolding dcIn
   dc-there =
-      sym (is-tabulate 0 496 (dcWordIn b) (input .dc) (is .dc .size) (λ n h. sym (ap dcOf (bits-there n h) ∙ dc-word-back (Ecc.rowOf work n) (getD (input .dc) n 0) (dc-small n h))))
+      sym (is-tabulate 0 496 (dcWordIn b) (input .dc) (is .dc .size) (λ n h. sym (ap dcFrom (bits-there n h) ∙ dc-word-back (Ecc.rowOf work n) (getD (input .dc) n 0) (dc-small n h))))

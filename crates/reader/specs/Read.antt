@@ -5,7 +5,7 @@ use mathlib.Core.List.{List, _++_}
 use Prim.Native.Nat.{ℕ, _+_, _*_, _≤_}
 use lib.ListN.{length, take, drop}
 use Rattle.laws.specs.Tabulate.{tabulate}
-use Rattle.frame_bits.specs.FrameBits.{rowOf}
+use Rattle.frame_bits.specs.FrameBits.{rowFrom}
 use Rattle.frame.specs.declared.FrameRead.{FrameRead}
 use Rattle.frame.specs.declared.FrameRead.the-variants.{Found, NoFrame}
 use Rattle.answer.specs.declared.Answer.the-variants.{Done}
@@ -27,7 +27,7 @@ pub record TwoFrames (b : List ℕ) (n : ℕ) (before : List ℕ) (first second 
   pub one : FrameAnswer b n first
   pub two : FrameAnswer b (n + 1) second
   pub rows : noFrame b n ≡ false → noFrame b (n + 1) ≡ false
-      → after ≡ take (155 * n) before ++ ((rowOf (frameBitsIn b n) ++ rowOf (frameBitsIn b (n + 1))) ++ drop 310 (drop (155 * n) before))
+      → after ≡ take (155 * n) before ++ ((rowFrom (frameBitsIn b n) ++ rowFrom (frameBitsIn b (n + 1))) ++ drop 310 (drop (155 * n) before))
   pub size : length after ≡ length before
 
 -- the frames up to the first that no bits give; where there is none, the dc words and the cluster

@@ -18,7 +18,7 @@ use Rattle.modulation.specs.Bits.{bits}
 use Rattle.modulation.specs.Sync.{sync, syncNumber}
 use Rattle.modulation.specs.Stream.{Recording, hash, recorded, run, stream}
 use Rattle.modulation.proofs.Bits.{bits-append}
-use Rattle.frame_bits.specs.FrameBits.{rowOf}
+use Rattle.frame_bits.specs.FrameBits.{rowFrom}
 use Rattle.frame.specs.Frame.{frame}
 use Rattle.frame_sync.specs.Sync.{hashAt, syncRight}
 use Rattle.frame.specs.Reading.{RowGives}
@@ -62,7 +62,7 @@ module _ (first : Bool) (b : List ℕ) (passes : Passes first b) where
 
   -- ---- rows and dc words
 
-  gives : (n : ℕ) → n < 496 → RowGives (syncNumber n) (rowOf (frameBitsIn b n)) (dcWordIn b n) (modulatedAt b n) (hashBehind b n)
+  gives : (n : ℕ) → n < 496 → RowGives (syncNumber n) (rowFrom (frameBitsIn b n)) (dcWordIn b n) (modulatedAt b n) (hashBehind b n)
   unfolding firstNoFrame
   gives n h = bits-row (readable-gives (syncNumber n) (modulatedAt b n) (hashBehind b n) (readable-is b n (first-all 496 (noFrame b) (passes .frames) n h)))
 
@@ -74,19 +74,19 @@ module _ (first : Bool) (b : List ℕ) (passes : Passes first b) where
   unfolding clusterIn
   bytes-work = bytes-tabulate 76880 (clusterByte b) (λ k h. gives (k / 155) (omega arith) .bytes (k % 155))
 
-  row-there : (n : ℕ) → n < 496 → Ecc.rowOf work n ≡ rowOf (frameBitsIn b n)
+  row-there : (n : ℕ) → n < 496 → Ecc.rowOf work n ≡ rowFrom (frameBitsIn b n)
   unfolding clusterIn
   row-there n h =
-      ext-getD 0 (Ecc.rowOf work n) (rowOf (frameBitsIn b n)) (length-row work length-work n h ∙ sym (gives n h .size)) (λ k l. byte k (omega (arith, length-row work length-work n h)))
+      ext-getD 0 (Ecc.rowOf work n) (rowFrom (frameBitsIn b n)) (length-row work length-work n h ∙ sym (gives n h .size)) (λ k l. byte k (omega (arith, length-row work length-work n h)))
     where
-      byte : (k : ℕ) → k < 155 → getD (Ecc.rowOf work n) k 0 ≡ getD (rowOf (frameBitsIn b n)) k 0
+      byte : (k : ℕ) → k < 155 → getD (Ecc.rowOf work n) k 0 ≡ getD (rowFrom (frameBitsIn b n)) k 0
       byte k l =
           let row : (155 * n + k) / 155 ≡ n = omega arith in
           let column : (155 * n + k) % 155 ≡ k = omega arith in
           getD-take 155 (drop (155 * n) work) k 0 l
           ∙ getD-drop (155 * n) work k 0
           ∙ getD-tabulate 76880 (clusterByte b) (155 * n + k) 0 (omega arith)
-          ∙ ap₂ (λ (i j : ℕ). getD (rowOf (frameBitsIn b i)) j 0) row column
+          ∙ ap₂ (λ (i j : ℕ). getD (rowFrom (frameBitsIn b i)) j 0) row column
 
   pub length-dc : length dc ≡ 496
   unfolding dcIn

@@ -16,7 +16,7 @@ use Rattle.modulation.specs.Bits.{bits}
 use Rattle.modulation.specs.Sync.{sync, syncNumber}
 use Rattle.modulation.specs.Stream.{Recording, hash, stream}
 use Rattle.modulation.proofs.Streams.{length-stream, frame-bits, sync-bits}
-use Rattle.frame_bits.specs.FrameBits.{frameBits, rowOf, dcOf}
+use Rattle.frame_bits.specs.FrameBits.{frameBits, rowFrom, dcFrom}
 use Rattle.frame_bits.proofs.FrameBits.{row-back, dc-word-back}
 use Rattle.frame_sync.specs.Sync.{hashAt}
 use Rattle.frame_sync.proofs.SyncRight.{hash-as-read, sync-is-right}
@@ -113,7 +113,7 @@ module _ (first : Bool) (work dc b z : List ℕ) (is : Recordable work dc) (ther
           let n = k / 155 in
           let hn : n < 496 = omega arith in
           let whole : 155 * n + k % 155 ≡ k = omega arith in
-          ap (λ (l : List ℕ). getD (rowOf l) (k % 155) 0) (bits-there n hn)
+          ap (λ (l : List ℕ). getD (rowFrom l) (k % 155) 0) (bits-there n hn)
           ∙ ap (λ (l : List ℕ). getD l (k % 155) 0) (row-back (Ecc.rowOf work n) (getD dc n 0) (row-size n hn) (row-bytes n))
           ∙ getD-take 155 (drop (155 * n) work) (k % 155) 0 (omega arith)
           ∙ getD-drop (155 * n) work (k % 155) 0
@@ -122,4 +122,4 @@ module _ (first : Bool) (work dc b z : List ℕ) (is : Recordable work dc) (ther
   pub dc-there : dcIn b ≡ dc
   unfolding dcIn
   dc-there =
-      sym (is-tabulate 0 496 (dcWordIn b) dc (is .words) (λ n h. sym (ap dcOf (bits-there n h) ∙ dc-word-back (Ecc.rowOf work n) (getD dc n 0) (is .small n h))))
+      sym (is-tabulate 0 496 (dcWordIn b) dc (is .words) (λ n h. sym (ap dcFrom (bits-there n h) ∙ dc-word-back (Ecc.rowOf work n) (getD dc n 0) (is .small n h))))

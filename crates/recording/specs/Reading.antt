@@ -7,7 +7,7 @@ use lib.ListN.{getD, take, drop}
 use Rattle.laws.specs.First.{first}
 use Rattle.laws.specs.Tabulate.{tabulate}
 use Rattle.modulation.specs.Sync.{syncNumber}
-use Rattle.frame_bits.specs.FrameBits.{rowOf, dcOf}
+use Rattle.frame_bits.specs.FrameBits.{rowFrom, dcFrom}
 use Rattle.frame_sync.specs.Sync.{hashAt, syncRight}
 use Rattle.frame.specs.Reading.{bitsRead, readable}
 use Rattle.sizes.specs.Sizes.{workSize, frameCount, frameSize, rowSize}
@@ -43,13 +43,13 @@ abbrev pub frameBitsIn : List ℕ → ℕ → List ℕ
 frameBitsIn b n = bitsRead (syncNumber n) (modulatedAt b n) (hashBehind b n)
 
 abbrev pub clusterByte : List ℕ → ℕ → ℕ
-clusterByte b k = getD (rowOf (frameBitsIn b (k / rowSize))) (k % rowSize) 0
+clusterByte b k = getD (rowFrom (frameBitsIn b (k / rowSize))) (k % rowSize) 0
 
 unfoldable pub clusterIn : List ℕ → List ℕ
 clusterIn b = tabulate workSize (clusterByte b)
 
 abbrev pub dcWordIn : List ℕ → ℕ → ℕ
-dcWordIn b n = dcOf (frameBitsIn b n)
+dcWordIn b n = dcFrom (frameBitsIn b n)
 
 unfoldable pub dcIn : List ℕ → List ℕ
 dcIn b = tabulate frameCount (dcWordIn b)

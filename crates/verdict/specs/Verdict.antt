@@ -18,12 +18,12 @@ refusalIn (OtherPsn psn) = 0
 refusalIn (OtherUser n) = 0
 refusalIn (OtherSide n) = 0
 
-abbrev pub psnIn : Verdict → ℕ
-psnIn Pass = 0
-psnIn (Refused a) = 0
-psnIn (OtherPsn psn) = psn .0
-psnIn (OtherUser n) = 0
-psnIn (OtherSide n) = 0
+abbrev pub ownPsn : Verdict → ℕ
+ownPsn Pass = 0
+ownPsn (Refused a) = 0
+ownPsn (OtherPsn psn) = psn .0
+ownPsn (OtherUser n) = 0
+ownPsn (OtherSide n) = 0
 
 abbrev pub placeIn : Verdict → ℕ
 placeIn Pass = 0

@@ -2,7 +2,7 @@
 use address::Psn;
 use answer::Answer;
 ghost use mathlib.Core.Path.{_≡_};
-ghost use Rattle.verdict.specs.Verdict.{kindOf, refusalIn, psnIn, placeIn};
+ghost use Rattle.verdict.specs.Verdict.{kindOf, refusalIn, ownPsn, placeIn};
 
 // Document 01 has no number for it; `Refused` carries the reader's answer.
 pub enum Verdict {
@@ -43,7 +43,7 @@ impl Verdict {
     }
 
     pub fn own_psn(self) -> u32
-        ensures { λ r. ⌜ r ≡ psnIn self ⌝ }
+        ensures { λ r. ⌜ r ≡ ownPsn self ⌝ }
     {
         match self {
             Verdict::Pass => 0,

@@ -26,7 +26,15 @@ fn put_frame(
 {
     let row = cluster::row(work, n);
     let number = frame_sync::sync_number(n);
-    frame_writer::steps::write_frame(table, row, dc[n], number, state, image, at + sizes::FRAME * n)
+    frame_writer::steps::write_frame(
+        table,
+        row,
+        dc[n],
+        number,
+        state,
+        image,
+        at + sizes::FRAME * n,
+    )
 }
 
 // The 496 frames, from bit `at` on. `first` has # of the first sync, and the answer # of the sync behind them.

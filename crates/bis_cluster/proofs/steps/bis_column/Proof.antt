@@ -4,14 +4,14 @@ use Prim.Native.Nat.{_-_}
 use borrow.Author.Needs.{needs}
 use lib.ListN.{getD}
 use Rattle.laws.proofs.Fill.{Upto, upto-none, upto-all}
-use Rattle.bis.specs.BisCluster.{rowOf, columnOf}
+use Rattle.bis.specs.BisCluster.{bisRow, bisColumn}
 use Rattle.cluster.specs.Multiplex.{bisIndex, columnIn}
 use Rattle.bis_cluster.proofs.Loops.{column-read}
 use Rattle.bis_cluster.proofs.steps.bis_column.Statement.{statement}
 use Rattle.bis_cluster.proofs.steps.bis_column.Tie as tie
 
 abbrev Inv-loop : tie.InvT-loop
-Inv-loop work c column₀ n₀ column n = Upto 0 (λ N. getD work (bisIndex (rowOf N c) (columnOf N c)) 0) 62 n column
+Inv-loop work c column₀ n₀ column n = Upto 0 (λ N. getD work (bisIndex (bisRow N c) (bisColumn N c)) 0) 62 n column
 
 abbrev μ-loop : tie.MeasureT-loop
 μ-loop work c column₀ n₀ column n = 62 - n

@@ -5,13 +5,13 @@ use borrow.Author.Needs.{needs}
 use lib.ListN.{getD, length-set}
 use Rattle.laws.proofs.Fill.{Upto, upto-none}
 use Rattle.modulation.specs.Words.{bitsIn}
-use Rattle.frame_bits.specs.FrameBits.{rowOf}
+use Rattle.frame_bits.specs.FrameBits.{rowFrom}
 use Rattle.frame_bits.proofs.Unweaving.{row-five, row-all, words-bits-bits}
 use Rattle.frame_bits.proofs.steps.row_in.Statement.{statement}
 use Rattle.frame_bits.proofs.steps.row_in.Tie as tie
 
 abbrev Inv-loop : tie.InvT-loop
-Inv-loop words row₀ m₀ row m = Upto 0 (λ k. getD (rowOf (bitsIn words)) k 0) 155 (5 * m) row
+Inv-loop words row₀ m₀ row m = Upto 0 (λ k. getD (rowFrom (bitsIn words)) k 0) 155 (5 * m) row
 
 abbrev μ-loop : tie.MeasureT-loop
 μ-loop words row₀ m₀ row m = 31 - m
