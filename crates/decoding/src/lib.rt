@@ -3,7 +3,7 @@ use address::Psn;
 use answer::Answer;
 use report::Said;
 ghost use mathlib.Core.Path.{_≡_};
-ghost use Rattle.decoding.specs.Decoded.{SaidOf, Decoded, decodedWords, decoded};
+ghost use Rattle.decoding.specs.Decoded.{SaidOf, decodedWords, decoded};
 
 // What is said of an image that was read: the PSN, and dc gets the bytes of the words; or the answer that refuses it.
 fn say(answer: Answer, psn: Psn, words: &[u32], dc: &mut [u8]) -> Said

@@ -2,7 +2,7 @@
 use address::Psn;
 use report::Said;
 ghost use mathlib.Core.Path.{_≡_};
-ghost use Rattle.encoding.specs.Encoded.{Encoded, encodedWords, encoded};
+ghost use Rattle.encoding.specs.Encoded.{encodedWords, encoded};
 
 // The image of a cluster with these dc words.
 fn encode_words(psn: Psn, user: &[u8], side: &[u8], words: &[u32], image: &mut [u8]) -> Said

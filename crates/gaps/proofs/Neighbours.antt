@@ -94,7 +94,7 @@ begun-often (suc zero ∷ l) b n z = ap (λ (c : ℕ). cond (eqb z n) (suc c) c)
 begun-often (suc (suc x) ∷ l) b n z = absurd (omega (arith, b 0))
 
 -- the count of a gap length is the number of places i with neighbouring ones at i and i + n + 1
-pub counted-often : (l : List ℕ) → Bits l → (n : ℕ) → count n (gaps l) ≡ howMany (length l) (gapAt l n)
+counted-often : (l : List ℕ) → Bits l → (n : ℕ) → count n (gaps l) ≡ howMany (length l) (gapAt l n)
 unfolding howMany
 counted-often [] b n = refl
 counted-often (zero ∷ l) b n = counted-often l (tail-bits 0 l b) n

@@ -1,14 +1,9 @@
 -- The words of an answer and a verdict: how long they are, and how they are put together. Assumes nothing.
 use mathlib.Core.Path.{_≡_, refl, sym, ap, ap₂, _∙_}
-use mathlib.Core.Bool.{Bool, true, false, cond}
-use mathlib.Core.List.{List, [], _∷_, _++_, append-assoc}
-use Prim.Native.Nat.{ℕ, suc, _+_, _*_, _≤_, _<_}
-use native.Mathlib.Numerals.{add-one}
+use mathlib.Core.List.{List, _++_, append-assoc}
+use Prim.Native.Nat.{ℕ, _+_, _≤_}
 use native.Mathlib.Omega.{arith}
-use borrow.Author.Tests.{lt-ltb}
-use lib.Dec.{ltb}
-use lib.ListN.{length, length-append, getD, drop}
-use lib.Seq.{drop-cons, drop-length}
+use lib.ListN.{length, length-append}
 use Rattle.answer.specs.declared.Answer.{Answer}
 use Rattle.answer.specs.declared.Answer.the-variants.{Done, WrongUser, WrongSide, WrongDc, WrongImage, WrongWork, NoMultiple, NoZone, DcWord, LastBits, Sync, Frame, BisColumn, AddressUnit, NoPsn, LdcColumn, Sector}
 use Rattle.answer.specs.Answer.{numberOf, placeOf}
@@ -16,9 +11,9 @@ use Rattle.verdict.specs.declared.Verdict.{Verdict}
 use Rattle.verdict.specs.declared.Verdict.the-variants.{Pass, Refused, OtherPsn, OtherUser, OtherSide}
 use Rattle.texts.specs.declared.Text.{Text}
 use Rattle.texts.specs.Text.{the, textOf, blankText, added}
-use Rattle.texts.specs.Numbers.{decimalTo, decimal, hexadecimal}
+use Rattle.texts.specs.Numbers.{decimal, hexadecimal}
 use Rattle.texts.specs.Pieces.{piece}
-use Rattle.texts.proofs.Texts.{added-two, added-three, from-blank}
+use Rattle.texts.proofs.Texts.{added-three, from-blank}
 use Rattle.texts.proofs.Numbers.{decimal-short}
 use Rattle.report.specs.Words.{meaning, answerText, psnText, verdictText}
 

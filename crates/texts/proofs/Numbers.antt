@@ -45,7 +45,7 @@ tens n k few =
     let less : suc k - 1 ≡ k = omega arith in
     (omega arith, (omega arith, omega arith, λ h. rw less (omega arith)))
 
-pub decimal-is : (k f n : ℕ) → k ≤ f → Fewest 10 1 n k → digits 10 k n ≡ decimalTo f n
+decimal-is : (k f n : ℕ) → k ≤ f → Fewest 10 1 n k → digits 10 k n ≡ decimalTo f n
 unfolding decimalTo
 decimal-is zero f n h few = absurd (omega (arith, few .0))
 decimal-is (suc k) zero n h few = absurd (omega arith)

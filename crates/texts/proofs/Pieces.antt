@@ -32,24 +32,24 @@ bar-passed bars b e = rw (eq-eqb b 124 e)
 pub byte-passed : (bars b : ℕ) → (b ≡ 124 → ⊥) → bars ≡ cond (eqb b 124) (bars - 1) bars
 byte-passed bars b e = rw (ne-eqb b 124 e)
 
-pub behind-all : (l : List ℕ) (k : ℕ) → PieceBehind l k 0 k
-behind-all l k = record { within = omega arith; rest = λ n. refl }
+pub bars-all : (l : List ℕ) (k : ℕ) → PieceBehind l k 0 k
+bars-all l k = record { within = omega arith; rest = λ n. refl }
 
 module _ {l : List ℕ} {k i bars : ℕ} (p : PieceBehind l k i bars) where
-  pub behind-fewer : {fewer : ℕ} → i < length l → (bars ≡ 0 → ⊥) → fewer ≡ cond (eqb (getD l i 0) 124) (bars - 1) bars → PieceBehind l k (i + 1) fewer
+  pub bars-fewer : {fewer : ℕ} → i < length l → (bars ≡ 0 → ⊥) → fewer ≡ cond (eqb (getD l i 0) 124) (bars - 1) bars → PieceBehind l k (i + 1) fewer
   unfolding piece
-  behind-fewer {fewer} h some e = record { within = omega arith; rest = λ n. ap (λ (b : ℕ). piece b n (drop (i + 1) l)) e ∙ rw add-one (step n bars some) ∙ ap (piece bars n) (sym (drop-cons l i 0 h)) ∙ p .rest n }
+  bars-fewer {fewer} h some e = record { within = omega arith; rest = λ n. ap (λ (b : ℕ). piece b n (drop (i + 1) l)) e ∙ rw add-one (step n bars some) ∙ ap (piece bars n) (sym (drop-cons l i 0 h)) ∙ p .rest n }
     where
       step : (n b : ℕ) → (b ≡ 0 → ⊥) → piece (cond (eqb (getD l i 0) 124) (b - 1) b) n (drop (suc i) l) ≡ piece b n (getD l i 0 ∷ drop (suc i) l)
       step n zero s = absurd (s refl)
       step n (suc b) s = let one-less : suc b - 1 ≡ b = omega arith in rw one-less
 
-  pub behind-none : bars ≡ 0 → PieceBehind l k i 0
-  behind-none e = record { within = p .within; rest = λ n. ap (λ (b : ℕ). piece b n (drop i l)) (sym e) ∙ p .rest n }
+  pub bars-none : bars ≡ 0 → PieceBehind l k i 0
+  bars-none e = record { within = p .within; rest = λ n. ap (λ (b : ℕ). piece b n (drop i l)) (sym e) ∙ p .rest n }
 
   -- there is no such piece
-  pub behind-end : length l ≤ i → PieceBehind l k i 0
-  behind-end h =
+  pub bars-end : length l ≤ i → PieceBehind l k i 0
+  bars-end h =
       let e : i ≡ length l = omega (arith, p .within) in
       record { within = p .within; rest = λ n. none-left 0 n i l e ∙ sym (none-left bars n i l e) ∙ p .rest n }
 

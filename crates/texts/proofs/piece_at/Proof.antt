@@ -2,7 +2,7 @@
 use Prim.Native.Nat.{_-_}
 use lib.ListN.{length}
 use Rattle.texts.specs.Pieces.{PieceBehind}
-use Rattle.texts.proofs.Pieces.{behind-all, behind-fewer, behind-none, behind-end}
+use Rattle.texts.proofs.Pieces.{bars-all, bars-fewer, bars-none, bars-end}
 use borrow.Author.Needs.{needs}
 use Rattle.texts.proofs.piece_at.Statement.{statement}
 use Rattle.texts.proofs.piece_at.Tie as tie
@@ -14,10 +14,10 @@ abbrev μ-loop : tie.MeasureT-loop
 μ-loop pieces k bars₀ i₀ bars i = length pieces - i
 
 loop-holds : tie.Need-loop-holds Inv-loop μ-loop
-loop-holds c = behind-all _ _
+loop-holds c = bars-all _ _
 
 returns : tie.Need-returns Inv-loop μ-loop
-returns c = search (behind-none)
+returns c = search (bars-none)
 
 shared-slice-read-bars-left : tie.Need-shared-slice-read-bars-left Inv-loop μ-loop
 shared-slice-read-bars-left c = search needs
@@ -32,10 +32,10 @@ loop-less : tie.Need-loop-less Inv-loop μ-loop
 loop-less c = search needs
 
 loop-again : tie.Need-loop-again Inv-loop μ-loop
-loop-again c = search (behind-fewer)
+loop-again c = search (bars-fewer)
 
 returns-2 : tie.Need-returns-2 Inv-loop μ-loop
-returns-2 c = search (behind-end)
+returns-2 c = search (bars-end)
 
 pub piece-at-spec : {M : Type 1} → statement M
 piece-at-spec =
