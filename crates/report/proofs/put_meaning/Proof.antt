@@ -22,13 +22,13 @@ put-piece-requires c κs = search needs
 each : (c : tie.After-put-piece) → EachMeans _ _ _ _ _ (c .put-piece .ensures)
 unfolding piece
 each c Done = refl
-each c WrongUser = refl
+each c (WrongUser n) = refl
 each c WrongSide = refl
 each c WrongDc = refl
 each c WrongImage = refl
 each c WrongWork = refl
-each c NoMultiple = refl
-each c NoZone = refl
+each c (NoMultiple n) = refl
+each c (NoZone n) = refl
 each c (DcWord n) = refl
 each c LastBits = refl
 each c (Sync n) = refl
