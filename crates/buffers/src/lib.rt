@@ -2,23 +2,24 @@
 ghost use mathlib.Core.Path.{_≡_};
 ghost use lib.ListN.{length};
 ghost use Rattle.laws.specs.Zeros.{zeros};
+ghost use Rattle.sizes.specs.Sizes.{workSize, imageSize, sideSize, frameCount, userSize};
 
-pub fn user_bytes() -> [u8; 65536]
-    ensures { λ r. ⌜ (length r ≡ 65536) × (r ≡ zeros 65536) ⌝ }
+pub fn user_bytes() -> [u8; sizes::USER]
+    ensures { λ r. ⌜ (length r ≡ userSize) × (r ≡ zeros userSize) ⌝ }
 {
-    [0u8; 65536]
+    [0u8; sizes::USER]
 }
 
-pub fn side_bytes() -> [u8; 592]
-    ensures { λ r. ⌜ (length r ≡ 592) × (r ≡ zeros 592) ⌝ }
+pub fn side_bytes() -> [u8; sizes::SIDE]
+    ensures { λ r. ⌜ (length r ≡ sideSize) × (r ≡ zeros sideSize) ⌝ }
 {
-    [0u8; 592]
+    [0u8; sizes::SIDE]
 }
 
-pub fn dc_words() -> [u32; 496]
-    ensures { λ r. ⌜ (length r ≡ 496) × (r ≡ zeros 496) ⌝ }
+pub fn dc_words() -> [u32; sizes::FRAMES]
+    ensures { λ r. ⌜ (length r ≡ frameCount) × (r ≡ zeros frameCount) ⌝ }
 {
-    [0u32; 496]
+    [0u32; sizes::FRAMES]
 }
 
 pub fn dc_bytes() -> [u8; 1984]
@@ -27,14 +28,14 @@ pub fn dc_bytes() -> [u8; 1984]
     [0u8; 1984]
 }
 
-pub fn image_bytes() -> [u8; 119788]
-    ensures { λ r. ⌜ (length r ≡ 119788) × (r ≡ zeros 119788) ⌝ }
+pub fn image_bytes() -> [u8; sizes::IMAGE]
+    ensures { λ r. ⌜ (length r ≡ imageSize) × (r ≡ zeros imageSize) ⌝ }
 {
-    [0u8; 119788]
+    [0u8; sizes::IMAGE]
 }
 
-pub fn work_bytes() -> [u8; 76880]
-    ensures { λ r. ⌜ (length r ≡ 76880) × (r ≡ zeros 76880) ⌝ }
+pub fn work_bytes() -> [u8; sizes::WORK]
+    ensures { λ r. ⌜ (length r ≡ workSize) × (r ≡ zeros workSize) ⌝ }
 {
-    [0u8; 76880]
+    [0u8; sizes::WORK]
 }

@@ -7,6 +7,7 @@ use lib.ListN.{getD}
 use Rattle.laws.specs.First.{first}
 use Rattle.verdict.specs.declared.Verdict.{Verdict}
 use Rattle.verdict.specs.declared.Verdict.the-variants.{Pass, OtherPsn, OtherUser, OtherSide}
+use Rattle.sizes.specs.Sizes.{sideSize, userSize}
 
 -- the lowest index below n at which two lists differ, or n
 unfoldable pub other : List ℕ → List ℕ → ℕ → Bool
@@ -19,5 +20,5 @@ firstOther n a b = first n (other a b)
 unfoldable pub compared : ℕ → List ℕ → List ℕ → ℕ → List ℕ → List ℕ → Verdict
 compared psn user side found bytes control =
     cond (eqb found psn)
-    (cond (ltb (firstOther 65536 user bytes) 65536) (OtherUser (firstOther 65536 user bytes)) (cond (ltb (firstOther 592 side control) 592) (OtherSide (firstOther 592 side control)) Pass))
+    (cond (ltb (firstOther userSize user bytes) userSize) (OtherUser (firstOther userSize user bytes)) (cond (ltb (firstOther sideSize side control) sideSize) (OtherSide (firstOther sideSize side control)) Pass))
     (OtherPsn (record { 0 = found }))

@@ -5,6 +5,7 @@ ghost use mathlib.Core.Path.{_≡_};
 ghost use Prim.Native.Nat.{_≤_};
 ghost use lib.ListN.{length};
 ghost use Rattle.comparison.specs.Compared.{firstOther, compared};
+ghost use Rattle.sizes.specs.Sizes.{sideSize, userSize};
 
 // The first of n bytes that differs, or n.
 fn first_other(n: usize, a: &[u8], b: &[u8]) -> usize
@@ -30,18 +31,18 @@ pub fn compare(
     bytes: &[u8],
     control: &[u8],
 ) -> Verdict
-    requires { ⌜ ((65536 ≤ length (now user)) × (592 ≤ length (now side))) × ((65536 ≤ length (now bytes)) × (592 ≤ length (now control))) ⌝ }
+    requires { ⌜ ((userSize ≤ length (now user)) × (sideSize ≤ length (now side))) × ((userSize ≤ length (now bytes)) × (sideSize ≤ length (now control))) ⌝ }
     ensures { λ r. ⌜ r ≡ compared (psn .0) (now (user .entry)) (now (side .entry)) (found .0) (now (bytes .entry)) (now (control .entry)) ⌝ }
 {
     if found.0 != psn.0 {
         return Verdict::OtherPsn(found);
     }
-    let u = first_other(65536, user, bytes);
-    if u < 65536 {
+    let u = first_other(sizes::USER, user, bytes);
+    if u < sizes::USER {
         return Verdict::OtherUser(u);
     }
-    let s = first_other(592, side, control);
-    if s < 592 {
+    let s = first_other(sizes::SIDE, side, control);
+    if s < sizes::SIDE {
         return Verdict::OtherSide(s);
     }
     Verdict::Pass

@@ -11,6 +11,7 @@ use Rattle.writer.specs.Outcome as writer
 use Rattle.texts.specs.declared.Text.{Text}
 use Rattle.texts.specs.Text.{textOf}
 use Rattle.report.specs.Words.{answerText}
+use Rattle.sizes.specs.Sizes.{workSize}
 
 pub record Encoded : Type 0 where
   pub keep : Bool
@@ -22,7 +23,7 @@ abbrev pub encodedBy : writer.Outcome → Encoded
 encodedBy o = record { keep = isDone (o .answer); text = textOf (answerText (o .answer)); image = o .image }
 
 abbrev pub encodedWords : ℕ → List ℕ → List ℕ → List ℕ → List ℕ → Encoded
-encodedWords psn user side words image = encodedBy (writer.outcome (record { user = user; psn = psn; side = side; dc = words }) image (zeros 76880))
+encodedWords psn user side words image = encodedBy (writer.outcome (record { user = user; psn = psn; side = side; dc = words }) image (zeros workSize))
 
 -- the words of dc, which has 1,984 bytes; else none, and 3 refuses
 unfoldable pub encoded : ℕ → List ℕ → List ℕ → List ℕ → List ℕ → Encoded

@@ -11,6 +11,7 @@ use Rattle.reader.specs.Outcome.{Lent, Outcome, outcome}
 use Rattle.verdict.specs.declared.Verdict.{Verdict}
 use Rattle.verdict.specs.declared.Verdict.the-variants.{Refused}
 use Rattle.comparison.specs.Compared.{compared}
+use Rattle.sizes.specs.Sizes.{sideSize, userSize}
 
 -- ---- what a pass says
 
@@ -36,5 +37,5 @@ markedRead psn user side read = record { verdict = verdictOf psn user side read;
 -- where what is given has another length, by 1 or 2, as they were
 unfoldable pub marked : ℕ → List ℕ → List ℕ → List ℕ → Lent → Marked
 marked psn user side image before =
-    let given = andThen (sized (length user) 65536 (WrongUser 0)) (sized (length side) 592 WrongSide) in
+    let given = andThen (sized (length user) userSize (WrongUser 0)) (sized (length side) sideSize WrongSide) in
     cond (isDone given) (markedRead psn user side (outcome image before)) (record { verdict = Refused given; lent = before })

@@ -8,6 +8,7 @@ ghost use lib.ListN.{length};
 ghost use Rattle.reader.specs.Outcome.{outcome};
 ghost use Rattle.reader.specs.Promise.{RightSlices};
 ghost use Rattle.marker.specs.Marked.{markedRead, marked, IsImageOf};
+ghost use Rattle.sizes.specs.Sizes.{sideSize, userSize};
 
 // The image is read, and what is given has its lengths.
 fn mark_sized(
@@ -20,7 +21,7 @@ fn mark_sized(
     dc: &mut [u32],
     work: &mut [u8],
 ) -> Verdict
-    requires { ⌜ (length (now user) ≡ 65536) × (length (now side) ≡ 592) ⌝ }
+    requires { ⌜ (length (now user) ≡ userSize) × (length (now side) ≡ sideSize) ⌝ }
     ensures { λ r. ⌜ record { verdict = r; lent = record { user = now (bytes .exit); side = now (control .exit); dc = now (dc .exit); work = now (work .exit) } }
         ≡ markedRead (psn .0) (now (user .entry)) (now (side .entry)) (outcome (now (image .entry)) (record { user = now (bytes .entry); side = now (control .entry); dc = now (dc .entry); work = now (work .entry) })) ⌝ }
 {
@@ -49,8 +50,8 @@ pub fn mark(
     ensures { λ r. ⌜ (RightSlices (record { user = now (bytes .entry); side = now (control .entry); dc = now (dc .entry); work = now (work .entry) })
         → (r ≡ Verdict.Pass) ↔ IsImageOf (psn .0) (now (user .entry)) (now (side .entry)) (now (image .entry))) ⌝ }
 {
-    let one = answer::sized(user.len(), 65536, Answer::WrongUser(0));
-    let two = answer::sized(side.len(), 592, Answer::WrongSide);
+    let one = answer::sized(user.len(), sizes::USER, Answer::WrongUser(0));
+    let two = answer::sized(side.len(), sizes::SIDE, Answer::WrongSide);
     let given = one.and_then(two);
     if given.is_done() {
         return mark_sized(psn, user, side, image, bytes, control, dc, work);
