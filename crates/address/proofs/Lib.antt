@@ -2,3 +2,4 @@
 pub mod Judging
 pub mod Accepted
 pub mod Statements
+pub mod Converting

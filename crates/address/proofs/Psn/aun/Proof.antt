@@ -1,6 +1,5 @@
 -- `Psn::aun` meets its contract, from what `judge` and `if_done` ensure, with the unit's test.
-use borrow.Author.Tests.{le-leb, lt-leb}
-use Rattle.address.specs.Conversions.{psnToAun}
+use Rattle.address.proofs.Converting.{aun-made, no-such-unit}
 use borrow.Author.Needs.{needs}
 use Rattle.address.proofs.Psn.aun.Statement.{statement}
 use Rattle.address.proofs.Psn.aun.Tie as tie
@@ -9,8 +8,7 @@ judge-requires : tie.Need-judge-requires
 judge-requires c κs = search needs
 
 returns : tie.Need-returns
-unfolding psnToAun
-returns c = rw (lt-leb (c .before .before .args .unit) 15 (c .if1 .taken)) (cc)
+returns c = search (no-such-unit)
 
 mul-if-done : tie.Need-mul-if-done
 mul-if-done c = search needs
@@ -25,8 +23,7 @@ if-done-requires : tie.Need-if-done-requires
 if-done-requires c κs = search needs
 
 returns-2 : tie.Need-returns-2
-unfolding psnToAun
-returns-2 c = let unit = c .before .before .before .before .args .unit in rw (le-leb unit 15 (c .before .before .if1 .left)) (cc)
+returns-2 c = search (aun-made)
 
 pub aun-spec : {M : Type 1} → statement M
 aun-spec =
