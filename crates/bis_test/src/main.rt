@@ -105,7 +105,10 @@ fn cluster_hash(block: Block) -> u64 {
 }
 
 fn print_reading(block: Block) {
-    print_number(b"first wrong column: ", bis_reader::first_wrong_column(block));
+    print_number(
+        b"first wrong column: ",
+        bis_reader::first_wrong_column(block),
+    );
     print_number(
         b"first wrong address field: ",
         bis_reader::first_wrong_field(block),
@@ -138,7 +141,10 @@ fn block_of(psn: Psn, side: [u8; 592]) -> Block {
 fn show(psn: Psn, side: [u8; 592]) {
     let first = psn.aun(0);
     let last = psn.aun(15);
-    print_field(b"address field 0: ", address_field::address_field(first.aun, side[0]));
+    print_field(
+        b"address field 0: ",
+        address_field::address_field(first.aun, side[0]),
+    );
     print_field(
         b"address field 15: ",
         address_field::address_field(last.aun, side[15]),

@@ -1,11 +1,11 @@
 // The strict reader: what an image was made of, or why it is no image.
 use address::Psn;
 use answer::Answer;
-use bis::PsnFound;
-use remainders::Remainders;
 use automaton::Table;
+use bis::PsnFound;
 use frame::FrameRead;
 use frame::TwoRead;
+use remainders::Remainders;
 ghost use mathlib.Core.Path.{_≡_};
 ghost use Prim.Native.Nat.{_+_, _<_};
 ghost use lib.ListN.{length};
