@@ -1,10 +1,11 @@
--- Tests 12 to 16 are passed exactly where a cluster is read with nothing wrong. Assumes nothing.
+-- What it means that tests are passed: 10 and 11 by a recording, 12 to 16 by an ECC cluster. Assumes nothing.
 use mathlib.Core.Path.{_≡_, refl, ap, _∙_}
+use mathlib.Core.Bool.{Bool}
 use mathlib.Core.List.{List}
 use Prim.Native.Nat.{ℕ}
 use native.Mathlib.Omega.{arith}
 use Rattle.laws.proofs.First.{ended}
-use Rattle.answer.specs.declared.Answer.the-variants.{Done, BisColumn, AddressUnit, LdcColumn, Sector}
+use Rattle.answer.specs.declared.Answer.the-variants.{Done, Sync, Frame, BisColumn, AddressUnit, LdcColumn, Sector}
 use Rattle.answer.specs.Answer.{numberOf}
 use Rattle.answer.proofs.Tests.{lowest-end, lowest-done}
 use Rattle.address.specs.declared.PsnAnswer.{PsnAnswer}
@@ -14,9 +15,27 @@ use Rattle.bis.specs.declared.PsnFound.the-variants.{Found, NotFound}
 use Rattle.bis.specs.Reading as Bis
 use Rattle.cluster.specs.Multiplex.{bisIn}
 use Rattle.cluster.specs.Reading.{wrongWord, firstWrongWord, wrongSector, firstWrongSector, userIn, Reads}
-use Rattle.judging.specs.Tests.{bisColumnsAnswer, addressFieldsAnswer, foundAnswer, psnAnswer, clusterPsn, ldcColumnsAnswer, sectorsAnswer}
+use Rattle.recording.specs.Reading.{firstWrongSync, firstNoFrame}
+use Rattle.recording.proofs.Accepting.{Passes}
+use Rattle.judging.specs.Tests.{syncsAnswer, framesAnswer, bisColumnsAnswer, addressFieldsAnswer, foundAnswer, psnAnswer, clusterPsn, ldcColumnsAnswer, sectorsAnswer}
 
--- tests 12 to 16 are passed by an ECC cluster
+-- ---- 10 and 11: no sync and no frame is wrong
+
+module _ (first : Bool) (b : List ℕ) where
+  pub syncs-passed : firstWrongSync first b ≡ 497 → syncsAnswer first b ≡ Done
+  unfolding syncsAnswer
+  syncs-passed e = lowest-end Sync e
+
+  pub frames-passed : firstNoFrame b ≡ 496 → framesAnswer b ≡ Done
+  unfolding framesAnswer
+  frames-passed e = lowest-end Frame e
+
+  pub recording-passes : syncsAnswer first b ≡ Done → framesAnswer b ≡ Done → Passes first b
+  unfolding syncsAnswer framesAnswer
+  recording-passes syncs frames = record { syncs = lowest-done Sync (λ k. refl) syncs; frames = lowest-done Frame (λ k. refl) frames }
+
+-- ---- 12 to 16: the cluster is read with nothing wrong
+
 pub record ClusterPasses (work : List ℕ) : Type 0 where
   pub columns : bisColumnsAnswer (bisIn work) ≡ Done
   pub fields : addressFieldsAnswer (bisIn work) ≡ Done

@@ -1,0 +1,1 @@
+-- The steps of reading put together.
