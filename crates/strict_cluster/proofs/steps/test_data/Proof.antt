@@ -1,39 +1,29 @@
+-- `test_data` meets its contract, test by test (Reading).
 use borrow.Author.Needs.{needs}
+use Rattle.strict_cluster.proofs.Reading.{refused-before, columns-wrong, sectors-decide}
 use Rattle.strict_cluster.proofs.steps.test_data.Statement.{statement}
 use Rattle.strict_cluster.proofs.steps.test_data.Tie as tie
-use Rattle.strict_cluster.proofs.steps.test_data.Reads as reads
-use Rattle.strict_cluster.proofs.steps.test_data.Lts as lts
-use Rattle.answer.proofs.Answer.is_done.Reads as is-done-reads
-use Rattle.judging.proofs.steps.ldc_columns.Reads as ldc-columns-reads
-use Rattle.judging.proofs.steps.sectors.Reads as sectors-reads
 
--- src/steps.rt:42:8
 is-done-requires : tie.Need-is-done-requires
 is-done-requires c κs = search needs
 
--- src/steps.rt:43:13
 ldc-columns-requires : tie.Need-ldc-columns-requires
 ldc-columns-requires c κs = search needs
 
--- src/steps.rt:44:12
 is-done-requires-2 : tie.Need-is-done-requires-2
 is-done-requires-2 c κs = search needs
 
--- src/steps.rt:45:13
 sectors-requires : tie.Need-sectors-requires
 sectors-requires c κs = search needs
 
--- src/steps.rt:45:13
 returns : tie.Need-returns
-returns c = ?
+returns c = search (sectors-decide)
 
--- src/steps.rt:47:9
 returns-2 : tie.Need-returns-2
-returns-2 c = ?
+returns-2 c = search (columns-wrong)
 
--- src/steps.rt:38:1
 returns-3 : tie.Need-returns-3
-returns-3 c = ?
+returns-3 c = search (refused-before)
 
 pub test-data-spec : {M : Type 1} → statement M
 test-data-spec =
