@@ -227,8 +227,8 @@ refused l before h =
     nine-up : (a : Answer) → Late a → (numberOf a ≡ 0 → ⊥) → 9 ≤ numberOf a
     nine-up a g h = ⊎-elim (λ e. absurd (h e)) (λ k. k) (g .late)
 
-    by-image : (a : Answer) (t : Bool) → isDone a ≡ t → Late a → (numberOf (cond t read-there (record { answer = a; psn = 0; lent = cleared before }) .answer) ≡ 0 → ⊥)
-        → Refused before (cond t read-there (record { answer = a; psn = 0; lent = cleared before }))
+    by-image : (a : Answer) (t : Bool) → isDone a ≡ t → Late a → (numberOf (cond t (accepted (clusterIn (bitsOf l)) (dcIn (bitsOf l))) (record { answer = a; psn = 0; lent = cleared before }) .answer) ≡ 0 → ⊥)
+        → Refused before (cond t (accepted (clusterIn (bitsOf l)) (dcIn (bitsOf l))) (record { answer = a; psn = 0; lent = cleared before }))
     by-image a true t g h = absurd (h refl)
     by-image a false t g h =
         let nine = nine-up a g h in
