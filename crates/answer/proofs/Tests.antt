@@ -63,6 +63,14 @@ module _ (a next : Answer) where
       by true t = (done-is a t, sym (then-next (done-is a t)) ∙ e)
       by false t = let no = sym (then-here t) ∙ e in (no, sym (then-next no) ∙ e)
 
+-- tests made in groups
+pub then-assoc : (a b c : Answer) → andThen (andThen a b) c ≡ andThen a (andThen b c)
+then-assoc a b c = by (isDone a) refl
+  where
+    by : (t : Bool) → isDone a ≡ t → andThen (cond t b a) c ≡ cond t (andThen b c) a
+    by true e = refl
+    by false e = then-here a c e
+
 -- as the code has them: r is what the first test answered, d whether it is `Done`
 module _ (a next r : Answer) (d : Bool) (hr : r ≡ a) (hd : d ≡ isDone r) where
   pub goes-on : (n : Answer) → d ≡ true → n ≡ next → n ≡ andThen a next

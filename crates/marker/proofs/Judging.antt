@@ -9,7 +9,7 @@ use Rattle.answer.specs.declared.Answer.the-variants.{Done, WrongUser, WrongSid
 use Rattle.answer.specs.Answer.{isDone, andThen, sized}
 use Rattle.answer.proofs.Tests.{done-is, done-told, then-done, sized-done}
 use Rattle.answer.proofs.RightLengths.{lengths-done}
-use Rattle.reader.specs.Outcome.{Lent, Outcome, judgedOutcome, sizesAnswer, outcome}
+use Rattle.reader.specs.Outcome.{Lent, Outcome, imageOutcome, sizesAnswer, outcome}
 use Rattle.reader.specs.Promise.{RightSlices}
 use Rattle.bits.specs.Bits.{bitsOf}
 use Rattle.verdict.specs.declared.Verdict.{Verdict}
@@ -47,7 +47,7 @@ read-sizes image before e = lengths-done _ _ _ _ _ (by (isDone (sizesAnswer imag
   where
     by : (t : Bool) → isDone (sizesAnswer image before) ≡ t → outcome image before .answer ≡ Done → sizesAnswer image before ≡ Done
     by true s e = done-is (sizesAnswer image before) s
-    by false s e = sym (ap (λ (t : Bool). cond t (judgedOutcome (bitsOf image) before) (record { answer = sizesAnswer image before; psn = 0; lent = before }) .answer) s) ∙ e
+    by false s e = sym (ap (λ (t : Bool). cond t (imageOutcome (bitsOf image) before) (record { answer = sizesAnswer image before; psn = 0; lent = before }) .answer) s) ∙ e
 
 pub sizes : (image : List ℕ) (before : Lent) {a : Answer} {p : ℕ} (l : Lent) {d : Bool} → record { answer = a; psn = p; lent = l } ≡ outcome image before → d ≡ isDone a → d ≡ true
     → RightSlices before × (length image ≡ 119788)

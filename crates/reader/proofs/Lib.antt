@@ -1,8 +1,4 @@
--- The reader's tests, the frames read two by two, and what is promised (Statements).
-pub mod Judging
-pub mod Frames
+-- The reader's steps, images under the tests, and what is promised (Statements).
 pub mod Reading
-pub mod Clusters
-pub mod Writing
-pub mod Accepting
+pub mod Images
 pub mod Statements

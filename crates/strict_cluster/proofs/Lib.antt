@@ -1,0 +1,2 @@
+-- The steps of reading put together.
+pub mod Reading
