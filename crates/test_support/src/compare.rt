@@ -1,0 +1,84 @@
+// Slices compared and changed.
+
+// The byte at a place, 0 past the end.
+pub fn byte_at(bytes: &[u8], at: usize) -> u8 {
+    if at < bytes.len() {
+        return bytes[at];
+    }
+    0
+}
+
+pub fn put(bytes: &mut [u8], at: usize, byte: u8) {
+    if at < bytes.len() {
+        bytes[at] = byte;
+    }
+}
+
+// Another byte at a place.
+pub fn change(bytes: &mut [u8], at: usize) {
+    if at < bytes.len() {
+        bytes[at] = bytes[at] ^ 1;
+    }
+}
+
+// 1 where place k of a has another byte in b, or none.
+fn differs(a: &[u8], b: &[u8], k: usize) -> u64 {
+    if k < a.len() {
+        if k < b.len() {
+            if a[k] == b[k] {
+                return 0;
+            }
+        }
+    }
+    1
+}
+
+// In how many places of a there is another byte in b, or none; places that only b has do not count.
+pub fn differing(a: &[u8], b: &[u8]) -> u64 {
+    let mut n: u64 = 0;
+    for k in 0..a.len() {
+        n = std::num::wrapping_add_u64(n, differs(a, b, k));
+    }
+    n
+}
+
+// Whether every byte is `byte`.
+pub fn all_are(bytes: &[u8], byte: u8) -> bool {
+    for k in 0..bytes.len() {
+        if bytes[k] != byte {
+            return false;
+        }
+    }
+    true
+}
+
+// The same of words.
+pub fn words_are(words: &[u32], word: u32) -> bool {
+    for k in 0..words.len() {
+        if words[k] != word {
+            return false;
+        }
+    }
+    true
+}
+
+// 1 where place k of a has another word in b, or none.
+fn word_differs(a: &[u32], b: &[u32], k: usize) -> u64 {
+    if k < a.len() {
+        if k < b.len() {
+            if a[k] == b[k] {
+                return 0;
+            }
+        }
+    }
+    1
+}
+
+// In how many places of a there is another word in b, or none.
+pub fn words_differing(a: &[u32], b: &[u32]) -> u64 {
+    let mut n: u64 = 0;
+    for k in 0..a.len() {
+        n = std::num::wrapping_add_u64(n, word_differs(a, b, k));
+    }
+    n
+}
