@@ -1,27 +1,28 @@
 // Images read: what they were made of, or a refusal with every slice as document 01 has it.
-use crate::writing::loaded_words;
-use address::Psn;
+use crate::given;
+use crate::writing;
 use reader::Read;
 use test_support::compare;
-use test_support::files;
 use test_support::lent;
 use test_support::lines;
+ghost use mathlib.Core.Path.{_≡_};
 ghost use Prim.Native.Nat.{_≤_};
+ghost use lib.ListN.{length};
 
 // The answer, and whether the PSN is another.
-fn say(text: &[u8], psn: Psn, read: Read) {
+fn say(text: &[u8], psn: u32, read: Read) {
     let answer = read.answer;
     let found = read.psn;
     lines::answer_line(text, answer);
-    if found.0 != psn.0 {
+    if found.0 != psn {
         io::write_all(1, b"  another PSN\n");
     }
 }
 
 // Reads an image into lent slices.
-pub fn read(
+fn read(
     text: &[u8],
-    psn: Psn,
+    psn: u32,
     image: &[u8],
     user: &mut [u8],
     side: &mut [u8],
@@ -32,49 +33,53 @@ pub fn read(
     say(text, psn, read);
 }
 
-pub fn words_line(dc: &[u32], expected: &[u32]) {
-    let n = compare::words_differing(dc, expected);
+// What was read beside what is given.
+fn compare_given(given: &[u8], user: &[u8], side: &[u8], dc: &[u32]) {
+    given::line(b"  user bytes that differ ", user, given, 0);
+    given::line(b"  side bytes that differ ", side, given, given::SIDE);
+    let words = given::words(given);
+    let n = compare::words_differing(dc, &words);
     lines::number_line(b"  dc words that differ ", n);
 }
 
-// What was read beside the files.
-fn compare_files(name: &[u8], user: &[u8], side: &[u8], dc: &[u32], work: &[u8]) {
-    files::differing_line(b"  user bytes that differ ", name, b".user", user);
-    files::differing_line(b"  side bytes that differ ", name, b".side", side);
-    let words = loaded_words(name);
-    words_line(dc, &words);
-    files::differing_line(b"  cluster bytes that differ ", name, b".work", work);
+// What was read, written again.
+fn again(psn: u32, user: &[u8], side: &[u8], dc: &[u32], given: &[u8]) {
+    let mut image = lent::image();
+    let mut work = lent::work();
+    let text = b"  written again ";
+    writing::write(text, psn, user, side, dc, &mut image, &mut work);
+    given::line(b"  image bytes that differ ", &image, given, given::IMAGE);
 }
 
-fn read_new(name: &[u8], psn: Psn, image: &[u8]) {
+// Reads the image that is given; writes what was read again, or compares the cluster.
+pub fn read_given(psn: u32, given: &[u8], trip: bool) {
     let mut user = lent::user();
     let mut side = lent::side();
     let mut dc = lent::words();
     let mut work = lent::work();
+    let image = compare::part(given, given::IMAGE, given::WORK);
     let text = b"  read ";
     read(text, psn, image, &mut user, &mut side, &mut dc, &mut work);
-    compare_files(name, &user, &side, &dc, &work);
+    compare_given(given, &user, &side, &dc);
+    if trip {
+        again(psn, &user, &side, &dc, given);
+    } else {
+        given::line(b"  cluster bytes that differ ", &work, given, given::WORK);
+    }
 }
 
-// A cluster of files.
-pub fn from_files(name: &[u8], psn: Psn) {
-    let mut image = lent::image();
-    files::load(name, b".image", &mut image);
-    read_new(name, psn, &image);
-}
-
-// Whether the four slices are as a refusal leaves them; work then has `left` in every byte.
-fn untouched(user: &[u8], side: &[u8], dc: &[u32], work: &[u8], left: u8) -> bool {
-    if !compare::all_are(user, lent::MARK) {
-        return false;
+// What is not as a refusal leaves it; work then has `left` in every byte.
+fn say_touched(user: &[u8], side: &[u8], dc: &[u32], work: &[u8], left: u8) {
+    if compare::all_are(user, lent::MARK) {
+        if compare::all_are(side, lent::MARK) {
+            if compare::words_are(dc, lent::WORD_MARK) {
+                if compare::all_are(work, left) {
+                    return;
+                }
+            }
+        }
     }
-    if !compare::all_are(side, lent::MARK) {
-        return false;
-    }
-    if !compare::words_are(dc, lent::WORD_MARK) {
-        return false;
-    }
-    compare::all_are(work, left)
+    io::write_all(1, b"  not as it should be left\n");
 }
 
 // A refusal: number and place, no PSN, and what is not left as it should be.
@@ -86,10 +91,8 @@ fn refused(
     work: &mut [u8],
     left: u8,
 ) {
-    read(b"", Psn(0), image, user, side, dc, work);
-    if !untouched(user, side, dc, work, left) {
-        io::write_all(1, b"  not as it should be left\n");
-    }
+    read(b"", 0, image, user, side, dc, work);
+    say_touched(user, side, dc, work, left);
 }
 
 // With slices of these lengths for user, side, dc and work.

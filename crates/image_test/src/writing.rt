@@ -1,7 +1,7 @@
 // Images written: compared with what is expected, or refused with both slices untouched.
+use crate::given;
 use address::Psn;
 use test_support::compare;
-use test_support::files;
 use test_support::lent;
 use test_support::lines;
 ghost use mathlib.Core.Path.{_≡_};
@@ -11,53 +11,35 @@ ghost use lib.ListN.{length};
 // Writes an image into lent slices, and says the answer.
 pub fn write(
     text: &[u8],
-    psn: Psn,
+    psn: u32,
     user: &[u8],
     side: &[u8],
     dc: &[u32],
     image: &mut [u8],
     work: &mut [u8],
 ) {
-    let answer = writer::write_image(user, psn, side, dc, image, work);
+    let answer = writer::write_image(user, Psn(psn), side, dc, image, work);
     lines::answer_line(text, answer);
 }
 
-// Image and work beside the files.
-fn compare_files(name: &[u8], image: &[u8], work: &[u8]) {
-    files::differing_line(b"  image bytes that differ ", name, b".image", image);
-    files::differing_line(b"  cluster bytes that differ ", name, b".work", work);
+// The image of what is given.
+pub fn write_given(psn: u32, given: &[u8], image: &mut [u8], work: &mut [u8]) {
+    let user = compare::part(given, 0, given::SIDE);
+    let side = compare::part(given, given::SIDE, given::DC);
+    let dc = given::words(given);
+    write(b"  written ", psn, user, side, &dc, image, work);
 }
 
-fn write_new(name: &[u8], psn: Psn, user: &[u8], side: &[u8], dc: &[u32]) {
+// Image and work of what is given, beside those that are given.
+pub fn compare_given(psn: u32, given: &[u8]) {
     let mut image = lent::image();
     let mut work = lent::work();
-    let text = b"  written ";
-    write(text, psn, user, side, dc, &mut image, &mut work);
-    compare_files(name, &image, &work);
+    write_given(psn, given, &mut image, &mut work);
+    given::line(b"  image bytes that differ ", &image, given, given::IMAGE);
+    given::line(b"  cluster bytes that differ ", &work, given, given::WORK);
 }
 
-// The dc words of a cluster of files.
-pub fn loaded_words(name: &[u8]) -> [u32; 496]
-    ensures { λ r. ⌜ length r ≡ 496 ⌝ }
-{
-    let mut bytes = [0u8; 1984];
-    let mut words = lent::words();
-    files::load(name, b".dc", &mut bytes);
-    notation::words_of(&bytes, &mut words);
-    words
-}
-
-// A cluster of files.
-pub fn from_files(name: &[u8], psn: Psn) {
-    let mut user = lent::user();
-    let mut side = lent::side();
-    let dc = loaded_words(name);
-    files::load(name, b".user", &mut user);
-    files::load(name, b".side", &mut side);
-    write_new(name, psn, &user, &side, &dc);
-}
-
-fn touched(image: &[u8], work: &[u8]) {
+fn say_touched(image: &[u8], work: &[u8]) {
     if !compare::all_are(image, lent::MARK) {
         io::write_all(1, b"  image touched\n");
     }
@@ -67,9 +49,9 @@ fn touched(image: &[u8], work: &[u8]) {
 }
 
 // A refusal: the answer, and whether image and work were touched.
-fn refused(psn: Psn, user: &[u8], side: &[u8], dc: &[u32], image: &mut [u8], work: &mut [u8]) {
+fn refused(psn: u32, user: &[u8], side: &[u8], dc: &[u32], image: &mut [u8], work: &mut [u8]) {
     write(b"", psn, user, side, dc, image, work);
-    touched(image, work);
+    say_touched(image, work);
 }
 
 // 496 words; word `first` and the last are too large where `first` is a word's index.
@@ -94,7 +76,7 @@ fn refuse(psn: u32, user: usize, side: usize, dc: usize, image: usize, work: usi
     let mut images = lent::image();
     let mut works = lent::work();
     refused(
-        Psn(psn),
+        psn,
         &users[0..user],
         &sides[0..side],
         &dcs[0..dc],

@@ -21,6 +21,23 @@ pub fn change(bytes: &mut [u8], at: usize) {
     }
 }
 
+// The bytes from one place to another, none where there are not so many.
+pub fn part(bytes: &[u8], from: usize, to: usize) -> &[u8] {
+    if from <= to {
+        if to <= bytes.len() {
+            return &bytes[from..to];
+        }
+    }
+    &bytes[0..0]
+}
+
+// Bytes to a slice, 0 past the end.
+pub fn copy(from: &[u8], to: &mut [u8]) {
+    for k in 0..to.len() {
+        to[k] = byte_at(from, k);
+    }
+}
+
 // 1 where place k of a has another byte in b, or none.
 fn differs(a: &[u8], b: &[u8], k: usize) -> u64 {
     if k < a.len() {

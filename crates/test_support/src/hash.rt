@@ -7,16 +7,16 @@ pub fn times(a: u64, b: u64) -> u64 {
     std::num::wrapping_add_u64(a % half * (b % half), cross << 32)
 }
 
-fn wide(byte: u8) -> u64 {
-    byte as u64
+// Of one byte behind those with the hash `before`.
+pub fn more(before: u64, byte: u8) -> u64 {
+    times(before ^ byte as u64, 0x100_0000_01b3)
 }
 
 // Of bytes behind those with the hash `before`.
 pub fn behind(before: u64, bytes: &[u8]) -> u64 {
     let mut h = before;
     for k in 0..bytes.len() {
-        let byte = bytes[k];
-        h = times(h ^ wide(byte), 0x100_0000_01b3);
+        h = more(h, bytes[k]);
     }
     h
 }

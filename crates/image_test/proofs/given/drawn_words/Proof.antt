@@ -3,14 +3,14 @@ use Prim.Native.Nat.{_≤_, _-_}
 use mathlib.Core.Path.{_≡_}
 use lib.ListN.{length}
 use borrow.Author.Needs.{needs}
-use Rattle.image_test.proofs.trips.drawn_words.Statement.{statement}
-use Rattle.image_test.proofs.trips.drawn_words.Tie as tie
+use Rattle.image_test.proofs.given.drawn_words.Statement.{statement}
+use Rattle.image_test.proofs.given.drawn_words.Tie as tie
 
 abbrev Inv-loop : tie.InvT-loop
-Inv-loop seed words₀ state₀ k₀ words state k = (k ≤ 496) × (length words ≡ 496)
+Inv-loop from words₀ state₀ k₀ words state k = (k ≤ 496) × (length words ≡ 496)
 
 abbrev μ-loop : tie.MeasureT-loop
-μ-loop seed words₀ state₀ k₀ words state k = 496 - k
+μ-loop from words₀ state₀ k₀ words state k = 496 - k
 
 words-requires : tie.Need-words-requires Inv-loop μ-loop
 words-requires c κs = search needs
