@@ -1,22 +1,34 @@
 // Writer and reader on whole images: the clusters of an independent program both ways, its damaged images, round trips, and each refusal.
 mod damage;
-mod given;
 mod reading;
+mod room;
 mod writing;
 
-use test_support::lent;
 use test_support::lines;
-ghost use mathlib.Core.Path.{_≡_};
-ghost use lib.ListN.{length};
+
+// A cluster of files, written.
+fn write(psn: u32, given: &[u8]) {
+    let made = writing::write(b"  written ", psn, given);
+    room::compare_part(3, &made, given);
+    room::compare_part(4, &made, given);
+}
+
+// What was read of an image beside what is given.
+fn compare_read(read: &[u8], given: &[u8]) {
+    room::compare_part(0, read, given);
+    room::compare_part(1, read, given);
+    room::compare_part(2, read, given);
+}
 
 // A cluster of files, written and read.
 fn both_ways(name: &[u8], psn: u32) {
-    let mut given = given::nothing();
-    given::load(name, &mut given);
     io::write_all(1, name);
     lines::end_line();
-    writing::compare_given(psn, &given);
-    reading::read_given(psn, &given, false);
+    let given = room::load(name);
+    write(psn, &given);
+    let read = reading::read(b"  read ", psn, room::part(&given, 3));
+    compare_read(&read, &given);
+    room::compare_part(4, &read, &given);
 }
 
 fn clusters() {
@@ -28,29 +40,21 @@ fn clusters() {
 }
 
 fn images_refused() {
-    let mut image = lent::image();
+    let room = room::load(b"zone1");
     io::write_all(1, b"damaged\n");
-    damage::refuse(&mut image);
+    damage::refuse(room::part(&room, 3));
     io::write_all(1, b"reading refused\n");
-    reading::refuse_slices(&image);
-}
-
-// The image of what is given, put beside it.
-fn write_into(psn: u32, given: &mut [u8])
-    requires { ⌜ length (now given) ≡ 264780 ⌝ }
-{
-    let mut image = lent::image();
-    let mut work = lent::work();
-    writing::write_given(psn, given, &mut image, &mut work);
-    given::keep_image(&image, given);
+    reading::refuse_slices(room::part(&room, 3));
 }
 
 // A cluster drawn from a seed, written and read, and what was read written again.
 fn trip(psn: u32, seed: u64) {
-    let mut given = given::nothing();
-    given::draw(seed, &mut given);
-    write_into(psn, &mut given);
-    reading::read_given(psn, &given, true);
+    let given = room::drawn(seed);
+    let made = writing::write(b"  written ", psn, &given);
+    let read = reading::read(b"  read ", psn, room::part(&made, 3));
+    compare_read(&read, &given);
+    let again = writing::write(b"  written again ", psn, &read);
+    room::compare_part(3, &again, &made);
 }
 
 fn round_trips() {

@@ -1,6 +1,5 @@
-// Images read: what they were made of, or a refusal with every slice as document 01 has it.
-use crate::given;
-use crate::writing;
+// Images read, or refused with every slice as document 01 has it.
+use crate::room;
 use reader::Read;
 use test_support::compare;
 use test_support::lent;
@@ -19,98 +18,94 @@ fn say(text: &[u8], psn: u32, read: Read) {
     }
 }
 
-// Reads an image into lent slices.
-fn read(
-    text: &[u8],
-    psn: u32,
-    image: &[u8],
-    user: &mut [u8],
-    side: &mut [u8],
-    dc: &mut [u32],
-    work: &mut [u8],
-) {
-    let read = reader::read_image(image, user, side, dc, work);
-    say(text, psn, read);
-}
-
-// What was read beside what is given.
-fn compare_given(given: &[u8], user: &[u8], side: &[u8], dc: &[u32]) {
-    given::line(b"  user bytes that differ ", user, given, 0);
-    given::line(b"  side bytes that differ ", side, given, given::SIDE);
-    let words = given::words(given);
-    let n = compare::words_differing(dc, &words);
-    lines::number_line(b"  dc words that differ ", n);
-}
-
-// What was read, written again.
-fn again(psn: u32, user: &[u8], side: &[u8], dc: &[u32], given: &[u8]) {
-    let mut image = lent::image();
-    let mut work = lent::work();
-    let text = b"  written again ";
-    writing::write(text, psn, user, side, dc, &mut image, &mut work);
-    given::line(b"  image bytes that differ ", &image, given, given::IMAGE);
-}
-
-// Reads the image that is given; writes what was read again, or compares the cluster.
-pub fn read_given(psn: u32, given: &[u8], trip: bool) {
-    let mut user = lent::user();
-    let mut side = lent::side();
-    let mut dc = lent::words();
-    let mut work = lent::work();
-    let image = compare::part(given, given::IMAGE, given::WORK);
-    let text = b"  read ";
-    read(text, psn, image, &mut user, &mut side, &mut dc, &mut work);
-    compare_given(given, &user, &side, &dc);
-    if trip {
-        again(psn, &user, &side, &dc, given);
-    } else {
-        given::line(b"  cluster bytes that differ ", &work, given, given::WORK);
-    }
-}
-
-// What is not as a refusal leaves it; work then has `left` in every byte.
-fn say_touched(user: &[u8], side: &[u8], dc: &[u32], work: &[u8], left: u8) {
-    if compare::all_are(user, lent::MARK) {
-        if compare::all_are(side, lent::MARK) {
-            if compare::words_are(dc, lent::WORD_MARK) {
-                if compare::all_are(work, left) {
-                    return;
-                }
-            }
-        }
-    }
-    io::write_all(1, b"  not as it should be left\n");
-}
-
-// A refusal: number and place, no PSN, and what is not left as it should be.
-fn refused(
-    image: &[u8],
-    user: &mut [u8],
-    side: &mut [u8],
-    dc: &mut [u32],
-    work: &mut [u8],
-    left: u8,
-) {
-    read(b"", 0, image, user, side, dc, work);
-    say_touched(user, side, dc, work, left);
-}
-
-// With slices of these lengths for user, side, dc and work.
-fn refuse(image: &[u8], user: usize, side: usize, dc: usize, work: usize, left: u8)
-    requires { ⌜ (user ≤ 65536) × ((side ≤ 592) × ((dc ≤ 496) × (work ≤ 76880))) ⌝ }
+fn kept(user: &[u8], side: &[u8], dc: &[u32], work: &[u8]) -> [u8; 264780]
+    ensures { λ r. ⌜ length r ≡ 264780 ⌝ }
 {
-    let mut users = lent::user();
-    let mut sides = lent::side();
-    let mut dcs = lent::words();
-    let mut works = lent::work();
-    refused(
+    let mut room = room::empty();
+    compare::copy(user, &mut room, room::start(0));
+    compare::copy(side, &mut room, room::start(1));
+    room::put_words(dc, &mut room);
+    compare::copy(work, &mut room, room::start(4));
+    room
+}
+
+// Reads an image with the fronts of four slices lent.
+fn lend(
+    image: &[u8],
+    users: &mut [u8],
+    user: usize,
+    sides: &mut [u8],
+    side: usize,
+    dcs: &mut [u32],
+    dc: usize,
+    works: &mut [u8],
+    work: usize,
+) -> Read
+    requires { ⌜ ((user ≤ length (now users)) × (side ≤ length (now sides))) × ((dc ≤ length (now dcs)) × (work ≤ length (now works))) ⌝ }
+{
+    reader::read_image(
         image,
         &mut users[0..user],
         &mut sides[0..side],
         &mut dcs[0..dc],
         &mut works[0..work],
-        left,
+    )
+}
+
+// Reads an image, with slices of these lengths for user, side, dc and work. The answer is printed; what the slices hold is left in a room.
+fn read_sized(
+    text: &[u8],
+    psn: u32,
+    image: &[u8],
+    user: usize,
+    side: usize,
+    dc: usize,
+    work: usize,
+) -> [u8; 264780]
+    requires { ⌜ (user ≤ 65536) × ((side ≤ 592) × ((dc ≤ 496) × (work ≤ 76880))) ⌝ }
+    ensures { λ r. ⌜ length r ≡ 264780 ⌝ }
+{
+    let mut users = lent::user();
+    let mut sides = lent::side();
+    let mut dcs = lent::words();
+    let mut works = lent::work();
+    let read = lend(
+        image,
+        &mut users,
+        user,
+        &mut sides,
+        side,
+        &mut dcs,
+        dc,
+        &mut works,
+        work,
     );
+    say(text, psn, read);
+    kept(&users, &sides, &dcs, &works)
+}
+
+pub fn read(text: &[u8], psn: u32, image: &[u8]) -> [u8; 264780]
+    ensures { λ r. ⌜ length r ≡ 264780 ⌝ }
+{
+    read_sized(text, psn, image, 65536, 592, 496, 76880)
+}
+
+// Whether user bytes, side data and dc words are as they were lent, and every byte of work is `left`.
+fn is_left(room: &[u8], left: u8) -> bool {
+    if compare::all_are(compare::part(room, 0, room::start(3)), lent::MARK) {
+        return room::is_all(room, 4, left);
+    }
+    false
+}
+
+// A refusal: number and place, no PSN, and whether the slices are not left as they should be.
+fn refuse(image: &[u8], user: usize, side: usize, dc: usize, work: usize, left: u8)
+    requires { ⌜ (user ≤ 65536) × ((side ≤ 592) × ((dc ≤ 496) × (work ≤ 76880))) ⌝ }
+{
+    let room = read_sized(b"", 0, image, user, side, dc, work);
+    if !is_left(&room, left) {
+        io::write_all(1, b"  not as it should be left\n");
+    }
 }
 
 // Tests 9 to 16, after which work holds zeros.
@@ -123,6 +118,6 @@ pub fn refuse_slices(image: &[u8]) {
     refuse(image, 2, 2, 496, 76880, lent::MARK);
     refuse(image, 65536, 2, 2, 76880, lent::MARK);
     refuse(image, 65536, 592, 2, 76880, lent::MARK);
-    refuse(b"short", 65536, 592, 496, 2, lent::MARK);
+    refuse(compare::part(image, 0, 5), 65536, 592, 496, 2, lent::MARK);
     refuse(image, 65536, 592, 496, 2, lent::MARK);
 }

@@ -1,4 +1,4 @@
-// Slices compared and changed.
+// Slices compared, changed and copied.
 
 // The byte at a place, 0 past the end.
 pub fn byte_at(bytes: &[u8], at: usize) -> u8 {
@@ -6,6 +6,32 @@ pub fn byte_at(bytes: &[u8], at: usize) -> u8 {
         return bytes[at];
     }
     0
+}
+
+// The bytes from one place to another, none where there are not so many.
+pub fn part(bytes: &[u8], from: usize, to: usize) -> &[u8] {
+    if from <= to {
+        if to <= bytes.len() {
+            return &bytes[from..to];
+        }
+    }
+    &bytes[0..0]
+}
+
+// Line k of a text; the last where it has fewer.
+pub fn line(text: &[u8], k: usize) -> &[u8] {
+    let mut n = k;
+    let mut from = 0;
+    for i in 0..text.len() {
+        if text[i] == b'\n' {
+            if n == 0 {
+                return part(text, from, i);
+            }
+            n -= 1;
+            from = i + 1;
+        }
+    }
+    part(text, from, text.len())
 }
 
 pub fn put(bytes: &mut [u8], at: usize, byte: u8) {
@@ -21,20 +47,10 @@ pub fn change(bytes: &mut [u8], at: usize) {
     }
 }
 
-// The bytes from one place to another, none where there are not so many.
-pub fn part(bytes: &[u8], from: usize, to: usize) -> &[u8] {
-    if from <= to {
-        if to <= bytes.len() {
-            return &bytes[from..to];
-        }
-    }
-    &bytes[0..0]
-}
-
-// Bytes to a slice, 0 past the end.
-pub fn copy(from: &[u8], to: &mut [u8]) {
-    for k in 0..to.len() {
-        to[k] = byte_at(from, k);
+// Bytes to a slice from `at` on.
+pub fn copy(from: &[u8], to: &mut [u8], at: usize) {
+    for k in 0..from.len() {
+        put(to, std::num::wrapping_add_usize(at, k), from[k]);
     }
 }
 
@@ -67,35 +83,4 @@ pub fn all_are(bytes: &[u8], byte: u8) -> bool {
         }
     }
     true
-}
-
-// The same of words.
-pub fn words_are(words: &[u32], word: u32) -> bool {
-    for k in 0..words.len() {
-        if words[k] != word {
-            return false;
-        }
-    }
-    true
-}
-
-// 1 where place k of a has another word in b, or none.
-fn word_differs(a: &[u32], b: &[u32], k: usize) -> u64 {
-    if k < a.len() {
-        if k < b.len() {
-            if a[k] == b[k] {
-                return 0;
-            }
-        }
-    }
-    1
-}
-
-// In how many places of a there is another word in b, or none.
-pub fn words_differing(a: &[u32], b: &[u32]) -> u64 {
-    let mut n: u64 = 0;
-    for k in 0..a.len() {
-        n = std::num::wrapping_add_u64(n, word_differs(a, b, k));
-    }
-    n
 }

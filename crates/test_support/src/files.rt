@@ -1,25 +1,19 @@
 // Files of a program's data folder.
-use crate::compare::byte_at;
+use crate::compare::copy;
 ghost use Rattle.io.specs.Counts.{Counts};
 
 // A name and what stands behind it, in a path; how many bytes they have.
-fn join(name: &[u8], kind: &[u8], path: &mut [u8; 16]) -> usize
+fn join(name: &[u8], kind: &[u8], path: &mut [u8]) -> usize
     ensures { λ r. ⌜ Counts r (now (path .exit)) ⌝ }
 {
-    let n = name.len();
-    for k in 0..16usize {
-        if k < n {
-            path[k] = byte_at(name, k);
-        } else {
-            path[k] = byte_at(kind, k - n);
-        }
-    }
-    io::count((n % 8 + kind.len() % 8) as isize, path)
+    copy(name, path, 0);
+    copy(kind, path, name.len());
+    io::count((name.len() % 64 + kind.len() % 64) as isize, path)
 }
 
 // Fills a buffer from the file of this name and kind, or says that it is too short.
-pub fn load(name: &[u8], kind: &[u8], bytes: &mut [u8]) {
-    let mut path = [0u8; 16];
+fn fill(name: &[u8], kind: &[u8], bytes: &mut [u8]) {
+    let mut path = [0u8; 128];
     let n = join(name, kind, &mut path);
     let fd = os::open_read(&path[..n]);
     let got = io::read_full(fd, bytes);
@@ -27,4 +21,15 @@ pub fn load(name: &[u8], kind: &[u8], bytes: &mut [u8]) {
     if got != bytes.len() {
         io::write_all(1, b"not loaded\n");
     }
+}
+
+// The same from one place of the buffer to another.
+pub fn load(name: &[u8], kind: &[u8], bytes: &mut [u8], from: usize, to: usize) {
+    if from <= to {
+        if to <= bytes.len() {
+            fill(name, kind, &mut bytes[from..to]);
+            return;
+        }
+    }
+    io::write_all(1, b"no room\n");
 }

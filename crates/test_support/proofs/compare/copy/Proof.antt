@@ -7,19 +7,22 @@ use Rattle.test_support.proofs.compare.copy.Statement.{statement}
 use Rattle.test_support.proofs.compare.copy.Tie as tie
 
 abbrev Inv-loop : tie.InvT-loop
-Inv-loop from to₀ k₀ k-end to k = (length to ≡ length to₀) × (k ≤ length to₀)
+Inv-loop from to₀ at k₀ k-end to k = (length to ≡ length to₀) × (k ≤ length from)
 
 abbrev μ-loop : tie.MeasureT-loop
-μ-loop from to₀ k₀ k-end to k = length to₀ - k
+μ-loop from to₀ at k₀ k-end to k = length from - k
 
 loop-holds : tie.Need-loop-holds Inv-loop μ-loop
 loop-holds c = search needs
 
-byte-at-requires : tie.Need-byte-at-requires Inv-loop μ-loop
-byte-at-requires c κs = search needs
+wrapping-add-usize-requires : tie.Need-wrapping-add-usize-requires Inv-loop μ-loop
+wrapping-add-usize-requires c κs = search needs
 
-slice-write-to : tie.Need-slice-write-to Inv-loop μ-loop
-slice-write-to c = search needs
+shared-slice-read-put : tie.Need-shared-slice-read-put Inv-loop μ-loop
+shared-slice-read-put c = search needs
+
+put-requires : tie.Need-put-requires Inv-loop μ-loop
+put-requires c κs = search needs
 
 add-k : tie.Need-add-k Inv-loop μ-loop
 add-k c = search needs
@@ -43,8 +46,9 @@ copy-spec =
     Inv-loop
     μ-loop
     loop-holds
-    byte-at-requires
-    slice-write-to
+    wrapping-add-usize-requires
+    shared-slice-read-put
+    put-requires
     add-k
     loop-less
     loop-again
