@@ -1,60 +1,66 @@
 // Writer and reader on whole images: the clusters of an independent program both ways, its damaged images, round trips, and each refusal.
+mod cluster;
 mod damage;
 mod reading;
-mod room;
 mod writing;
 
-use test_support::lines;
+use test_support::compare;
 
 // A cluster of files, written.
-fn write(psn: u32, given: &[u8]) {
-    let made = writing::write(b"  written ", psn, given);
-    room::compare_part(3, &made, given);
-    room::compare_part(4, &made, given);
+fn write(psn: u32, given: cluster::Cluster) {
+    let made = writing::write(b"  written ", psn, given, cluster::marked());
+    let x = made.image;
+    let y = given.image;
+    cluster::compare_images(x, y);
+    let x = made.work;
+    let y = given.work;
+    cluster::compare_works(x, y);
 }
 
-// What was read of an image beside what is given.
-fn compare_read(read: &[u8], given: &[u8]) {
-    room::compare_part(0, read, given);
-    room::compare_part(1, read, given);
-    room::compare_part(2, read, given);
+// Its image read.
+fn read(psn: u32, given: cluster::Cluster) {
+    let image = given.image;
+    let read = reading::read(psn, image, cluster::marked());
+    cluster::compare_inputs(read, given);
+    let x = read.work;
+    let y = given.work;
+    cluster::compare_works(x, y);
 }
 
-// A cluster of files, written and read.
-fn both_ways(name: &[u8], psn: u32) {
+fn both_ways(k: usize, psn: u32) {
+    let name = compare::line(b"zero\nzone0\nzone1\nzone2\nones", k);
     io::write_all(1, name);
-    lines::end_line();
-    let given = room::load(name);
-    write(psn, &given);
-    let read = reading::read(b"  read ", psn, room::part(&given, 3));
-    compare_read(&read, &given);
-    room::compare_part(4, &read, &given);
+    io::write_all(1, b"\n");
+    let given = cluster::load(name, cluster::marked());
+    write(psn, given);
+    read(psn, given);
 }
 
 fn clusters() {
-    both_ways(b"zero", 0x0010_0000);
-    both_ways(b"zone0", 0x0108_9BE0);
-    both_ways(b"zone1", 0x02F7_6400);
-    both_ways(b"zone2", 0x0508_9BE0);
-    both_ways(b"ones", 0x03EF_FFE0);
+    both_ways(0, 0x0010_0000);
+    both_ways(1, 0x0108_9BE0);
+    both_ways(2, 0x02F7_6400);
+    both_ways(3, 0x0508_9BE0);
+    both_ways(4, 0x03EF_FFE0);
 }
 
 fn images_refused() {
-    let room = room::load(b"zone1");
-    io::write_all(1, b"damaged\n");
-    damage::refuse(room::part(&room, 3));
-    io::write_all(1, b"reading refused\n");
-    reading::refuse_slices(room::part(&room, 3));
+    let given = cluster::load(b"zone1", cluster::marked());
+    let image = given.image;
+    damage::refuse(image);
 }
 
 // A cluster drawn from a seed, written and read, and what was read written again.
 fn trip(psn: u32, seed: u64) {
-    let given = room::drawn(seed);
-    let made = writing::write(b"  written ", psn, &given);
-    let read = reading::read(b"  read ", psn, room::part(&made, 3));
-    compare_read(&read, &given);
-    let again = writing::write(b"  written again ", psn, &read);
-    room::compare_part(3, &again, &made);
+    let blank = cluster::marked();
+    let given = cluster::draw(seed, blank);
+    let made = writing::write(b"  written ", psn, given, blank);
+    let image = made.image;
+    let read = reading::read(psn, image, blank);
+    cluster::compare_inputs(read, given);
+    let again = writing::write(b"  written again ", psn, read, blank);
+    let other = again.image;
+    cluster::compare_images(other, image);
 }
 
 fn round_trips() {

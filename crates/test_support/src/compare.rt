@@ -8,6 +8,16 @@ pub fn byte_at(bytes: &[u8], at: usize) -> u8 {
     0
 }
 
+// The number that some bytes from `at` on make, the highest first.
+pub fn number_at(bytes: &[u8], at: usize, count: usize) -> u64 {
+    let mut n: u64 = 0;
+    for k in 0..count {
+        let byte = byte_at(bytes, std::num::wrapping_add_usize(at, k));
+        n = (n << 8) ^ byte as u64;
+    }
+    n
+}
+
 // The bytes from one place to another, none where there are not so many.
 pub fn part(bytes: &[u8], from: usize, to: usize) -> &[u8] {
     if from <= to {
@@ -83,4 +93,35 @@ pub fn all_are(bytes: &[u8], byte: u8) -> bool {
         }
     }
     true
+}
+
+// The same of words.
+pub fn words_are(words: &[u32], word: u32) -> bool {
+    for k in 0..words.len() {
+        if words[k] != word {
+            return false;
+        }
+    }
+    true
+}
+
+// 1 where place k of a has another word in b, or none.
+fn word_differs(a: &[u32], b: &[u32], k: usize) -> u64 {
+    if k < a.len() {
+        if k < b.len() {
+            if a[k] == b[k] {
+                return 0;
+            }
+        }
+    }
+    1
+}
+
+// In how many places of a there is another word in b, or none.
+pub fn words_differing(a: &[u32], b: &[u32]) -> u64 {
+    let mut n: u64 = 0;
+    for k in 0..a.len() {
+        n = std::num::wrapping_add_u64(n, word_differs(a, b, k));
+    }
+    n
 }

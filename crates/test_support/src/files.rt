@@ -12,7 +12,7 @@ fn join(name: &[u8], kind: &[u8], path: &mut [u8]) -> usize
 }
 
 // Fills a buffer from the file of this name and kind, or says that it is too short.
-fn fill(name: &[u8], kind: &[u8], bytes: &mut [u8]) {
+pub fn load(name: &[u8], kind: &[u8], bytes: &mut [u8]) {
     let mut path = [0u8; 128];
     let n = join(name, kind, &mut path);
     let fd = os::open_read(&path[..n]);
@@ -21,15 +21,4 @@ fn fill(name: &[u8], kind: &[u8], bytes: &mut [u8]) {
     if got != bytes.len() {
         io::write_all(1, b"not loaded\n");
     }
-}
-
-// The same from one place of the buffer to another.
-pub fn load(name: &[u8], kind: &[u8], bytes: &mut [u8], from: usize, to: usize) {
-    if from <= to {
-        if to <= bytes.len() {
-            fill(name, kind, &mut bytes[from..to]);
-            return;
-        }
-    }
-    io::write_all(1, b"no room\n");
 }

@@ -2,9 +2,9 @@
 ghost use mathlib.Core.Path.{_≡_};
 ghost use lib.ListN.{length};
 
-pub const MARK: u8 = 0x5A;
+pub const MARK: u8 = 90;
 
-pub const WORD_MARK: u32 = 0x5A5A_5A5A;
+pub const WORD_MARK: u32 = 62;
 
 pub fn user() -> [u8; 65536]
     ensures { λ r. ⌜ length r ≡ 65536 ⌝ }

@@ -24,17 +24,11 @@ copy-requires c κs = search needs
 loop-holds : tie.Need-loop-holds Inv-loop μ-loop
 loop-holds c = search needs
 
-mul-offset-at : tie.Need-mul-offset-at Inv-loop μ-loop
-mul-offset-at c = search needs
+mul-number-at : tie.Need-mul-number-at Inv-loop μ-loop
+mul-number-at c = search needs
 
-offset-at-requires : tie.Need-offset-at-requires Inv-loop μ-loop
-offset-at-requires c κs = search needs
-
-slice-aggregate-put : tie.Need-slice-aggregate-put Inv-loop μ-loop
-slice-aggregate-put c = search needs
-
-cast-put : tie.Need-cast-put Inv-loop μ-loop
-cast-put c = search needs
+number-at-requires : tie.Need-number-at-requires Inv-loop μ-loop
+number-at-requires c κs = search needs
 
 mul-byte-at : tie.Need-mul-byte-at Inv-loop μ-loop
 mul-byte-at c = search needs
@@ -44,6 +38,9 @@ add-byte-at c = search needs
 
 byte-at-requires : tie.Need-byte-at-requires Inv-loop μ-loop
 byte-at-requires c κs = search needs
+
+slice-aggregate-put : tie.Need-slice-aggregate-put Inv-loop μ-loop
+slice-aggregate-put c = search needs
 
 put-requires : tie.Need-put-requires Inv-loop μ-loop
 put-requires c κs = search needs
@@ -82,13 +79,12 @@ refuse-each-spec =
     slice-aggregate-copy
     copy-requires
     loop-holds
-    mul-offset-at
-    offset-at-requires
-    slice-aggregate-put
-    cast-put
+    mul-number-at
+    number-at-requires
     mul-byte-at
     add-byte-at
     byte-at-requires
+    slice-aggregate-put
     put-requires
     slice-aggregate-end
     end-requires

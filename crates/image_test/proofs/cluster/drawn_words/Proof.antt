@@ -3,17 +3,14 @@ use Prim.Native.Nat.{_≤_, _-_}
 use mathlib.Core.Path.{_≡_}
 use lib.ListN.{length}
 use borrow.Author.Needs.{needs}
-use Rattle.image_test.proofs.room.drawn_words.Statement.{statement}
-use Rattle.image_test.proofs.room.drawn_words.Tie as tie
+use Rattle.image_test.proofs.cluster.drawn_words.Statement.{statement}
+use Rattle.image_test.proofs.cluster.drawn_words.Tie as tie
 
 abbrev Inv-loop : tie.InvT-loop
 Inv-loop from words₀ state₀ k₀ words state k = (k ≤ 496) × (length words ≡ 496)
 
 abbrev μ-loop : tie.MeasureT-loop
 μ-loop from words₀ state₀ k₀ words state k = 496 - k
-
-words-requires : tie.Need-words-requires Inv-loop μ-loop
-words-requires c κs = search needs
 
 loop-holds : tie.Need-loop-holds Inv-loop μ-loop
 loop-holds c = search needs
@@ -48,7 +45,6 @@ drawn-words-spec =
     (tie.spec
     Inv-loop
     μ-loop
-    words-requires
     loop-holds
     next-requires
     word-requires

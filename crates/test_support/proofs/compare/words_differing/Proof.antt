@@ -1,35 +1,21 @@
 -- `words_differing` is safe and ends.
 use Prim.Native.Nat.{_≤_, _-_}
+use lib.ListN.{length}
 use borrow.Author.Needs.{needs}
-use Rattle.image_test.proofs.room.words_differing.Statement.{statement}
-use Rattle.image_test.proofs.room.words_differing.Tie as tie
+use Rattle.test_support.proofs.compare.words_differing.Statement.{statement}
+use Rattle.test_support.proofs.compare.words_differing.Tie as tie
 
 abbrev Inv-loop : tie.InvT-loop
-Inv-loop a b n₀ k₀ n k = k ≤ 496
+Inv-loop a b n₀ k₀ k-end n k = k ≤ length a
 
 abbrev μ-loop : tie.MeasureT-loop
-μ-loop a b n₀ k₀ n k = 496 - k
+μ-loop a b n₀ k₀ k-end n k = length a - k
 
 loop-holds : tie.Need-loop-holds Inv-loop μ-loop
 loop-holds c = search needs
 
-mul-at : tie.Need-mul-at Inv-loop μ-loop
-mul-at c = search needs
-
-add-part : tie.Need-add-part Inv-loop μ-loop
-add-part c = search needs
-
-part-requires : tie.Need-part-requires Inv-loop μ-loop
-part-requires c κs = search needs
-
-add-part-2 : tie.Need-add-part-2 Inv-loop μ-loop
-add-part-2 c = search needs
-
-part-requires-2 : tie.Need-part-requires-2 Inv-loop μ-loop
-part-requires-2 c κs = search needs
-
-differing-requires : tie.Need-differing-requires Inv-loop μ-loop
-differing-requires c κs = search needs
+word-differs-requires : tie.Need-word-differs-requires Inv-loop μ-loop
+word-differs-requires c κs = search needs
 
 wrapping-add-u64-requires : tie.Need-wrapping-add-u64-requires Inv-loop μ-loop
 wrapping-add-u64-requires c κs = search needs
@@ -53,12 +39,7 @@ words-differing-spec =
     Inv-loop
     μ-loop
     loop-holds
-    mul-at
-    add-part
-    part-requires
-    add-part-2
-    part-requires-2
-    differing-requires
+    word-differs-requires
     wrapping-add-u64-requires
     add-k
     loop-less
