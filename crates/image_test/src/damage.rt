@@ -26,10 +26,15 @@ fn refuse_each(whole: &[u8], file: &[u8]) {
     }
 }
 
-// The damaged images of zone1, in the order of data/zone1.damage.txt, then the whole one with slices that are refused.
-pub fn refuse(whole: [u8; 119788]) {
-    let mut file = [0u8; 53135];
+// The records of zone1.
+pub fn records(blank: [u8; 53135]) -> [u8; 53135] {
+    let mut file = blank;
     files::load(b"zone1", b".damage", &mut file);
+    file
+}
+
+// The damaged images of a file, then the whole one with slices that are refused.
+pub fn refuse(whole: [u8; 119788], file: [u8; 53135]) {
     io::write_all(1, b"damaged\n");
     refuse_each(&whole, &file);
     io::write_all(1, b"reading refused\n");

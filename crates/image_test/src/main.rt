@@ -44,10 +44,12 @@ fn clusters() {
     both_ways(4, 0x03EF_FFE0);
 }
 
+// The damaged images of zone1, in the order of data/zone1.damage.txt, and its image with slices that are refused.
 fn images_refused() {
     let given = cluster::load(b"zone1", cluster::marked());
     let image = given.image;
-    damage::refuse(image);
+    let file = damage::records([0u8; 53135]);
+    damage::refuse(image, file);
 }
 
 // A cluster drawn from a seed, written and read, and what was read written again.

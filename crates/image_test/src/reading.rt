@@ -33,24 +33,12 @@ pub fn read(psn: u32, image: [u8; 119788], blank: Cluster) -> Cluster {
     }
 }
 
-// Whether the slices are as a refusal leaves them; every byte of work is then `left`.
-fn is_left(
-    user: [u8; 65536],
-    side: [u8; 592],
-    dc: [u32; 496],
-    work: [u8; 76880],
-    left: u8,
-) -> bool {
-    if !compare::all_are(&user, lent::MARK) {
-        return false;
-    }
-    if !compare::all_are(&side, lent::MARK) {
-        return false;
-    }
-    if !compare::words_are(&dc, lent::WORD_MARK) {
-        return false;
-    }
-    compare::all_are(&work, left)
+// How many places of the slices are not as a refusal leaves them; every byte of work is then `left`.
+fn touched(user: [u8; 65536], side: [u8; 592], dc: [u32; 496], work: [u8; 76880], left: u8) -> u64 {
+    let n = compare::others(&user, lent::MARK);
+    let n = std::num::wrapping_add_u64(n, compare::others(&side, lent::MARK));
+    let n = std::num::wrapping_add_u64(n, compare::other_words(&dc, lent::WORD_MARK));
+    std::num::wrapping_add_u64(n, compare::others(&work, left))
 }
 
 // A refusal, with slices of these lengths for user, side, dc and work: number and place, no PSN, and whether the slices are not left as they
@@ -70,7 +58,7 @@ fn refuse(image: &[u8], user: usize, side: usize, dc: usize, work: usize, left: 
         &mut works[0..work],
     );
     say(b"", 0, read);
-    if !is_left(users, sides, words, works, left) {
+    if touched(users, sides, words, works, left) != 0 {
         io::write_all(1, b"  not as it should be left\n");
     }
 }

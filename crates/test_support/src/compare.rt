@@ -85,24 +85,26 @@ pub fn differing(a: &[u8], b: &[u8]) -> u64 {
     n
 }
 
-// Whether every byte is `byte`.
-pub fn all_are(bytes: &[u8], byte: u8) -> bool {
+// How many bytes are other than `byte`.
+pub fn others(bytes: &[u8], byte: u8) -> u64 {
+    let mut n: u64 = 0;
     for k in 0..bytes.len() {
         if bytes[k] != byte {
-            return false;
+            n = std::num::wrapping_add_u64(n, 1);
         }
     }
-    true
+    n
 }
 
 // The same of words.
-pub fn words_are(words: &[u32], word: u32) -> bool {
+pub fn other_words(words: &[u32], word: u32) -> u64 {
+    let mut n: u64 = 0;
     for k in 0..words.len() {
         if words[k] != word {
-            return false;
+            n = std::num::wrapping_add_u64(n, 1);
         }
     }
-    true
+    n
 }
 
 // 1 where place k of a has another word in b, or none.

@@ -1,15 +1,15 @@
--- `all_are` is safe and ends.
+-- `others` is safe and ends.
 use Prim.Native.Nat.{_≤_, _-_}
 use lib.ListN.{length}
 use borrow.Author.Needs.{needs}
-use Rattle.test_support.proofs.compare.all_are.Statement.{statement}
-use Rattle.test_support.proofs.compare.all_are.Tie as tie
+use Rattle.test_support.proofs.compare.others.Statement.{statement}
+use Rattle.test_support.proofs.compare.others.Tie as tie
 
 abbrev Inv-loop : tie.InvT-loop
-Inv-loop bytes byte k₀ k-end k = k ≤ length bytes
+Inv-loop bytes byte n₀ k₀ k-end n k = k ≤ length bytes
 
 abbrev μ-loop : tie.MeasureT-loop
-μ-loop bytes byte k₀ k-end k = length bytes - k
+μ-loop bytes byte n₀ k₀ k-end n k = length bytes - k
 
 loop-holds : tie.Need-loop-holds Inv-loop μ-loop
 loop-holds c = search needs
@@ -17,8 +17,8 @@ loop-holds c = search needs
 shared-slice-read-if1 : tie.Need-shared-slice-read-if1 Inv-loop μ-loop
 shared-slice-read-if1 c = search needs
 
-returns : tie.Need-returns Inv-loop μ-loop
-returns c = search needs
+wrapping-add-u64-requires : tie.Need-wrapping-add-u64-requires Inv-loop μ-loop
+wrapping-add-u64-requires c κs = search needs
 
 add-k : tie.Need-add-k Inv-loop μ-loop
 add-k c = search needs
@@ -29,19 +29,19 @@ loop-less c = search needs
 loop-again : tie.Need-loop-again Inv-loop μ-loop
 loop-again c = search needs
 
-returns-2 : tie.Need-returns-2 Inv-loop μ-loop
-returns-2 c = search needs
+returns : tie.Need-returns Inv-loop μ-loop
+returns c = search needs
 
-pub all-are-spec : {M : Type 1} → statement M
-all-are-spec =
+pub others-spec : {M : Type 1} → statement M
+others-spec =
     tie.close
     (tie.spec
     Inv-loop
     μ-loop
     loop-holds
     shared-slice-read-if1
-    returns
+    wrapping-add-u64-requires
     add-k
     loop-less
     loop-again
-    returns-2)
+    returns)
