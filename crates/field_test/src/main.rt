@@ -1,10 +1,9 @@
 // The field against a second method, with no table: the product by shift and add.
 use field::Gf;
+use test_support::lines;
 
 fn print(text: &[u8], a: Gf) {
-    io::write_all(1, text);
-    io::print_hex(1, a.0 as u64, 2);
-    io::write_all(1, b"\n");
+    lines::hex_line(text, a.0 as u64, 2);
 }
 
 // x times a.
@@ -73,22 +72,26 @@ fn digest() -> u64 {
     d
 }
 
-fn main() {
+fn sums_and_inverses() {
     print(b"02 x 80 = ", Gf(0x02).product(Gf(0x80)));
     print(b"53 + ca = ", Gf(0x53).sum(Gf(0xca)));
     print(b"inverse of 02 = ", Gf::ALPHA.inverse());
     print(b"inverse of 00 = ", Gf::ZERO.inverse());
+}
+
+fn powers() {
     print(b"02 to the power 255 = ", Gf::ALPHA.power(255));
     print(
         b"02 to the power 18446744073709551614 = ",
         Gf::ALPHA.power(18446744073709551614),
     );
     print(b"00 to the power 0 = ", Gf::ZERO.power(0));
-    io::write_all(1, b"products that differ: ");
-    io::print_decimal(1, products_differing());
-    io::write_all(1, b"\ninverses that are wrong: ");
-    io::print_decimal(1, inverses_wrong());
-    io::write_all(1, b"\ndigest of all products: ");
-    io::print_hex(1, digest(), 8);
-    io::write_all(1, b"\n");
+}
+
+fn main() {
+    sums_and_inverses();
+    powers();
+    lines::number_line(b"products that differ: ", products_differing());
+    lines::number_line(b"inverses that are wrong: ", inverses_wrong());
+    lines::hex_line(b"digest of all products: ", digest(), 8);
 }

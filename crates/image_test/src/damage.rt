@@ -1,0 +1,42 @@
+// Damaged images. A file of records of five bytes: the offset of a byte of the image, high byte first, and its new value. FFFFFFFFh for an
+// offset ends a damaged image, and the next begins with the whole one.
+use crate::reading;
+use test_support::compare;
+use test_support::files;
+use test_support::lent;
+
+// A damaged image is read where it ends; the whole one then takes its place.
+fn end<'a>(whole: &'a [u8], image: &[u8], offset: u64) -> &'a [u8] {
+    if offset != 0xFFFF_FFFF {
+        return compare::part(whole, 0, 0);
+    }
+    reading::refuse_image(image);
+    whole
+}
+
+// Reads each damaged image of the file.
+fn refuse_each(whole: &[u8], file: &[u8]) {
+    let mut image = lent::image();
+    compare::copy(whole, &mut image, 0);
+    for k in 0..10627usize {
+        let offset = compare::number_at(file, 5 * k, 4);
+        let byte = compare::byte_at(file, 5 * k + 4);
+        compare::put(&mut image, offset as usize, byte);
+        compare::copy(end(whole, &image, offset), &mut image, 0);
+    }
+}
+
+// The records of zone1.
+pub fn records(blank: [u8; 53135]) -> [u8; 53135] {
+    let mut file = blank;
+    files::load(b"zone1", b".damage", &mut file);
+    file
+}
+
+// The damaged images of a file, then the whole one with slices that are refused.
+pub fn refuse(whole: [u8; 119788], file: [u8; 53135]) {
+    io::write_all(1, b"damaged\n");
+    refuse_each(&whole, &file);
+    io::write_all(1, b"reading refused\n");
+    reading::refuse_slices(&whole);
+}

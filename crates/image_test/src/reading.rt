@@ -1,0 +1,78 @@
+// Images read, or refused with every slice as document 01 has it.
+use crate::cluster::Cluster;
+use reader::Read;
+use test_support::compare;
+use test_support::lent;
+use test_support::lines;
+ghost use Prim.Native.Nat.{_≤_};
+
+// The answer, and whether the PSN is another.
+fn say(text: &[u8], psn: u32, read: Read) {
+    let answer = read.answer;
+    let found = read.psn;
+    lines::answer_line(text, answer);
+    if found.0 != psn {
+        io::write_all(1, b"  another PSN\n");
+    }
+}
+
+// Reads an image into marked slices, and says the answer.
+pub fn read(psn: u32, image: [u8; 119788], blank: Cluster) -> Cluster {
+    let mut user = blank.user;
+    let mut side = blank.side;
+    let mut dc = blank.dc;
+    let mut work = blank.work;
+    let read = reader::read_image(&image, &mut user, &mut side, &mut dc, &mut work);
+    say(b"  read ", psn, read);
+    Cluster {
+        user,
+        side,
+        dc,
+        image,
+        work,
+    }
+}
+
+// How many places of the slices are not as a refusal leaves them; every byte of work is then `left`.
+fn touched(user: [u8; 65536], side: [u8; 592], dc: [u32; 496], work: [u8; 76880], left: u8) -> u64 {
+    let n = compare::others(&user, lent::MARK);
+    let n = std::num::wrapping_add_u64(n, compare::others(&side, lent::MARK));
+    let n = std::num::wrapping_add_u64(n, compare::other_words(&dc, lent::WORD_MARK));
+    std::num::wrapping_add_u64(n, compare::others(&work, left))
+}
+
+// A refusal, with slices of these lengths for user, side, dc and work: number and place, no PSN, and whether the slices are not left as they
+// should be.
+fn refuse(image: &[u8], user: usize, side: usize, dc: usize, work: usize, left: u8)
+    requires { ⌜ ((user ≤ 65536) × (side ≤ 592)) × ((dc ≤ 496) × (work ≤ 76880)) ⌝ }
+{
+    let mut users = lent::user();
+    let mut sides = lent::side();
+    let mut words = lent::words();
+    let mut works = lent::work();
+    let read = reader::read_image(
+        image,
+        &mut users[0..user],
+        &mut sides[0..side],
+        &mut words[0..dc],
+        &mut works[0..work],
+    );
+    say(b"", 0, read);
+    if touched(users, sides, words, works, left) != 0 {
+        io::write_all(1, b"  not as it should be left\n");
+    }
+}
+
+// Tests 9 to 16, after which work holds zeros.
+pub fn refuse_image(image: &[u8]) {
+    refuse(image, 65536, 592, 496, 76880, 0);
+}
+
+// Tests 1 to 5; where two tests fail, the lower number.
+pub fn refuse_slices(image: &[u8]) {
+    refuse(image, 2, 2, 496, 76880, lent::MARK);
+    refuse(image, 65536, 2, 2, 76880, lent::MARK);
+    refuse(image, 65536, 592, 2, 76880, lent::MARK);
+    refuse(b"short", 65536, 592, 496, 2, lent::MARK);
+    refuse(image, 65536, 592, 496, 2, lent::MARK);
+}

@@ -1,0 +1,83 @@
+// Images written, or refused with both slices untouched.
+use crate::cluster::Cluster;
+use address::Psn;
+use test_support::compare;
+use test_support::lent;
+use test_support::lines;
+ghost use mathlib.Core.Path.{_≡_};
+ghost use Prim.Native.Nat.{_≤_};
+ghost use lib.ListN.{length};
+
+// Writes the image of a cluster into marked slices, and says the answer.
+pub fn write(text: &[u8], psn: u32, from: Cluster, blank: Cluster) -> Cluster {
+    let user = from.user;
+    let side = from.side;
+    let dc = from.dc;
+    let mut image = blank.image;
+    let mut work = blank.work;
+    let answer = writer::write_image(&user, Psn(psn), &side, &dc, &mut image, &mut work);
+    lines::answer_line(text, answer);
+    Cluster {
+        user,
+        side,
+        dc,
+        image,
+        work,
+    }
+}
+
+fn words_with(first: usize) -> [u32; 496]
+    ensures { λ r. ⌜ length r ≡ 496 ⌝ }
+{
+    let mut words = lent::words();
+    if first < 496 {
+        words[first] = 0x1000_0000;
+        words[495] = 0xFFFF_FFFF;
+    }
+    words
+}
+
+fn say_touched(image: [u8; 119788], work: [u8; 76880]) {
+    if compare::others(&image, lent::MARK) != 0 {
+        io::write_all(1, b"  image touched\n");
+    }
+    if compare::others(&work, lent::MARK) != 0 {
+        io::write_all(1, b"  work touched\n");
+    }
+}
+
+// A refusal, with slices of these lengths for user, side, dc, image and work: the answer, and whether image and work were touched. Where `first`
+// is the index of a dc word, that and the last are too large.
+fn refuse(psn: u32, first: usize, user: usize, side: usize, dc: usize, image: usize, work: usize)
+    requires { ⌜ ((user ≤ 65536) × (side ≤ 65536)) × ((dc ≤ 496) × ((image ≤ 119788) × (work ≤ 76880))) ⌝ }
+{
+    let users = lent::user();
+    let sides = lent::user();
+    let words = words_with(first);
+    let mut images = lent::image();
+    let mut works = lent::work();
+    let answer = writer::write_image(
+        &users[0..user],
+        Psn(psn),
+        &sides[0..side],
+        &words[0..dc],
+        &mut images[0..image],
+        &mut works[0..work],
+    );
+    lines::answer_line(b"", answer);
+    say_touched(images, works);
+}
+
+// Tests 1 to 5; where two tests fail, the lower number.
+pub fn refuse_slices() {
+    refuse(0x0010_0000, 496, 592, 65536, 496, 119788, 76880);
+    refuse(0x0010_0000, 496, 65536, 65536, 3, 119788, 76880);
+    refuse(0x0010_0000, 496, 65536, 592, 3, 119788, 76880);
+    refuse(0x0010_0010, 496, 65536, 592, 496, 10, 10);
+    refuse(0x0010_0010, 496, 65536, 592, 496, 119788, 10);
+}
+
+// Tests 6 to 8: a PSN, and the first dc word that is too large.
+pub fn refuse_parts(psn: u32, first: usize) {
+    refuse(psn, first, 65536, 592, 496, 119788, 76880);
+}

@@ -1,0 +1,129 @@
+// Slices compared, changed and copied.
+
+// The byte at a place, 0 past the end.
+pub fn byte_at(bytes: &[u8], at: usize) -> u8 {
+    if at < bytes.len() {
+        return bytes[at];
+    }
+    0
+}
+
+// The number that some bytes from `at` on make, the highest first.
+pub fn number_at(bytes: &[u8], at: usize, count: usize) -> u64 {
+    let mut n: u64 = 0;
+    for k in 0..count {
+        let byte = byte_at(bytes, std::num::wrapping_add_usize(at, k));
+        n = (n << 8) ^ byte as u64;
+    }
+    n
+}
+
+// The bytes from one place to another, none where there are not so many.
+pub fn part(bytes: &[u8], from: usize, to: usize) -> &[u8] {
+    if from <= to {
+        if to <= bytes.len() {
+            return &bytes[from..to];
+        }
+    }
+    &bytes[0..0]
+}
+
+// Line k of a text; the last where it has fewer.
+pub fn line(text: &[u8], k: usize) -> &[u8] {
+    let mut n = k;
+    let mut from = 0;
+    for i in 0..text.len() {
+        if text[i] == b'\n' {
+            if n == 0 {
+                return part(text, from, i);
+            }
+            n -= 1;
+            from = i + 1;
+        }
+    }
+    part(text, from, text.len())
+}
+
+pub fn put(bytes: &mut [u8], at: usize, byte: u8) {
+    if at < bytes.len() {
+        bytes[at] = byte;
+    }
+}
+
+// Another byte at a place.
+pub fn change(bytes: &mut [u8], at: usize) {
+    if at < bytes.len() {
+        bytes[at] = bytes[at] ^ 1;
+    }
+}
+
+// Bytes to a slice from `at` on.
+pub fn copy(from: &[u8], to: &mut [u8], at: usize) {
+    for k in 0..from.len() {
+        put(to, std::num::wrapping_add_usize(at, k), from[k]);
+    }
+}
+
+// 1 where place k of a has another byte in b, or none.
+fn differs(a: &[u8], b: &[u8], k: usize) -> u64 {
+    if k < a.len() {
+        if k < b.len() {
+            if a[k] == b[k] {
+                return 0;
+            }
+        }
+    }
+    1
+}
+
+// In how many places of a there is another byte in b, or none; places that only b has do not count.
+pub fn differing(a: &[u8], b: &[u8]) -> u64 {
+    let mut n: u64 = 0;
+    for k in 0..a.len() {
+        n = std::num::wrapping_add_u64(n, differs(a, b, k));
+    }
+    n
+}
+
+// How many bytes are other than `byte`.
+pub fn others(bytes: &[u8], byte: u8) -> u64 {
+    let mut n: u64 = 0;
+    for k in 0..bytes.len() {
+        if bytes[k] != byte {
+            n = std::num::wrapping_add_u64(n, 1);
+        }
+    }
+    n
+}
+
+// The same of words.
+pub fn other_words(words: &[u32], word: u32) -> u64 {
+    let mut n: u64 = 0;
+    for k in 0..words.len() {
+        if words[k] != word {
+            n = std::num::wrapping_add_u64(n, 1);
+        }
+    }
+    n
+}
+
+// 1 where place k of a has another word in b, or none.
+fn word_differs(a: &[u32], b: &[u32], k: usize) -> u64 {
+    if k < a.len() {
+        if k < b.len() {
+            if a[k] == b[k] {
+                return 0;
+            }
+        }
+    }
+    1
+}
+
+// In how many places of a there is another word in b, or none.
+pub fn words_differing(a: &[u32], b: &[u32]) -> u64 {
+    let mut n: u64 = 0;
+    for k in 0..a.len() {
+        n = std::num::wrapping_add_u64(n, word_differs(a, b, k));
+    }
+    n
+}
