@@ -3,22 +3,77 @@ use address::Aun;
 use address::Psn;
 use bis::Block;
 use bis::PsnFound;
-use test_support::compare;
-use test_support::draws;
-use test_support::hash;
-use test_support::lent;
-use test_support::lines;
-ghost use mathlib.Core.Path.{_≡_};
-ghost use lib.ListN.{length};
+
+fn wide(byte: u8) -> u64 {
+    byte as u64
+}
+
+fn print_field(text: &[u8], field: [u8; 9]) {
+    io::write_all(1, text);
+    let mut x = 0;
+    while x < 9 {
+        io::print_hex(1, wide(field[x]), 2);
+        x += 1;
+    }
+    io::write_all(1, b"\n");
+}
+
+fn print_number(text: &[u8], n: usize) {
+    io::write_all(1, text);
+    io::print_decimal(1, n as u64);
+    io::write_all(1, b"\n");
+}
+
+fn print_hash(text: &[u8], h: u64) {
+    io::write_all(1, text);
+    io::print_hex(1, h, 16);
+    io::write_all(1, b"\n");
+}
+
+// FNV-1a of 64 bits: one byte more. The prime is 2^40 + 1B3h.
+fn hashed(h: u64, byte: u8) -> u64 {
+    let x = h ^ wide(byte);
+    let low = x % 0x1_0000_0000 * 0x1b3;
+    let high = x / 0x1_0000_0000 % 0x1_0000_0000 * 0x1b3 % 0x1_0000_0000;
+    let top = x % 0x100_0000 * 0x100_0000_0000;
+    std::num::wrapping_add_u64(std::num::wrapping_add_u64(low, high * 0x1_0000_0000), top)
+}
+
+fn hash_of(bytes: &[u8]) -> u64 {
+    let mut h: u64 = 0xcbf2_9ce4_8422_2325;
+    let mut i = 0;
+    while i < bytes.len() {
+        h = hashed(h, bytes[i]);
+        i += 1;
+    }
+    h
+}
+
+// A step of the generator of the inputs: x * 5851F42D4C957F2Dh + 14057B7EF767814Fh modulo 2^64.
+fn stepped(x: u64) -> u64 {
+    let low = x % 0x1_0000_0000;
+    let high = x / 0x1_0000_0000;
+    let cross = (low * 0x5851_f42d % 0x1_0000_0000 + high * 0x4c95_7f2d % 0x1_0000_0000)
+        % 0x1_0000_0000;
+    let product = std::num::wrapping_add_u64(low * 0x4c95_7f2d, cross * 0x1_0000_0000);
+    std::num::wrapping_add_u64(product, 0x1405_7b7e_f767_814f)
+}
 
 // The side data of the input with this seed: the bytes after 1 + 65,536 steps.
-fn side_of(seed: u64) -> [u8; 592]
-    ensures { λ r. ⌜ length r ≡ 592 ⌝ }
-{
-    let mut user = lent::user();
-    let state = draws::draw(draws::next(seed), &mut user);
-    let mut side = lent::side();
-    draws::draw(state, &mut side);
+fn side_of(seed: u64) -> [u8; 592] {
+    let mut x = seed;
+    let mut n = 0u32;
+    while n < 65537 {
+        x = stepped(x);
+        n += 1;
+    }
+    let mut side = [0u8; 592];
+    let mut i = 0;
+    while i < 592 {
+        x = stepped(x);
+        side[i] = (x / 0x100_0000_0000_0000) as u8;
+        i += 1;
+    }
     side
 }
 

@@ -2,6 +2,7 @@
 // holds seven records of 161 bytes: #, sync number, dc word, row.
 use automaton::Table;
 use frame::FrameRead;
+use frame::State;
 ghost use mathlib.Core.Path.{_≡_};
 ghost use Prim.Native.Nat.{_<_};
 ghost use lib.ListN.{length};
@@ -236,15 +237,16 @@ fn written(input: &[u8], at: usize, image: &mut [u8]) -> bool
     let head = head_of(input);
     let mut table = modulator::steps::no_table();
     modulator::steps::fill_table(&mut table);
-    frame_writer::steps::write_frame(
+    let next = frame_writer::steps::write_frame(
         &table,
         &input[6..161],
         head.dc,
         head.number,
-        head.hash,
+        State { hash: head.hash },
         image,
         at,
-    )
+    );
+    next.hash
 }
 
 fn frame_lines(steps: &Table, input: &[u8], at: usize)
