@@ -28,7 +28,7 @@ imageAnswer b =
     (sectorsAnswer (scramblingOf (clusterPsn work)) work)))))))
 
 -- accepted, or refused by them
-abbrev pub imageOutcome : List ℕ → Lent → Outcome
+unfoldable pub imageOutcome : List ℕ → Lent → Outcome
 imageOutcome b before = judgedOutcome (imageAnswer b) (clusterIn b) (dcIn b) before
 
 -- 1 to 5: the lengths
