@@ -14,8 +14,8 @@ use Rattle.answer.proofs.RightLengths.{lengths-passed}
 use Rattle.cluster.specs.Multiplex.{bisIn}
 use Rattle.recording.specs.Reading.{clusterIn, dcIn}
 use Rattle.judging.specs.Tests.{lastBitsAnswer, syncsAnswer, framesAnswer}
-use Rattle.judging.specs.steps.Judged.{FramesJudged}
-use Rattle.strict_cluster.specs.Outcome.{accepted, cleared, judgedOutcome}
+use Rattle.judging.specs.steps.Tested.{FramesTested}
+use Rattle.strict_cluster.specs.Outcome.{accepted, cleared, outcomeBy}
 use Rattle.strict_cluster.specs.steps.Tested.{clusterAnswer, clusterOutcome}
 use Rattle.reader.specs.Outcome.{Lent, Outcome, imageAnswer, imageOutcome, sizesAnswer, outcome}
 use Rattle.reader.specs.Read.{RecordingTested}
@@ -36,7 +36,7 @@ module _ (b : List ℕ) (last syncs a : Answer) (d : Bool) (el : last ≡ lastBi
         size = size;
       }
 
-  pub frames-tested : (r : Answer) → d ≡ true → FramesJudged b r dc work → RecordingTested b r dc work
+  pub frames-tested : (r : Answer) → d ≡ true → FramesTested b r dc work → RecordingTested b r dc work
   frames-tested r t frames =
       record {
         answer-is =
@@ -50,7 +50,7 @@ module _ (b : List ℕ) (last syncs a : Answer) (d : Bool) (el : last ≡ lastBi
 -- ---- the outcome with slices of the right lengths; a is what 9 to 11 answer
 
 -- a refusal does not speak of what was read
-not-read : (a : Answer) (work dc : List ℕ) (lent : Lent) → isDone a ≡ false → judgedOutcome a work dc lent ≡ record { answer = a; psn = 0; lent = cleared lent }
+not-read : (a : Answer) (work dc : List ℕ) (lent : Lent) → isDone a ≡ false → outcomeBy a work dc lent ≡ record { answer = a; psn = 0; lent = cleared lent }
 not-read a work dc lent f = ap (λ (t : Bool). cond t (accepted work dc) (record { answer = a; psn = 0; lent = cleared lent })) f
 
 module _ (b user side dc before words work : List ℕ) (a : Answer) (tested : RecordingTested b a words work) (size : length before ≡ 76880) where
@@ -80,7 +80,7 @@ module _ (b user side dc before words work : List ℕ) (a : Answer) (tested : Re
   unfolding clusterOutcome imageOutcome
   image-read = by (isDone a) refl
     where
-      by : (t : Bool) → isDone a ≡ t → judgedOutcome (andThen a (rest work)) work words (lent work) ≡ judgedOutcome (imageAnswer b) (clusterIn b) (dcIn b) (lent before)
+      by : (t : Bool) → isDone a ≡ t → outcomeBy (andThen a (rest work)) work words (lent work) ≡ outcomeBy (imageAnswer b) (clusterIn b) (dcIn b) (lent before)
       by true e =
           let done = done-is a e in
           let is-work = tested .work-is done in
@@ -113,5 +113,5 @@ module _ (image user side dc work : List ℕ) (a : Answer) (d : Bool) (ea : a �
       let sizes = lengths-passed (length user) (length side) (length dc) (length image) (length work) ea ed t in
       e ∙ image-read (bitsOf image) user side dc work words read tested recording (sizes .0 .work) ∙ by-lengths true t
 
-  pub is-refused : (r : Answer) (p : ℕ) → d ≡ false → (r ≡ a) × (p ≡ 0) → record { answer = r; psn = p; lent = before } ≡ outcome image before
-  is-refused r p f e = (λ i. record { answer = (e .0 ∙ ea) i; psn = (e .1) i; lent = before }) ∙ by-lengths false f
+  pub is-refused : d ≡ false → record { answer = a; psn = 0; lent = before } ≡ outcome image before
+  is-refused f = (λ i. record { answer = ea i; psn = 0; lent = before }) ∙ by-lengths false f

@@ -15,15 +15,6 @@ pub struct Read {
     pub psn: Psn,
 }
 
-fn refused(answer: Answer) -> Read
-    ensures { λ r. ⌜ (r .answer ≡ answer) × (r .psn .0 ≡ 0) ⌝ }
-{
-    Read {
-        answer: answer,
-        psn: Psn(0),
-    }
-}
-
 // Tests 9 to 11; where they are passed the ECC cluster stands in work and its dc words in words.
 fn test_recording(image: &[u8], words: &mut [u32], work: &mut [u8]) -> Answer
     requires { ⌜ (length (now image) ≡ 119788) × ((length (now words) ≡ 496) × (length (now work) ≡ 76880)) ⌝ }
@@ -66,5 +57,8 @@ pub fn read_image(
         let psn = read.psn;
         return Read { answer, psn };
     }
-    refused(sizes)
+    Read {
+        answer: sizes,
+        psn: Psn(0),
+    }
 }

@@ -52,12 +52,9 @@ returns c =
     let start = test .before .before .before .before .before .before .before in
     with-exactly _ _ (λ k. start .shared-slice-known .given k .fits) (search (is-read))
 
-refused-requires : tie.Need-refused-requires
-refused-requires c κs = search needs
-
 returns-2 : tie.Need-returns-2
 returns-2 c =
-    let start = c .before .before .before .before .before .before .before .before in
+    let start = c .before .before .before .before .before .before .before in
     with-exactly _ _ (λ k. start .shared-slice-known .given k .fits) (search (is-refused))
 
 pub read-image-spec : {M : Type 1} → statement M
@@ -75,5 +72,4 @@ read-image-spec =
     same-length-3
     same-length-4
     returns
-    refused-requires
     returns-2)

@@ -11,7 +11,7 @@ use Rattle.cluster.specs.Multiplex.{bisIn}
 use Rattle.cluster.specs.Reading.{userIn}
 use Rattle.judging.specs.Tests.{bisColumnsAnswer, addressFieldsAnswer, psnAnswer, ldcColumnsAnswer, sectorsAnswer}
 use Rattle.strict_cluster.specs.declared.steps.Tested.{Tested}
-use Rattle.strict_cluster.specs.Outcome.{Lent, Outcome, judgedOutcome}
+use Rattle.strict_cluster.specs.Outcome.{Lent, Outcome, outcomeBy}
 
 -- 12 to 14, and the PSN
 unfoldable pub blockTested : List (List ℕ) → PsnAnswer
@@ -38,4 +38,4 @@ pub record Given (work : List ℕ) (block : List (List ℕ)) (stream words user 
 
 -- the cluster in work behind the tests before, with the dc words that were read beside it
 unfoldable pub clusterOutcome : Answer → List ℕ → List ℕ → Lent → Outcome
-clusterOutcome before work words lent = judgedOutcome (andThen before (clusterAnswer (bisIn work) work)) work words lent
+clusterOutcome before work words lent = outcomeBy (andThen before (clusterAnswer (bisIn work) work)) work words lent
