@@ -16,7 +16,7 @@ use Rattle.bis.specs.declared.PsnFound.the-variants.{Found, NotFound}
 use Rattle.bis.specs.Reading.{psnIn}
 use Rattle.recording.specs.steps.Read.{FramesRead}
 use Rattle.judging.specs.Tests.{lastBitsAnswer, framesAnswer, foundAnswer, psnAnswer}
-use Rattle.judging.specs.steps.Judged.{FramesJudged}
+use Rattle.judging.specs.steps.Tested.{FramesTested}
 
 -- ---- 9; x and y are the bits that were read
 
@@ -42,9 +42,9 @@ placed refusal n i j e f = e ∙ ap (lowest refusal n) f
 
 -- ---- 11
 
-pub frames-judged : {b : List ℕ} {n : ℕ} {dc work : List ℕ} {r : Answer} → FramesRead b n dc work → r ≡ lowest (λ _. Frame n) 496 n → FramesJudged b r dc work
+pub frames-left : {b : List ℕ} {n : ℕ} {dc work : List ℕ} {r : Answer} → FramesRead b n dc work → r ≡ lowest (λ _. Frame n) 496 n → FramesTested b r dc work
 unfolding framesAnswer
-frames-judged {n = n} read e =
+frames-left {n = n} read e =
     record {
       answer-is = placed Frame 496 n _ e (read .first);
       dc-is = λ d. read .dc-is (lowest-done Frame (λ k. refl) (sym e ∙ d));

@@ -1,2 +1,2 @@
 -- What the steps leave.
-pub mod Judged
+pub mod Tested

@@ -12,7 +12,7 @@ ghost use Rattle.answer.specs.Answer.{lowest};
 ghost use Rattle.remainders.specs.steps.Remainders.{AreRemainders};
 ghost use Rattle.recording.specs.steps.Read.{Within};
 ghost use Rattle.judging.specs.Tests.{lastBitsAnswer, syncsAnswer, bisColumnsAnswer, addressFieldsAnswer, psnAnswer, ldcColumnsAnswer, sectorsAnswer};
-ghost use Rattle.judging.specs.steps.Judged.{FramesJudged};
+ghost use Rattle.judging.specs.steps.Tested.{FramesTested};
 
 // A test of the places below n, of which i is the lowest that fails.
 fn lowest(i: usize, n: usize, refusal: Answer) -> Answer
@@ -49,7 +49,7 @@ pub fn syncs(image: &[u8], at: usize, first: bool) -> Answer
 // 11: its frames. Where they are passed the ECC cluster stands in work and the dc words in dc.
 pub fn frames(image: &[u8], at: usize, dc: &mut [u32], work: &mut [u8]) -> Answer
     requires { ⌜ Within (now image) at × ((length (now dc) ≡ 496) × (length (now work) ≡ 76880)) ⌝ }
-    ensures { λ r. ⌜ FramesJudged (drop at (bitsOf (now (image .entry)))) r (now (dc .exit)) (now (work .exit)) ⌝ }
+    ensures { λ r. ⌜ FramesTested (drop at (bitsOf (now (image .entry)))) r (now (dc .exit)) (now (work .exit)) ⌝ }
 {
     let n = recording::steps::read_frames(image, at, dc, work);
     lowest(n, 496, Answer::Frame(n))

@@ -9,12 +9,13 @@ use Rattle.bits.specs.Bits.{bitsOf}
 use Rattle.answer.specs.declared.Answer.{Answer}
 use Rattle.answer.specs.Answer.{isDone, andThen}
 use Rattle.answer.specs.Lengths.{lengthsAnswer}
-use Rattle.answer.proofs.Tests.{done-is, done-not, then-assoc, goes-on, stops}
+use Rattle.answer.proofs.Tests.{done-is, done-not, then-here, then-assoc, goes-on, stops}
+use Rattle.answer.proofs.RightLengths.{lengths-passed}
 use Rattle.cluster.specs.Multiplex.{bisIn}
 use Rattle.recording.specs.Reading.{clusterIn, dcIn}
 use Rattle.judging.specs.Tests.{lastBitsAnswer, syncsAnswer, framesAnswer}
-use Rattle.judging.specs.steps.Judged.{FramesJudged}
-use Rattle.strict_cluster.specs.Outcome.{accepted, cleared}
+use Rattle.judging.specs.steps.Tested.{FramesTested}
+use Rattle.strict_cluster.specs.Outcome.{accepted, cleared, outcomeBy}
 use Rattle.strict_cluster.specs.steps.Tested.{clusterAnswer, clusterOutcome}
 use Rattle.reader.specs.Outcome.{Lent, Outcome, imageAnswer, imageOutcome, sizesAnswer, outcome}
 use Rattle.reader.specs.Read.{RecordingTested}
@@ -35,7 +36,7 @@ module _ (b : List ℕ) (last syncs a : Answer) (d : Bool) (el : last ≡ lastBi
         size = size;
       }
 
-  pub frames-tested : (r : Answer) → d ≡ true → FramesJudged b r dc work → RecordingTested b r dc work
+  pub frames-tested : (r : Answer) → d ≡ true → FramesTested b r dc work → RecordingTested b r dc work
   frames-tested r t frames =
       record {
         answer-is =
@@ -46,45 +47,53 @@ module _ (b : List ℕ) (last syncs a : Answer) (d : Bool) (el : last ≡ lastBi
         size = frames .size;
       }
 
--- ---- the outcome with slices of the right lengths; a is what 9 to 11 answer, d whether it is `Done`
+-- ---- the outcome with slices of the right lengths; a is what 9 to 11 answer
 
-module _ (b user side dc before words work : List ℕ) (a : Answer) (d : Bool) (tested : RecordingTested b a words work) (ed : d ≡ isDone a) (size : length before ≡ 76880) where
-  abbrev lent : Lent
-  lent = record { user = user; side = side; dc = dc; work = before }
+-- a refusal does not speak of what was read
+not-read : (a : Answer) (work dc : List ℕ) (lent : Lent) → isDone a ≡ false → outcomeBy a work dc lent ≡ record { answer = a; psn = 0; lent = cleared lent }
+not-read a work dc lent f = ap (λ (t : Bool). cond t (accepted work dc) (record { answer = a; psn = 0; lent = cleared lent })) f
 
-  -- the tests 9 to 11, and those behind them
+module _ (b user side dc before words work : List ℕ) (a : Answer) (tested : RecordingTested b a words work) (size : length before ≡ 76880) where
+  -- the slices at entry, and when the recording is read
+  abbrev lent : List ℕ → Lent
+  lent w = record { user = user; side = side; dc = dc; work = w }
+
   abbrev start : Answer
   start = andThen (lastBitsAnswer b) (andThen (syncsAnswer false b) (framesAnswer b))
 
-  abbrev rest : Answer
-  rest = clusterAnswer (bisIn (clusterIn b)) (clusterIn b)
+  abbrev rest : List ℕ → Answer
+  rest w = clusterAnswer (bisIn w) w
 
-  in-two : andThen start rest ≡ imageAnswer b
-  unfolding imageAnswer
-  in-two = then-assoc (lastBitsAnswer b) (andThen (syncsAnswer false b) (framesAnswer b)) rest ∙ ap (andThen (lastBitsAnswer b)) (then-assoc (syncsAnswer false b) (framesAnswer b) rest)
+  in-two : andThen start (rest (clusterIn b)) ≡ imageAnswer b
+  unfolding imageAnswer clusterAnswer
+  in-two =
+      then-assoc (lastBitsAnswer b) (andThen (syncsAnswer false b) (framesAnswer b)) (rest (clusterIn b))
+      ∙ ap (andThen (lastBitsAnswer b)) (then-assoc (syncsAnswer false b) (framesAnswer b) (rest (clusterIn b)))
+
+  behind-start : andThen a (rest (clusterIn b)) ≡ imageAnswer b
+  behind-start = ap (λ (x : Answer). andThen x (rest (clusterIn b))) (tested .answer-is) ∙ in-two
 
   is-size : length work ≡ length before
   is-size = tested .size ∙ sym size
 
-  pub cluster-read : (o : Outcome) → d ≡ true → o ≡ clusterOutcome work words (record { user = user; side = side; dc = dc; work = work }) → o ≡ imageOutcome b lent
-  cluster-read o t e =
-      let done = done-is a (sym ed ∙ t) in
-      let is-work = tested .work-is done in
-      let is-dc = tested .dc-is done in
-      let is-answer : clusterAnswer (bisIn work) work ≡ imageAnswer b =
-      ap (λ (w : List ℕ). clusterAnswer (bisIn w) w) is-work ∙ goes-on start rest a d (tested .answer-is) ed rest t refl ∙ in-two in
-      e
-      ∙ (λ i. cond (isDone (is-answer i)) (accepted (is-work i) (is-dc i))
-      (record { answer = is-answer i; psn = 0; lent = record { user = user; side = side; dc = dc; work = tabulate (is-size i) (λ _. 0) } }))
-
-  pub start-refused : (r : Answer) (p : ℕ) (zeros : List ℕ) → d ≡ false → (r ≡ a) × (p ≡ 0) → zeros ≡ tabulate (length work) (λ _. 0)
-      → record { answer = r; psn = p; lent = record { user = user; side = side; dc = dc; work = zeros } } ≡ imageOutcome b lent
-  start-refused r p zeros f e ez =
-      let is-answer : a ≡ imageAnswer b = stops start rest a d (tested .answer-is) ed f ∙ in-two in
-      let fail : isDone (imageAnswer b) ≡ false = ap isDone (sym is-answer) ∙ sym ed ∙ f in
-      let is-zeros = ez ∙ ap (λ (n : ℕ). tabulate n (λ _. 0)) is-size in
-      (λ i. record { answer = (e .0 ∙ is-answer) i; psn = (e .1) i; lent = record { user = user; side = side; dc = dc; work = is-zeros i } })
-      ∙ sym (ap (λ (t : Bool). cond t (accepted (clusterIn b) (dcIn b)) (record { answer = imageAnswer b; psn = 0; lent = cleared lent })) fail)
+  pub image-read : clusterOutcome a work words (lent work) ≡ imageOutcome b (lent before)
+  unfolding clusterOutcome imageOutcome
+  image-read = by (isDone a) refl
+    where
+      by : (t : Bool) → isDone a ≡ t → outcomeBy (andThen a (rest work)) work words (lent work) ≡ outcomeBy (imageAnswer b) (clusterIn b) (dcIn b) (lent before)
+      by true e =
+          let done = done-is a e in
+          let is-work = tested .work-is done in
+          let is-dc = tested .dc-is done in
+          let is-answer = ap (λ (w : List ℕ). andThen a (rest w)) is-work ∙ behind-start in
+          λ i. cond (isDone (is-answer i)) (accepted (is-work i) (is-dc i))
+          (record { answer = is-answer i; psn = 0; lent = record { user = user; side = side; dc = dc; work = tabulate (is-size i) (λ _. 0) } })
+      by false e =
+          let stays = then-here a (rest work) e in
+          let is-answer = sym (then-here a (rest (clusterIn b)) e) ∙ behind-start in
+          not-read (andThen a (rest work)) work words (lent work) (ap isDone stays ∙ e)
+          ∙ (λ i. record { answer = (stays ∙ is-answer) i; psn = 0; lent = record { user = user; side = side; dc = dc; work = tabulate (is-size i) (λ _. 0) } })
+          ∙ sym (not-read (imageAnswer b) (clusterIn b) (dcIn b) (lent before) (sym (ap isDone is-answer) ∙ e))
 
 -- ---- the outcome; a is what the lengths answer, d whether it is `Done`
 
@@ -97,8 +106,12 @@ module _ (image user side dc work : List ℕ) (a : Answer) (d : Bool) (ea : a �
   by-lengths t e =
       sym (ap (λ (t : Bool). cond t (imageOutcome (bitsOf image) before) (record { answer = sizesAnswer image before; psn = 0; lent = before })) (ap isDone (sym ea) ∙ sym ed ∙ e))
 
-  pub is-read : (o : Outcome) → d ≡ true → o ≡ imageOutcome (bitsOf image) before → o ≡ outcome image before
-  is-read o t e = e ∙ by-lengths true t
+  -- tested is what 9 to 11 answer; words and read are what they leave
+  pub is-read : (o : Outcome) (tested : Answer) (words read : List ℕ) → d ≡ true → RecordingTested (bitsOf image) tested words read
+      → o ≡ clusterOutcome tested read words (record { user = user; side = side; dc = dc; work = read }) → o ≡ outcome image before
+  is-read o tested words read t recording e =
+      let sizes = lengths-passed (length user) (length side) (length dc) (length image) (length work) ea ed t in
+      e ∙ image-read (bitsOf image) user side dc work words read tested recording (sizes .0 .work) ∙ by-lengths true t
 
-  pub is-refused : (r : Answer) (p : ℕ) → d ≡ false → (r ≡ a) × (p ≡ 0) → record { answer = r; psn = p; lent = before } ≡ outcome image before
-  is-refused r p f e = (λ i. record { answer = (e .0 ∙ ea) i; psn = (e .1) i; lent = before }) ∙ by-lengths false f
+  pub is-refused : d ≡ false → record { answer = a; psn = 0; lent = before } ≡ outcome image before
+  is-refused f = (λ i. record { answer = ea i; psn = 0; lent = before }) ∙ by-lengths false f

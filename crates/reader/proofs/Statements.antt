@@ -60,7 +60,7 @@ module _ (input : Input) (is : IsAccepted input) where
       λ i. record { answer = Done; psn = psn i; lent = record { user = user i; side = (read .bis .has-side) i; dc = dc-back input is i; work = cluster-back input is i } }
 
   pub read-back : (before : Lent) → RightSlices before → outcome (image input) before ≡ given input
-  unfolding outcome
+  unfolding outcome imageOutcome
   read-back before right =
       let sizes : sizesAnswer (image input) before ≡ Done =
       lengths-right (length (before .user)) (length (before .side)) (length (before .dc)) (length (image input)) (length (before .work)) right (length-image input) in
@@ -76,7 +76,7 @@ module _ (l : List ℕ) (before : Lent) (bytes : Bytes l) where
   read-there = accepted (clusterIn (bitsOf l)) (dcIn (bitsOf l))
 
   is-done : numberOf (outcome l before .answer) ≡ 0 → (sizesAnswer l before ≡ Done) × (imageAnswer (bitsOf l) ≡ Done)
-  unfolding outcome
+  unfolding outcome imageOutcome
   is-done e = by (sizesAnswer l before) (isDone (sizesAnswer l before)) refl e
     where
       by-image : (a : Answer) (t : Bool) → isDone a ≡ t → numberOf (cond t read-there (record { answer = a; psn = 0; lent = cleared before }) .answer) ≡ 0 → a ≡ Done
@@ -90,7 +90,7 @@ module _ (l : List ℕ) (before : Lent) (bytes : Bytes l) where
 
   -- the outcome is then what is read in the image
   outcome-is : (e : numberOf (outcome l before .answer) ≡ 0) → outcome l before ≡ read-there
-  unfolding outcome
+  unfolding outcome imageOutcome
   outcome-is e =
       let done = is-done e in
       ap (λ (a : Answer). cond (isDone a) (imageOutcome (bitsOf l) before) (record { answer = a; psn = 0; lent = before })) (done .0)
@@ -219,7 +219,7 @@ late-image b =
     (late-then (late-test LdcColumn 304 (firstWrongWord work) (λ k. omega arith)) (late-test Sector 32 (firstWrongSector (scramblingOf (clusterPsn work)) work) (λ k. omega arith))))))))
 
 pub refused : (l : List ℕ) (before : Lent) → (numberOf (outcome l before .answer) ≡ 0 → ⊥) → Refused before (outcome l before)
-unfolding outcome
+unfolding outcome imageOutcome
 refused l before h =
     by (sizesAnswer l before) (isDone (sizesAnswer l before)) refl
     (lengths-number (length (before .user)) (length (before .side)) (length (before .dc)) (length l) (length (before .work))) h

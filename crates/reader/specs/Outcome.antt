@@ -11,7 +11,7 @@ use Rattle.scrambling.specs.Scrambling.{scramblingOf}
 use Rattle.cluster.specs.Multiplex.{bisIn}
 use Rattle.recording.specs.Reading.{clusterIn, dcIn}
 use Rattle.judging.specs.Tests.{lastBitsAnswer, syncsAnswer, framesAnswer, bisColumnsAnswer, addressFieldsAnswer, psnAnswer, clusterPsn, ldcColumnsAnswer, sectorsAnswer}
-use Rattle.strict_cluster.specs.Outcome.{judgedOutcome}
+use Rattle.strict_cluster.specs.Outcome.{outcomeBy}
 pub use Rattle.strict_cluster.specs.Outcome.{Lent, Outcome}
 
 -- the tests 9 to 16, in rising order, in the bits b of an image
@@ -28,8 +28,8 @@ imageAnswer b =
     (sectorsAnswer (scramblingOf (clusterPsn work)) work)))))))
 
 -- accepted, or refused by them
-abbrev pub imageOutcome : List ℕ → Lent → Outcome
-imageOutcome b before = judgedOutcome (imageAnswer b) (clusterIn b) (dcIn b) before
+unfoldable pub imageOutcome : List ℕ → Lent → Outcome
+imageOutcome b before = outcomeBy (imageAnswer b) (clusterIn b) (dcIn b) before
 
 -- 1 to 5: the lengths
 abbrev pub sizesAnswer : List ℕ → Lent → Answer

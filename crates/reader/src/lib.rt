@@ -5,8 +5,7 @@ ghost use mathlib.Core.Path.{_≡_};
 ghost use lib.ListN.{length};
 ghost use Rattle.bits.specs.Bits.{bitsOf};
 ghost use Rattle.answer.specs.Answer.{numberOf};
-ghost use Rattle.answer.specs.Lengths.{RightLengths};
-ghost use Rattle.reader.specs.Outcome.{imageOutcome, outcome};
+ghost use Rattle.reader.specs.Outcome.{outcome};
 ghost use Rattle.reader.specs.Promise.{ReadsExactly};
 ghost use Rattle.reader.specs.Read.{RecordingTested};
 
@@ -14,15 +13,6 @@ ghost use Rattle.reader.specs.Read.{RecordingTested};
 pub struct Read {
     pub answer: Answer,
     pub psn: Psn,
-}
-
-fn refused(answer: Answer) -> Read
-    ensures { λ r. ⌜ (r .answer ≡ answer) × (r .psn .0 ≡ 0) ⌝ }
-{
-    Read {
-        answer: answer,
-        psn: Psn(0),
-    }
 }
 
 // Tests 9 to 11; where they are passed the ECC cluster stands in work and its dc words in words.
@@ -44,30 +34,6 @@ fn no_words() -> [u32; 496]
     [0u32; 496]
 }
 
-// Reads with slices of the right lengths.
-fn read_sized(
-    image: &[u8],
-    user: &mut [u8],
-    side: &mut [u8],
-    dc: &mut [u32],
-    work: &mut [u8],
-) -> Read
-    requires { ⌜ RightLengths (length (now user)) (length (now side)) (length (now dc)) (length (now work)) × (length (now image) ≡ 119788) ⌝ }
-    ensures { λ r. ⌜ record { answer = r .answer; psn = r .psn .0; lent = record { user = now (user .exit); side = now (side .exit); dc = now (dc .exit); work = now (work .exit) } }
-        ≡ imageOutcome (bitsOf (now (image .entry))) (record { user = now (user .entry); side = now (side .entry); dc = now (dc .entry); work = now (work .entry) }) ⌝ }
-{
-    let mut words = no_words();
-    let answer = test_recording(image, &mut words, work);
-    if answer.is_done() {
-        let read = strict_cluster::steps::read(work, &words, user, side, dc);
-        let answer = read.answer;
-        let psn = read.psn;
-        return Read { answer, psn };
-    }
-    slices::clear(work);
-    refused(answer)
-}
-
 // Reads an image strictly. Document 01's answers 0 to 5 and 9 to 16: on 0 the user bytes, side data and dc words that the image was made
 // of, and in work its ECC cluster; on 1 to 5 every slice as it was; on 9 to 16 work zeros and the others as they were.
 pub fn read_image(
@@ -84,7 +50,15 @@ pub fn read_image(
 {
     let sizes = answer::lengths(user.len(), side.len(), dc.len(), image.len(), work.len());
     if sizes.is_done() {
-        return read_sized(image, user, side, dc, work);
+        let mut words = no_words();
+        let tested = test_recording(image, &mut words, work);
+        let read = strict_cluster::steps::read(tested, work, &words, user, side, dc);
+        let answer = read.answer;
+        let psn = read.psn;
+        return Read { answer, psn };
     }
-    refused(sizes)
+    Read {
+        answer: sizes,
+        psn: Psn(0),
+    }
 }

@@ -24,6 +24,7 @@ use Rattle.strict_cluster.specs.steps.Tested.{blockTested, clusterAnswer
 
 pub block-tested : (block : List (List ℕ)) (columns fields inner r : Answer) (found : PsnAnswer) → columns ≡ bisColumnsAnswer block → fields ≡ addressFieldsAnswer block → found ≡ psnAnswer block
     → inner ≡ andThen fields (found .answer) → r ≡ andThen columns inner → record { answer = r; psn = found .psn } ≡ blockTested block
+unfolding blockTested
 block-tested block columns fields inner r found ec ef ep ei er =
     let is-answer = er ∙ ap₂ andThen ec (ei ∙ ap₂ andThen ef (ap (λ (p : PsnAnswer). p .answer) ep)) in
     λ i. record { answer = is-answer i; psn = ep i .psn }
@@ -44,18 +45,24 @@ module _ (stream work : List ℕ) (before : Answer) (d : Bool) (ed : d ≡ isDon
     pub sectors-decide : (r : Answer) → e ≡ true → r ≡ sectorsAnswer stream work → r ≡ andThen before data-answer
     sectors-decide r s er = goes-on before data-answer before d refl ed r t (goes-on (ldcColumnsAnswer work) (sectorsAnswer stream work) columns e ec ee r s er)
 
--- ---- 12 to 16
+-- ---- 12 to 16; passed is what is answered up to 14
 
-pub cluster-tested : (block : List (List ℕ)) (work : List ℕ) (found : PsnAnswer) (stream : List ℕ) (r : Answer) → found ≡ blockTested block → stream ≡ scramblingOf (found .psn .0)
-    → r ≡ andThen (found .answer) (andThen (ldcColumnsAnswer work) (sectorsAnswer stream work)) → record { answer = r; psn = found .psn; stream = stream } ≡ clusterTested block work
-cluster-tested block work found stream r ef es er =
+pub cluster-tested : (before : Answer) (block : List (List ℕ)) (work : List ℕ) (found : PsnAnswer) (stream : List ℕ) (passed r : Answer) → found ≡ blockTested block → stream ≡ scramblingOf (found .psn .0)
+    → passed ≡ andThen before (found .answer) → r ≡ andThen passed (andThen (ldcColumnsAnswer work) (sectorsAnswer stream work))
+    → record { answer = r; psn = found .psn; stream = stream } ≡ clusterTested before block work
+unfolding blockTested clusterAnswer clusterTested
+cluster-tested before block work found stream passed r ef es ep er =
     let is-stream = es ∙ ap (λ (p : PsnAnswer). scramblingOf (p .psn .0)) ef in
+    let is-passed = ep ∙ ap (λ (p : PsnAnswer). andThen before (p .answer)) ef in
+    let columns = bisColumnsAnswer block in
+    let fields = addressFieldsAnswer block in
+    let psn = psnAnswer block .answer in
     let rest = andThen (ldcColumnsAnswer work) (sectorsAnswer (scramblingOf (psnAnswer block .psn .0)) work) in
     let is-answer =
     er
-    ∙ ap₂ (λ (a : Answer) (s : List ℕ). andThen a (andThen (ldcColumnsAnswer work) (sectorsAnswer s work))) (ap (λ (p : PsnAnswer). p .answer) ef) is-stream
-    ∙ then-assoc (bisColumnsAnswer block) (andThen (addressFieldsAnswer block) (psnAnswer block .answer)) rest
-    ∙ ap (andThen (bisColumnsAnswer block)) (then-assoc (addressFieldsAnswer block) (psnAnswer block .answer) rest) in
+    ∙ ap₂ (λ (a : Answer) (s : List ℕ). andThen a (andThen (ldcColumnsAnswer work) (sectorsAnswer s work))) is-passed is-stream
+    ∙ then-assoc before (andThen columns (andThen fields psn)) rest
+    ∙ ap (andThen before) (then-assoc columns (andThen fields psn) rest ∙ ap (andThen columns) (then-assoc fields psn rest)) in
     λ i. record { answer = is-answer i; psn = ef i .psn; stream = is-stream i }
 
 -- ---- what is given
@@ -68,21 +75,28 @@ given-all work block stream words user side dc before eu es size ew =
 
 -- ---- the outcome; d is whether the tests are passed
 
-module _ (work words user side dc : List ℕ) (block : List (List ℕ)) (r : Tested) (d : Bool) (eb : block ≡ bisIn work) (er : r ≡ clusterTested block work) (ed : d ≡ isDone (r .answer)) where
-  abbrev before : Lent
-  before = record { user = user; side = side; dc = dc; work = work }
+module _ (before : Answer) (work words user side dc : List ℕ) (block : List (List ℕ)) (r : Tested) (d : Bool) (eb : block ≡ bisIn work) (er : r ≡ clusterTested before block work)
+    (ed : d ≡ isDone (r .answer)) where
+  abbrev lent : Lent
+  lent = record { user = user; side = side; dc = dc; work = work }
 
-  is-tested : r ≡ clusterTested (bisIn work) work
-  is-tested = er ∙ ap (λ (l : List (List ℕ)). clusterTested l work) eb
+  abbrev all-tests : Answer
+  all-tests = andThen before (clusterAnswer (bisIn work) work)
 
-  is-answer : r .answer ≡ clusterAnswer (bisIn work) work
+  is-tested : r ≡ clusterTested before (bisIn work) work
+  is-tested = er ∙ ap (λ (l : List (List ℕ)). clusterTested before l work) eb
+
+  is-answer : r .answer ≡ all-tests
+  unfolding clusterTested
   is-answer = ap (λ (x : Tested). x .answer) is-tested
 
-  by-tests : (t : Bool) → d ≡ t → cond t (accepted work words) (record { answer = clusterAnswer (bisIn work) work; psn = 0; lent = cleared before }) ≡ clusterOutcome work words before
-  by-tests t e = sym (ap (λ (t : Bool). cond t (accepted work words) (record { answer = clusterAnswer (bisIn work) work; psn = 0; lent = cleared before })) (ap isDone (sym is-answer) ∙ sym ed ∙ e))
+  by-tests : (t : Bool) → d ≡ t → cond t (accepted work words) (record { answer = all-tests; psn = 0; lent = cleared lent }) ≡ clusterOutcome before work words lent
+  unfolding clusterOutcome
+  by-tests t e = sym (ap (λ (t : Bool). cond t (accepted work words) (record { answer = all-tests; psn = 0; lent = cleared lent })) (ap isDone (sym is-answer) ∙ sym ed ∙ e))
 
   pub all-passed : (user′ side′ dc′ : List ℕ) → d ≡ true → Given work block (r .stream) words user′ side′ dc′
-      → record { answer = r .answer; psn = r .psn .0; lent = record { user = user′; side = side′; dc = dc′; work = work } } ≡ clusterOutcome work words before
+      → record { answer = r .answer; psn = r .psn .0; lent = record { user = user′; side = side′; dc = dc′; work = work } } ≡ clusterOutcome before work words lent
+  unfolding clusterTested
   all-passed user′ side′ dc′ t given =
       let done = done-is (r .answer) (sym ed ∙ t) in
       let psn = ap (λ (x : Tested). x .psn .0) is-tested in
@@ -92,5 +106,5 @@ module _ (work words user side dc : List ℕ) (block : List (List ℕ)) (r : Tes
       ∙ by-tests true t
 
   pub one-refused : (zeros : List ℕ) → d ≡ false → zeros ≡ tabulate (length work) (λ _. 0)
-      → record { answer = r .answer; psn = 0; lent = record { user = user; side = side; dc = dc; work = zeros } } ≡ clusterOutcome work words before
+      → record { answer = r .answer; psn = 0; lent = record { user = user; side = side; dc = dc; work = zeros } } ≡ clusterOutcome before work words lent
   one-refused zeros f e = (λ i. record { answer = is-answer i; psn = 0; lent = record { user = user; side = side; dc = dc; work = e i } }) ∙ by-tests false f

@@ -36,5 +36,5 @@ abbrev pub cleared : Lent → Lent
 cleared before = record { user = before .user; side = before .side; dc = before .dc; work = tabulate (length (before .work)) (λ _. 0) }
 
 -- the answer decides; the ECC cluster and the dc words that were read, and the slices at entry
-abbrev pub judgedOutcome : Answer → List ℕ → List ℕ → Lent → Outcome
-judgedOutcome answer work dc before = cond (isDone answer) (accepted work dc) (record { answer = answer; psn = 0; lent = cleared before })
+abbrev pub outcomeBy : Answer → List ℕ → List ℕ → Lent → Outcome
+outcomeBy answer work dc before = cond (isDone answer) (accepted work dc) (record { answer = answer; psn = 0; lent = cleared before })

@@ -49,10 +49,10 @@ fn test_data(before: Answer, table: &Remainders, work: &[u8], stream: &[u8]) -> 
     before
 }
 
-// All of them, in a cluster and its BIS block.
-fn test(work: &[u8], block: Block) -> Tested
+// All of them, in a cluster and its BIS block, behind the tests before.
+fn test(before: Answer, work: &[u8], block: Block) -> Tested
     requires { ⌜ length (now work) ≡ 76880 ⌝ }
-    ensures { λ r. ⌜ r ≡ clusterTested block (now (work .entry)) ⌝ }
+    ensures { λ r. ⌜ r ≡ clusterTested before block (now (work .entry)) ⌝ }
 {
     let mut table = remainders::steps::no_remainders();
     remainders::steps::fill_remainders(&mut table);
@@ -61,7 +61,7 @@ fn test(work: &[u8], block: Block) -> Tested
     let psn = found.psn;
     let stream = scrambling::scrambling(psn);
     Tested {
-        answer: test_data(answer, &table, work, &stream),
+        answer: test_data(before.and_then(answer), &table, work, &stream),
         psn: psn,
         stream: stream,
     }
@@ -85,8 +85,9 @@ fn give(
     slices::copy_words(words, dc);
 }
 
-// Reads the cluster in work: fills user, side and dc, or leaves them and clears work.
+// Reads the cluster in work, where `before`, the answer of the tests before, is `Done`: fills user, side and dc. A refusal leaves them and clears work.
 pub fn read(
+    before: Answer,
     work: &mut [u8],
     words: &[u32; 496],
     user: &mut [u8],
@@ -95,10 +96,10 @@ pub fn read(
 ) -> PsnAnswer
     requires { ⌜ ((length (now work) ≡ 76880) × (length (now user) ≡ 65536)) × ((length (now side) ≡ 592) × ((length (now words) ≡ 496) × (length (now dc) ≡ 496))) ⌝ }
     ensures { λ r. ⌜ record { answer = r .answer; psn = r .psn .0; lent = record { user = now (user .exit); side = now (side .exit); dc = now (dc .exit); work = now (work .exit) } }
-        ≡ clusterOutcome (now (work .entry)) (now (words .entry)) (record { user = now (user .entry); side = now (side .entry); dc = now (dc .entry); work = now (work .entry) }) ⌝ }
+        ≡ clusterOutcome before (now (work .entry)) (now (words .entry)) (record { user = now (user .entry); side = now (side .entry); dc = now (dc .entry); work = now (work .entry) }) ⌝ }
 {
     let block = bis_cluster::steps::bis_block(work);
-    let tested = test(work, block);
+    let tested = test(before, work, block);
     let answer = tested.answer;
     let psn = tested.psn;
     let stream = tested.stream;

@@ -1,8 +1,8 @@
--- `read_image` meets its contract: the lengths, then the image (Reading), and what is promised of it (Statements).
-use Rattle.reader.proofs.Statements.{with-exactly}
+-- `read_image` meets its contract: the lengths, then the recording and its cluster (Reading), and what is promised of it (Statements).
+use borrow.Author.Needs.{needs}
 use Rattle.answer.proofs.RightLengths.{lengths-passed}
 use Rattle.reader.proofs.Reading.{is-read, is-refused}
-use borrow.Author.Needs.{needs}
+use Rattle.reader.proofs.Statements.{with-exactly}
 use Rattle.reader.proofs.read_image.Statement.{statement}
 use Rattle.reader.proofs.read_image.Tie as tie
 
@@ -12,10 +12,25 @@ lengths-requires c κs = search needs
 is-done-requires : tie.Need-is-done-requires
 is-done-requires c κs = search needs
 
-read-sized-requires : tie.Need-read-sized-requires
-read-sized-requires c κs =
-    let test = c .before .before .before .before in
-    lengths-passed _ _ _ _ _ (test .before .before .lengths .ensures) (test .before .is-done .ensures) (test .if1 .taken)
+no-words-requires : tie.Need-no-words-requires
+no-words-requires c κs = search needs
+
+slice-aggregate-test-recording : tie.Need-slice-aggregate-test-recording
+slice-aggregate-test-recording c = search needs
+
+test-recording-requires : tie.Need-test-recording-requires
+test-recording-requires c κs =
+    let words = c .before .before in
+    let test = words .before in
+    let sizes = lengths-passed _ _ _ _ _ (test .before .before .lengths .ensures) (test .before .is-done .ensures) (test .if1 .taken) in
+    (sizes .1, (words .no-words .ensures, sizes .0 .work))
+
+read-requires : tie.Need-read-requires
+read-requires c κs =
+    let recording = c .before .before .before .before .before .before .before .before in
+    let test = recording .before .before .before .before in
+    let sizes = lengths-passed _ _ _ _ _ (test .before .before .lengths .ensures) (test .before .is-done .ensures) (test .if1 .taken) .0 in
+    ((recording .test-recording .ensures .size, sizes .user), (sizes .side, (search needs, sizes .dc)))
 
 same-length : tie.Need-same-length
 same-length c = search needs
@@ -31,16 +46,15 @@ same-length-4 c = search needs
 
 returns : tie.Need-returns
 returns c =
-    let test = c .before .before .before .before .before .before .before .before .before .before .before .before in
-    let start = test .before .before .before .before .before .before .before .before in
+    let read = c .before .before .before .before .before .before .before .before .before in
+    let recording = read .before .before .before .before .before .before .before .before .before in
+    let test = recording .before .before .before .before in
+    let start = test .before .before .before .before .before .before .before in
     with-exactly _ _ (λ k. start .shared-slice-known .given k .fits) (search (is-read))
-
-refused-requires : tie.Need-refused-requires
-refused-requires c κs = search needs
 
 returns-2 : tie.Need-returns-2
 returns-2 c =
-    let start = c .before .before .before .before .before .before .before .before in
+    let start = c .before .before .before .before .before .before .before in
     with-exactly _ _ (λ k. start .shared-slice-known .given k .fits) (search (is-refused))
 
 pub read-image-spec : {M : Type 1} → statement M
@@ -49,11 +63,13 @@ read-image-spec =
     (tie.spec
     lengths-requires
     is-done-requires
-    read-sized-requires
+    no-words-requires
+    slice-aggregate-test-recording
+    test-recording-requires
+    read-requires
     same-length
     same-length-2
     same-length-3
     same-length-4
     returns
-    refused-requires
     returns-2)

@@ -11,14 +11,14 @@ use Rattle.cluster.specs.Multiplex.{bisIn}
 use Rattle.cluster.specs.Reading.{userIn}
 use Rattle.judging.specs.Tests.{bisColumnsAnswer, addressFieldsAnswer, psnAnswer, ldcColumnsAnswer, sectorsAnswer}
 use Rattle.strict_cluster.specs.declared.steps.Tested.{Tested}
-use Rattle.strict_cluster.specs.Outcome.{Lent, Outcome, judgedOutcome}
+use Rattle.strict_cluster.specs.Outcome.{Lent, Outcome, outcomeBy}
 
 -- 12 to 14, and the PSN
-abbrev pub blockTested : List (List ℕ) → PsnAnswer
+unfoldable pub blockTested : List (List ℕ) → PsnAnswer
 blockTested block = record { answer = andThen (bisColumnsAnswer block) (andThen (addressFieldsAnswer block) (psnAnswer block .answer)); psn = psnAnswer block .psn }
 
 -- 12 to 16
-abbrev pub clusterAnswer : List (List ℕ) → List ℕ → Answer
+unfoldable pub clusterAnswer : List (List ℕ) → List ℕ → Answer
 clusterAnswer block work =
     andThen (bisColumnsAnswer block)
     (andThen (addressFieldsAnswer block)
@@ -26,8 +26,9 @@ clusterAnswer block work =
     (andThen (ldcColumnsAnswer work)
     (sectorsAnswer (scramblingOf (psnAnswer block .psn .0)) work))))
 
-abbrev pub clusterTested : List (List ℕ) → List ℕ → Tested
-clusterTested block work = record { answer = clusterAnswer block work; psn = psnAnswer block .psn; stream = scramblingOf (psnAnswer block .psn .0) }
+-- all that the tests find, behind those before
+unfoldable pub clusterTested : Answer → List (List ℕ) → List ℕ → Tested
+clusterTested before block work = record { answer = andThen before (clusterAnswer block work); psn = psnAnswer block .psn; stream = scramblingOf (psnAnswer block .psn .0) }
 
 -- user bytes, side data and dc words
 pub record Given (work : List ℕ) (block : List (List ℕ)) (stream words user side dc : List ℕ) : Type 0 where
@@ -35,6 +36,6 @@ pub record Given (work : List ℕ) (block : List (List ℕ)) (stream words user 
   pub side-is : side ≡ sideIn block
   pub dc-is : dc ≡ words
 
--- the cluster in work, with the dc words that were read beside it
-abbrev pub clusterOutcome : List ℕ → List ℕ → Lent → Outcome
-clusterOutcome work words before = judgedOutcome (clusterAnswer (bisIn work) work) work words before
+-- the cluster in work behind the tests before, with the dc words that were read beside it
+unfoldable pub clusterOutcome : Answer → List ℕ → List ℕ → Lent → Outcome
+clusterOutcome before work words lent = outcomeBy (andThen before (clusterAnswer (bisIn work) work)) work words lent

@@ -1,6 +1,6 @@
 -- `frames` meets its contract: the frame that was found, judged, and what was read (Judging).
 use borrow.Author.Needs.{needs}
-use Rattle.judging.proofs.Judging.{frames-judged}
+use Rattle.judging.proofs.Judging.{frames-left}
 use Rattle.judging.proofs.steps.frames.Statement.{statement}
 use Rattle.judging.proofs.steps.frames.Tie as tie
 
@@ -17,7 +17,7 @@ same-length-2 : tie.Need-same-length-2
 same-length-2 c = search needs
 
 returns : tie.Need-returns
-returns c = frames-judged (c .before .before .before .before .before .read-frames .ensures) (c .lowest .ensures)
+returns c = frames-left (c .before .before .before .before .before .read-frames .ensures) (c .lowest .ensures)
 
 pub frames-spec : {M : Type 1} → statement M
 frames-spec =

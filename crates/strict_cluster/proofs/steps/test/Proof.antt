@@ -16,6 +16,9 @@ test-block-requires c κs = search needs
 scrambling-requires : tie.Need-scrambling-requires
 scrambling-requires c κs = search needs
 
+and-then-requires : tie.Need-and-then-requires
+and-then-requires c κs = search needs
+
 slice-aggregate-test-data : tie.Need-slice-aggregate-test-data
 slice-aggregate-test-data c = search needs
 
@@ -33,6 +36,7 @@ test-spec =
     fill-remainders-requires
     test-block-requires
     scrambling-requires
+    and-then-requires
     slice-aggregate-test-data
     test-data-requires
     returns)

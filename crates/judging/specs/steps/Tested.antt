@@ -8,7 +8,7 @@ use Rattle.answer.specs.declared.Answer.the-variants.{Done}
 use Rattle.recording.specs.Reading.{clusterIn, dcIn}
 use Rattle.judging.specs.Tests.{framesAnswer}
 
-pub record FramesJudged (b : List ℕ) (answer : Answer) (dc work : List ℕ) : Type 0 where
+pub record FramesTested (b : List ℕ) (answer : Answer) (dc work : List ℕ) : Type 0 where
   pub answer-is : answer ≡ framesAnswer b
   pub dc-is : answer ≡ Done → dc ≡ dcIn b
   pub work-is : answer ≡ Done → work ≡ clusterIn b
