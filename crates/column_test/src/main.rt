@@ -4,9 +4,22 @@
 use column::Remainders;
 use test_support::compare;
 use test_support::lines;
-ghost use mathlib.Core.Path.{_≡_};
-ghost use lib.ListN.{length};
+ghost use Prim.Native.Nat.{_<_, _≤_};
 ghost use Rattle.column.specs.Remainders.{AreRemainders};
+
+struct Column {
+    bytes: [u8; 248],
+    size: usize,
+}
+
+// The next bytes of standard input.
+fn read_column(size: usize) -> Column
+    requires { ⌜ size ≤ 248 ⌝ }
+{
+    let mut bytes = [0u8; 248];
+    io::read_full(0, &mut bytes[0..size]);
+    Column { bytes, size }
+}
 
 // Whether the column has its roots, one by one or by the table, which tests 32.
 fn has_roots(table: &Remainders, column: &[u8], roots: u8, looked: bool) -> bool
@@ -20,30 +33,30 @@ fn has_roots(table: &Remainders, column: &[u8], roots: u8, looked: bool) -> bool
     column::has_roots(column, roots)
 }
 
+// Whether a column that differs from this one in byte k has the roots as well.
+fn is_unseen(table: &Remainders, column: Column, roots: u8, looked: bool, k: usize) -> bool
+    requires { ⌜ AreRemainders (now table) ⌝ }
+{
+    let mut bytes = column.bytes;
+    compare::flip(&mut bytes, k, 0x40);
+    has_roots(table, compare::part(&bytes, 0, column.size), roots, looked)
+}
+
 // How many columns that differ from this one in one byte have the roots as well.
-fn unseen(table: &Remainders, column: &mut [u8], roots: u8, looked: bool) -> u64
+fn unseen(table: &Remainders, column: Column, roots: u8, looked: bool) -> u64
     requires { ⌜ AreRemainders (now table) ⌝ }
 {
     let mut count: u64 = 0;
-    for k in 0..column.len() {
-        column[k] = column[k] ^ 0x40;
-        if has_roots(table, column, roots, looked) {
+    for k in 0..column.size {
+        if is_unseen(table, column, roots, looked, k) {
             count = std::num::wrapping_add_u64(count, 1);
         }
-        column[k] = column[k] ^ 0x40;
     }
     count
 }
 
-fn parity_4_text(message: &[u8]) {
-    let mut parity = [0u8; 4];
-    column::parity_4(message, &mut parity);
-    lines::hex_bytes(&parity);
-}
-
 fn parity_32(table: &Remainders, message: &[u8], looked: bool) -> [u8; 32]
     requires { ⌜ AreRemainders (now table) ⌝ }
-    ensures { λ r. ⌜ length r ≡ 32 ⌝ }
 {
     let mut parity = [0u8; 32];
     if looked {
@@ -54,76 +67,80 @@ fn parity_32(table: &Remainders, message: &[u8], looked: bool) -> [u8; 32]
     parity
 }
 
-fn parity_text(table: &Remainders, message: &[u8], roots: u8, looked: bool)
-    requires { ⌜ AreRemainders (now table) ⌝ }
-{
-    if roots == 4 {
-        parity_4_text(message);
-        return;
-    }
-    let parity = parity_32(table, message, looked);
+fn print_32(parity: [u8; 32]) {
     lines::hex_bytes(&parity);
 }
 
-// The parity, whether the column has its roots, and what goes unseen.
-fn report(table: &Remainders, column: &mut [u8], roots: u8, looked: bool)
+fn parity_4(message: &[u8]) -> [u8; 4] {
+    let mut parity = [0u8; 4];
+    column::parity_4(message, &mut parity);
+    parity
+}
+
+fn print_4(parity: [u8; 4]) {
+    lines::hex_bytes(&parity);
+}
+
+fn print_parity(table: &Remainders, message: &[u8], roots: u8, looked: bool)
     requires { ⌜ AreRemainders (now table) ⌝ }
 {
-    let n = roots as usize;
-    if column.len() < n {
-        return;
-    }
-    let m = column.len() - n;
-    parity_text(table, &column[..m], roots, looked);
-    if has_roots(table, column, roots, looked) {
-        io::write_all(1, b" roots, changes unseen ");
+    if roots == 4 {
+        print_4(parity_4(message));
     } else {
-        io::write_all(1, b" no roots, changes unseen ");
+        print_32(parity_32(table, message, looked));
     }
-    lines::number_line(b"", unseen(table, column, roots, looked));
 }
 
-// The next column of standard input.
-fn read_column(table: &Remainders, name: &[u8], column: &mut [u8], roots: u8)
+fn print_roots(found: bool) {
+    if found {
+        io::write_all(1, b" roots");
+    } else {
+        io::write_all(1, b" no roots");
+    }
+}
+
+// The parity, whether the column has its roots, and how many changes go unseen.
+fn report(table: &Remainders, column: Column, roots: u8, looked: bool)
     requires { ⌜ AreRemainders (now table) ⌝ }
 {
-    io::read_full(0, column);
+    let bytes = column.bytes;
+    let size = column.size;
+    let end = std::num::wrapping_sub_usize(size, roots as usize);
+    print_parity(table, compare::part(&bytes, 0, end), roots, looked);
+    print_roots(has_roots(table, compare::part(&bytes, 0, size), roots, looked));
+    let count = unseen(table, column, roots, looked);
+    lines::number_line(b", changes unseen ", count);
+}
+
+// A column of 32 roots, by the division and by the table.
+fn report_twice(table: &Remainders, name: &[u8], size: usize)
+    requires { ⌜ AreRemainders (now table) × (size ≤ 248) ⌝ }
+{
+    let column = read_column(size);
     io::write_all(1, name);
-    report(table, column, roots, false);
-    if roots == 32 {
-        io::write_all(1, b"by the table: ");
-        report(table, column, roots, true);
-    }
-}
-
-fn ldc(table: &Remainders, name: &[u8])
-    requires { ⌜ AreRemainders (now table) ⌝ }
-{
-    read_column(table, name, &mut [0u8; 248], 32);
-}
-
-fn bis(table: &Remainders, name: &[u8])
-    requires { ⌜ AreRemainders (now table) ⌝ }
-{
-    read_column(table, name, &mut [0u8; 62], 32);
-}
-
-fn address(table: &Remainders, name: &[u8])
-    requires { ⌜ AreRemainders (now table) ⌝ }
-{
-    read_column(table, name, &mut [0u8; 9], 4);
+    report(table, column, 32, false);
+    io::write_all(1, b"by the table: ");
+    report(table, column, 32, true);
 }
 
 fn columns(table: &Remainders)
     requires { ⌜ AreRemainders (now table) ⌝ }
 {
-    ldc(table, b"LDC column 0, zero cluster: ");
-    ldc(table, b"LDC column 0, seed 0: ");
-    ldc(table, b"LDC column 0, seed 1: ");
-    ldc(table, b"the first, without root 0: ");
-    ldc(table, b"the first, without root 31: ");
-    bis(table, b"BIS column 0, zone 1: ");
-    bis(table, b"BIS column 23, zone 2: ");
+    report_twice(table, b"LDC column 0, zero cluster: ", 248);
+    report_twice(table, b"LDC column 0, seed 0: ", 248);
+    report_twice(table, b"LDC column 0, seed 1: ", 248);
+    report_twice(table, b"the first, without root 0: ", 248);
+    report_twice(table, b"the first, without root 31: ", 248);
+    report_twice(table, b"BIS column 0, zone 1: ", 62);
+    report_twice(table, b"BIS column 23, zone 2: ", 62);
+}
+
+fn address(table: &Remainders, name: &[u8])
+    requires { ⌜ AreRemainders (now table) ⌝ }
+{
+    let column = read_column(9);
+    io::write_all(1, name);
+    report(table, column, 4, false);
 }
 
 fn addresses(table: &Remainders)
@@ -135,37 +152,44 @@ fn addresses(table: &Remainders)
     address(table, b"address field 15, seed 1: ");
 }
 
-// In how many bytes the parity that the table gives of a message differs from that of the division.
-fn differing(table: &Remainders, message: &[u8]) -> u64
-    requires { ⌜ AreRemainders (now table) ⌝ }
-{
-    let divided = parity_32(table, message, false);
-    let looked = parity_32(table, message, true);
-    compare::differing(&divided, &looked)
+fn differing(a: [u8; 32], b: [u8; 32]) -> u64 {
+    compare::differing(&a, &b)
 }
 
-// How many rows of the table are right: row n is read for byte n % 256 with n / 256 zeros behind it.
+// Whether the table gives the parity that the division gives, of byte n % 256 with n / 256 zeros behind it, for which it reads row n.
+fn is_right(table: &Remainders, n: usize) -> bool
+    requires { ⌜ AreRemainders (now table) × (n < 2048) ⌝ }
+{
+    let mut message = [0u8; 8];
+    message[7 - n / 256] = (n % 256) as u8;
+    let divided = parity_32(table, &message, false);
+    let looked = parity_32(table, &message, true);
+    differing(divided, looked) == 0
+}
+
 fn right_rows(table: &Remainders) -> u64
     requires { ⌜ AreRemainders (now table) ⌝ }
 {
     let mut count: u64 = 0;
     for n in 0..2048usize {
-        let mut message = [0u8; 8];
-        message[7 - n / 256] = (n % 256) as u8;
-        if differing(table, &message) == 0 {
-            count += 1;
+        if is_right(table, n) {
+            count = std::num::wrapping_add_u64(count, 1);
         }
     }
     count
 }
 
+fn report_all(table: &Remainders)
+    requires { ⌜ AreRemainders (now table) ⌝ }
+{
+    columns(table);
+    addresses(table);
+    let text = b"rows of the table that agree with the division: ";
+    lines::number_line(text, right_rows(table));
+}
+
 fn main() {
     let mut table = column::no_remainders();
     column::fill_remainders(&mut table);
-    columns(&table);
-    addresses(&table);
-    lines::number_line(
-        b"rows of the table that agree with the division: ",
-        right_rows(&table),
-    );
+    report_all(&table);
 }

@@ -61,19 +61,19 @@ fn wrong_answers(frame: &mut [u8], s: usize) -> u64
     ensures { λ r. ⌜ r ≤ 2 ⌝ }
 {
     let refused = flag(!sector::edc_right(frame));
-    compare::change(frame, s % 32 * 66 + 5);
+    compare::flip(frame, s % 32 * 66 + 5, 1);
     let passed = flag(sector::edc_right(frame));
     refused + passed
 }
 
 // One sector more: written, read back, and read with one byte changed.
-fn sector(seen: Seen, drawn: bool, s: usize, stream: &[u8]) -> Seen {
+fn sector(seen: Seen, drawn: bool, s: usize, stream: [u8; 2052]) -> Seen {
     let mut user = no_user();
     let state = draw(drawn, seen.state, &mut user);
     if s % 31 == 0 {
         edc_line(b"error-detection code ", &user);
     }
-    let mut frame = frame_of(&user, stream);
+    let mut frame = frame_of(&user, &stream);
     Seen {
         state,
         user: hash::behind(seen.user, &user),
@@ -83,7 +83,7 @@ fn sector(seen: Seen, drawn: bool, s: usize, stream: &[u8]) -> Seen {
 }
 
 // 32 sectors; the code of the first and of the last is printed.
-fn sectors(drawn: bool, seed: u64, stream: &[u8]) -> Seen {
+fn sectors(drawn: bool, seed: u64, stream: [u8; 2052]) -> Seen {
     let mut seen = Seen {
         state: draws::next(seed),
         user: hash::NONE,
@@ -102,13 +102,17 @@ fn seen_lines(seen: Seen) {
     lines::hex_line(b"wrong answers ", seen.wrong, 1);
 }
 
+fn stream_lines(stream: [u8; 2052]) {
+    lines::bytes_line(b"first scrambling bytes ", compare::part(&stream, 0, 16));
+    lines::hex_line(b"scrambling bytes ", hash::of(&stream), 16);
+}
+
 // A cluster of bytes drawn, or of zeros.
 fn cluster(psn: u32, drawn: bool, seed: u64) {
     let stream = sector::scrambling(Psn(psn));
     lines::hex_line(b"PSN ", psn as u64, 8);
-    lines::bytes_line(b"first scrambling bytes ", &stream[..16]);
-    lines::hex_line(b"scrambling bytes ", hash::of(&stream), 16);
-    seen_lines(sectors(drawn, seed, &stream));
+    stream_lines(stream);
+    seen_lines(sectors(drawn, seed, stream));
 }
 
 // A sector of zeros but for its last byte.
@@ -128,9 +132,8 @@ fn frame_lines(text: &[u8], user: &[u8], stream: &[u8], hashed: &[u8]) {
 }
 
 // The scrambled data frame of a sector of zeros is the stream.
-fn zeros_scrambled() {
+fn zeros_scrambled(stream: [u8; 2052]) {
     let user = no_user();
-    let stream = sector::scrambling(Psn(0x0010_0000));
     frame_lines(b"data frame of zeros ", &user, &stream, b"scrambled ");
 }
 
@@ -148,7 +151,7 @@ fn main() {
     last_byte(0);
     last_byte(1);
     last_byte(2);
-    zeros_scrambled();
+    zeros_scrambled(sector::scrambling(Psn(0x0010_0000)));
     other_lengths(&[1u8, 2, 3, 4, 5, 6, 7, 8, 9, 10, 11, 12, 13]);
     cluster(0x0010_0000, false, 0);
     cluster(0x04C5_DBC0, true, 0);
