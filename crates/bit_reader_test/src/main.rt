@@ -3,6 +3,7 @@ ghost use mathlib.Core.Path.{_≡_};
 ghost use Rattle.bit_reader_test.specs.Steps.{atStart, threeSteps};
 use bit_reader::ImageReader;
 use bits::Step;
+use test_support::lines;
 
 // The numbers that three steps of one reader give, and where it then stands.
 struct Three {
@@ -28,10 +29,8 @@ fn three_steps(image: &[u8]) -> Three
 }
 
 fn print_step(step: Step) {
-    io::write_all(1, b" ");
-    io::print_decimal(1, step.value as u64);
-    io::write_all(1, b":");
-    io::print_decimal(1, step.next as u64);
+    lines::number(b" ", step.value as u64);
+    lines::number(b":", step.next as u64);
 }
 
 // So many steps, the first from `start`.
@@ -43,40 +42,40 @@ fn steps(text: &[u8], image: &[u8], start: usize, count: usize) {
         print_step(step);
         position = step.next;
     }
-    io::write_all(1, b"\n");
-}
-
-fn print_number(n: usize) {
-    io::write_all(1, b" ");
-    io::print_decimal(1, n as u64);
+    lines::end_line();
 }
 
 // Three steps of one reader: their numbers, and its last position.
 fn print_three(text: &[u8], image: &[u8]) {
     let steps = three_steps(image);
-    io::write_all(1, text);
-    print_number(steps.first as usize);
-    print_number(steps.second as usize);
-    print_number(steps.third as usize);
-    print_number(steps.position);
-    io::write_all(1, b"\n");
+    lines::number(text, steps.first as u64);
+    lines::number(b" ", steps.second as u64);
+    lines::number(b" ", steps.third as u64);
+    lines::number_line(b" ", steps.position as u64);
 }
 
-fn main() {
+fn long_image() {
     let image = [0x05u8, 0x39, 0x77];
     steps(b"24 bits:", &image, 0, 10);
     steps(b"24 bits from 22:", &image, 22, 2);
     steps(b"24 bits from 21:", &image, 21, 3);
     steps(b"24 bits from 100:", &image, 100, 2);
     steps(b"24 bits from 2^64 - 1:", &image, 18446744073709551615, 2);
+}
+
+fn short_images() {
     let two = [0xffu8, 0x55];
     steps(b"16 bits:", &two, 0, 7);
     steps(b"16 bits from 1:", &two, 1, 7);
     steps(b"16 bits from 2:", &two, 2, 7);
-    let one = [0xacu8];
-    steps(b"8 bits:", &one, 0, 4);
-    steps(b"no bits:", &one[0..0], 0, 2);
-    print_three(b"one reader, 24 bits:", &image);
-    print_three(b"one reader, 8 bits:", &one);
-    print_three(b"one reader, no bits:", &one[0..0]);
+    steps(b"8 bits:", &[0xacu8], 0, 4);
+    steps(b"no bits:", b"", 0, 2);
+}
+
+fn main() {
+    long_image();
+    short_images();
+    print_three(b"one reader, 24 bits: ", &[0x05u8, 0x39, 0x77]);
+    print_three(b"one reader, 8 bits: ", &[0xacu8]);
+    print_three(b"one reader, no bits: ", b"");
 }

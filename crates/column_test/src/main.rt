@@ -2,14 +2,23 @@
 // taken from it, two BIS columns and four primary address fields, each with its parity. Prints the parity of what stands before it,
 // whether the column has its roots, and how many changes of one byte go unseen; of 32 roots also by the table of remainders.
 use remainders::Remainders;
+use test_support::compare;
+use test_support::lines;
+ghost use Prim.Native.Nat.{_<_, _≤_};
 ghost use Rattle.remainders.specs.steps.Remainders.{AreRemainders};
 
-fn print_bytes(bytes: &[u8]) {
-    let mut i = 0;
-    while i < bytes.len() {
-        io::print_hex(1, bytes[i] as u64, 2);
-        i += 1;
-    }
+struct Column {
+    bytes: [u8; 248],
+    size: usize,
+}
+
+// The next bytes of standard input.
+fn read_column(size: usize) -> Column
+    requires { ⌜ size ≤ 248 ⌝ }
+{
+    let mut bytes = [0u8; 248];
+    io::read_full(0, &mut bytes[0..size]);
+    Column { bytes, size }
 }
 
 // Whether the column has its roots, one by one or by the table, which tests 32.
@@ -24,158 +33,114 @@ fn has_roots(table: &Remainders, column: &[u8], roots: u8, looked: bool) -> bool
     column::has_roots(column, roots)
 }
 
+// Whether a column that differs from this one in byte k has the roots as well.
+fn is_unseen(table: &Remainders, column: Column, roots: u8, looked: bool, k: usize) -> bool
+    requires { ⌜ AreRemainders (now table) ⌝ }
+{
+    let mut bytes = column.bytes;
+    compare::flip(&mut bytes, k, 0x40);
+    has_roots(table, compare::part(&bytes, 0, column.size), roots, looked)
+}
+
 // How many columns that differ from this one in one byte have the roots as well.
-fn unseen(table: &Remainders, column: &mut [u8], roots: u8, looked: bool) -> u64
+fn unseen(table: &Remainders, column: Column, roots: u8, looked: bool) -> u64
     requires { ⌜ AreRemainders (now table) ⌝ }
 {
     let mut count: u64 = 0;
-    let mut i = 0;
-    while i < column.len() {
-        let byte = column[i];
-        column[i] = byte ^ 0x40;
-        if has_roots(table, column, roots, looked) {
-            count += 1;
+    for k in 0..column.size {
+        if is_unseen(table, column, roots, looked, k) {
+            count = std::num::wrapping_add_u64(count, 1);
         }
-        column[i] = byte;
-        i += 1;
     }
     count
 }
 
-fn print_roots(table: &Remainders, column: &mut [u8], roots: u8, looked: bool)
+fn parity_32(table: &Remainders, message: &[u8], looked: bool) -> [u8; 32]
     requires { ⌜ AreRemainders (now table) ⌝ }
 {
-    if has_roots(table, column, roots, looked) {
-        io::write_all(1, b" roots, changes unseen ");
+    let mut parity = [0u8; 32];
+    if looked {
+        code_word::steps::parity_32_by(table, message, &mut parity);
     } else {
-        io::write_all(1, b" no roots, changes unseen ");
+        column::parity_32(message, &mut parity);
     }
-    io::print_decimal(1, unseen(table, column, roots, looked));
-    io::write_all(1, b"\n");
+    parity
 }
 
-fn same(a: &[u8; 32], b: &[u8; 32]) -> bool {
-    let mut j = 0;
-    while j < 32 {
-        if a[j] != b[j] {
-            return false;
-        }
-        j += 1;
-    }
-    true
+fn print_32(parity: [u8; 32]) {
+    lines::hex_bytes(&parity);
 }
 
-// Whether the table gives the parity of eight bytes that the division gives.
-fn agrees(table: &Remainders, message: &[u8; 8]) -> bool
-    requires { ⌜ AreRemainders (now table) ⌝ }
-{
-    let mut divided = [0u8; 32];
-    column::parity_32(message, &mut divided);
-    let mut looked = [0u8; 32];
-    code_word::steps::parity_32_by(table, message, &mut looked);
-    same(&divided, &looked)
-}
-
-// How many rows of the table are right: row n is read for byte n % 256 with n / 256 zeros behind it.
-fn right_rows(table: &Remainders) -> u64
-    requires { ⌜ AreRemainders (now table) ⌝ }
-{
-    let mut count: u64 = 0;
-    let mut n: usize = 0;
-    while n < 2048 {
-        let mut message = [0u8; 8];
-        message[7 - n / 256] = (n % 256) as u8;
-        if agrees(table, &message) {
-            count += 1;
-        }
-        n += 1;
-    }
-    count
-}
-
-fn report_by(table: &Remainders, column: &mut [u8])
-    requires { ⌜ AreRemainders (now table) ⌝ }
-{
-    let n = column.len();
-    if n < 32 {
-        return;
-    }
-    let m = n - 32;
-    let mut parity = [0u8; 32];
-    code_word::steps::parity_32_by(table, &column[..m], &mut parity);
-    print_bytes(&parity);
-    print_roots(table, column, 32, true);
-}
-
-fn report_32(table: &Remainders, column: &mut [u8])
-    requires { ⌜ AreRemainders (now table) ⌝ }
-{
-    let n = column.len();
-    if n < 32 {
-        return;
-    }
-    let m = n - 32;
-    let mut parity = [0u8; 32];
-    column::parity_32(&column[..m], &mut parity);
-    print_bytes(&parity);
-    print_roots(table, column, 32, false);
-}
-
-fn report_4(table: &Remainders, column: &mut [u8])
-    requires { ⌜ AreRemainders (now table) ⌝ }
-{
-    let n = column.len();
-    if n < 4 {
-        return;
-    }
-    let m = n - 4;
+fn parity_4(message: &[u8]) -> [u8; 4] {
     let mut parity = [0u8; 4];
-    column::parity_4(&column[..m], &mut parity);
-    print_bytes(&parity);
-    print_roots(table, column, 4, false);
+    column::parity_4(message, &mut parity);
+    parity
 }
 
-fn ldc(table: &Remainders, name: &[u8])
+fn print_4(parity: [u8; 4]) {
+    lines::hex_bytes(&parity);
+}
+
+fn print_parity(table: &Remainders, message: &[u8], roots: u8, looked: bool)
     requires { ⌜ AreRemainders (now table) ⌝ }
 {
-    let mut column = [0u8; 248];
-    io::read_full(0, &mut column);
+    if roots == 4 {
+        print_4(parity_4(message));
+    } else {
+        print_32(parity_32(table, message, looked));
+    }
+}
+
+fn print_roots(found: bool) {
+    if found {
+        io::write_all(1, b" roots");
+    } else {
+        io::write_all(1, b" no roots");
+    }
+}
+
+// The parity, whether the column has its roots, and how many changes go unseen.
+fn report(table: &Remainders, column: Column, roots: u8, looked: bool)
+    requires { ⌜ AreRemainders (now table) ⌝ }
+{
+    let bytes = column.bytes;
+    let size = column.size;
+    let end = std::num::wrapping_sub_usize(size, roots as usize);
+    print_parity(table, compare::part(&bytes, 0, end), roots, looked);
+    print_roots(has_roots(table, compare::part(&bytes, 0, size), roots, looked));
+    let count = unseen(table, column, roots, looked);
+    lines::number_line(b", changes unseen ", count);
+}
+
+// A column of 32 roots, by the division and by the table.
+fn report_twice(table: &Remainders, name: &[u8], size: usize)
+    requires { ⌜ AreRemainders (now table) × (size ≤ 248) ⌝ }
+{
+    let column = read_column(size);
     io::write_all(1, name);
-    report_32(table, &mut column);
+    report(table, column, 32, false);
     io::write_all(1, b"by the table: ");
-    report_by(table, &mut column);
-}
-
-fn bis(table: &Remainders, name: &[u8])
-    requires { ⌜ AreRemainders (now table) ⌝ }
-{
-    let mut column = [0u8; 62];
-    io::read_full(0, &mut column);
-    io::write_all(1, name);
-    report_32(table, &mut column);
-    io::write_all(1, b"by the table: ");
-    report_by(table, &mut column);
-}
-
-fn address(table: &Remainders, name: &[u8])
-    requires { ⌜ AreRemainders (now table) ⌝ }
-{
-    let mut field = [0u8; 9];
-    io::read_full(0, &mut field);
-    io::write_all(1, name);
-    report_4(table, &mut field);
+    report(table, column, 32, true);
 }
 
 fn columns(table: &Remainders)
     requires { ⌜ AreRemainders (now table) ⌝ }
 {
-    ldc(table, b"LDC column 0, zero cluster: ");
-    ldc(table, b"LDC column 0, seed 0: ");
-    ldc(table, b"LDC column 0, seed 1: ");
-    ldc(table, b"the first, without root 0: ");
-    ldc(table, b"the first, without root 31: ");
-    bis(table, b"BIS column 0, zone 1: ");
-    bis(table, b"BIS column 23, zone 2: ");
+    report_twice(table, b"LDC column 0, zero cluster: ", 248);
+    report_twice(table, b"LDC column 0, seed 0: ", 248);
+    report_twice(table, b"LDC column 0, seed 1: ", 248);
+    report_twice(table, b"the first, without root 0: ", 248);
+    report_twice(table, b"the first, without root 31: ", 248);
+    report_twice(table, b"BIS column 0, zone 1: ", 62);
+    report_twice(table, b"BIS column 23, zone 2: ", 62);
+}
+
+fn address(table: &Remainders, name: &[u8])
+    requires { ⌜ AreRemainders (now table) ⌝ }
+{
+    let column = read_column(9);
+    io::write_all(1, name);
+    report(table, column, 4, false);
 }
 
 fn addresses(table: &Remainders)
@@ -187,18 +152,44 @@ fn addresses(table: &Remainders)
     address(table, b"address field 15, seed 1: ");
 }
 
-fn report(table: &Remainders)
+fn differing(a: [u8; 32], b: [u8; 32]) -> u64 {
+    compare::differing(&a, &b)
+}
+
+// Whether the table gives the parity that the division gives, of byte n % 256 with n / 256 zeros behind it, for which it reads row n.
+fn is_right(table: &Remainders, n: usize) -> bool
+    requires { ⌜ AreRemainders (now table) × (n < 2048) ⌝ }
+{
+    let mut message = [0u8; 8];
+    message[7 - n / 256] = (n % 256) as u8;
+    let divided = parity_32(table, &message, false);
+    let looked = parity_32(table, &message, true);
+    differing(divided, looked) == 0
+}
+
+fn right_rows(table: &Remainders) -> u64
+    requires { ⌜ AreRemainders (now table) ⌝ }
+{
+    let mut count: u64 = 0;
+    for n in 0..2048usize {
+        if is_right(table, n) {
+            count = std::num::wrapping_add_u64(count, 1);
+        }
+    }
+    count
+}
+
+fn report_all(table: &Remainders)
     requires { ⌜ AreRemainders (now table) ⌝ }
 {
     columns(table);
     addresses(table);
-    io::write_all(1, b"rows of the table that agree with the division: ");
-    io::print_decimal(1, right_rows(table));
-    io::write_all(1, b"\n");
+    let text = b"rows of the table that agree with the division: ";
+    lines::number_line(text, right_rows(table));
 }
 
 fn main() {
     let mut table = remainders::steps::no_remainders();
     remainders::steps::fill_remainders(&mut table);
-    report(&table);
+    report_all(&table);
 }

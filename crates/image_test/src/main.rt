@@ -1,5 +1,5 @@
 // Writer and reader on whole images: the clusters of an independent program both ways, its damaged images, round trips, and each refusal.
-mod cluster;
+mod clusters;
 mod damage;
 mod reading;
 mod writing;
@@ -7,36 +7,36 @@ mod writing;
 use test_support::compare;
 
 // A cluster of files, written.
-fn write(psn: u32, given: cluster::Cluster) {
-    let made = writing::write(b"  written ", psn, given, cluster::marked());
+fn write(psn: u32, given: clusters::Cluster) {
+    let made = writing::write(b"  written ", psn, given, clusters::marked());
     let x = made.image;
     let y = given.image;
-    cluster::compare_images(x, y);
+    clusters::compare_images(x, y);
     let x = made.work;
     let y = given.work;
-    cluster::compare_works(x, y);
+    clusters::compare_works(x, y);
 }
 
 // Its image read.
-fn read(psn: u32, given: cluster::Cluster) {
+fn read(psn: u32, given: clusters::Cluster) {
     let image = given.image;
-    let read = reading::read(psn, image, cluster::marked());
-    cluster::compare_inputs(read, given);
+    let read = reading::read(psn, image, clusters::marked());
+    clusters::compare_inputs(read, given);
     let x = read.work;
     let y = given.work;
-    cluster::compare_works(x, y);
+    clusters::compare_works(x, y);
 }
 
 fn both_ways(k: usize, psn: u32) {
     let name = compare::line(b"zero\nzone0\nzone1\nzone2\nones", k);
     io::write_all(1, name);
     io::write_all(1, b"\n");
-    let given = cluster::load(name, cluster::marked());
+    let given = clusters::load(name, clusters::marked());
     write(psn, given);
     read(psn, given);
 }
 
-fn clusters() {
+fn files() {
     both_ways(0, 0x0010_0000);
     both_ways(1, 0x0108_9BE0);
     both_ways(2, 0x02F7_6400);
@@ -46,7 +46,7 @@ fn clusters() {
 
 // The damaged images of zone1, in the order of data/zone1.damage.txt, and its image with slices that are refused.
 fn images_refused() {
-    let given = cluster::load(b"zone1", cluster::marked());
+    let given = clusters::load(b"zone1", clusters::marked());
     let image = given.image;
     let file = damage::records([0u8; 53135]);
     damage::refuse(image, file);
@@ -54,15 +54,15 @@ fn images_refused() {
 
 // A cluster drawn from a seed, written and read, and what was read written again.
 fn trip(psn: u32, seed: u64) {
-    let blank = cluster::marked();
-    let given = cluster::draw(seed, blank);
+    let blank = clusters::marked();
+    let given = clusters::draw(seed, blank);
     let made = writing::write(b"  written ", psn, given, blank);
     let image = made.image;
     let read = reading::read(psn, image, blank);
-    cluster::compare_inputs(read, given);
+    clusters::compare_inputs(read, given);
     let again = writing::write(b"  written again ", psn, read, blank);
     let other = again.image;
-    cluster::compare_images(other, image);
+    clusters::compare_images(other, image);
 }
 
 fn round_trips() {
@@ -84,7 +84,7 @@ fn inputs_refused() {
 }
 
 fn main() {
-    clusters();
+    files();
     images_refused();
     round_trips();
     inputs_refused();

@@ -1,5 +1,5 @@
 // Images read, or refused with every slice as document 01 has it.
-use crate::cluster::Cluster;
+use crate::clusters::Cluster;
 use reader::Read;
 use test_support::compare;
 use test_support::lent;

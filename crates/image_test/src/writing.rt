@@ -1,5 +1,5 @@
 // Images written, or refused with both slices untouched.
-use crate::cluster::Cluster;
+use crate::clusters::Cluster;
 use address::Psn;
 use test_support::compare;
 use test_support::lent;

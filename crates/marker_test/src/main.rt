@@ -1,11 +1,16 @@
 // Each verdict, on images that the writer makes of a pattern.
 use address::Psn;
+use test_support::compare;
+use test_support::lent;
+use test_support::lines;
 use verdict::Verdict;
 
-fn say(text: &[u8], n: usize) {
-    io::write_all(1, text);
-    io::print_decimal(1, n as u64);
-    io::write_all(1, b"\n");
+// What an image is marked by, and the image.
+struct Given {
+    psn: u32,
+    user: [u8; 65536],
+    side: [u8; 592],
+    image: [u8; 119788],
 }
 
 fn print_verdict(verdict: Verdict) {
@@ -13,30 +18,22 @@ fn print_verdict(verdict: Verdict) {
         Verdict::Pass => {
             io::write_all(1, b"pass\n");
         }
-        Verdict::Refused(answer) => {
-            io::write_all(1, b"refused ");
-            io::print_decimal(1, answer.number() as u64);
-            say(b" ", answer.place());
-        }
-        Verdict::OtherPsn(psn) => {
-            io::write_all(1, b"PSN ");
-            io::print_hex(1, psn.0 as u64, 8);
-            io::write_all(1, b"\n");
-        }
-        Verdict::OtherUser(n) => say(b"user byte ", n),
-        Verdict::OtherSide(n) => say(b"side byte ", n),
+        Verdict::Refused(answer) => lines::answer_line(b"refused ", answer),
+        Verdict::OtherPsn(psn) => lines::hex_line(b"PSN ", psn.0 as u64, 8),
+        Verdict::OtherUser(n) => lines::number_line(b"user byte ", n as u64),
+        Verdict::OtherSide(n) => lines::number_line(b"side byte ", n as u64),
     }
 }
 
 // With slices of the right lengths lent.
-fn verdict_on(text: &[u8], psn: Psn, user: &[u8], side: &[u8], image: &[u8]) {
-    let mut bytes = buffers::user_bytes();
-    let mut control = buffers::side_bytes();
-    let mut dc = buffers::dc_words();
-    let mut work = buffers::work_bytes();
+fn mark(text: &[u8], psn: u32, user: &[u8], side: &[u8], image: &[u8]) {
+    let mut bytes = lent::user();
+    let mut control = lent::side();
+    let mut dc = lent::words();
+    let mut work = lent::work();
     io::write_all(1, text);
     print_verdict(marker::mark(
-        psn,
+        Psn(psn),
         user,
         side,
         image,
@@ -48,115 +45,137 @@ fn verdict_on(text: &[u8], psn: Psn, user: &[u8], side: &[u8], image: &[u8]) {
 }
 
 // With a work slice that is too short lent.
-fn verdict_without_work(psn: Psn, user: &[u8], side: &[u8], image: &[u8]) {
-    let mut bytes = buffers::user_bytes();
-    let mut control = buffers::side_bytes();
-    let mut dc = buffers::dc_words();
-    let mut work = [0u8; 10];
-    io::write_all(1, b"short work: ");
+fn mark_without_work(text: &[u8], psn: u32, user: &[u8], side: &[u8], image: &[u8]) {
+    let mut bytes = lent::user();
+    let mut control = lent::side();
+    let mut dc = lent::words();
+    io::write_all(1, text);
     print_verdict(marker::mark(
-        psn,
+        Psn(psn),
         user,
         side,
         image,
         &mut bytes,
         &mut control,
         &mut dc,
-        &mut work,
+        &mut [0u8; 10],
     ));
 }
 
-fn change(bytes: &mut [u8], k: usize) {
-    if k < bytes.len() {
-        bytes[k] = bytes[k] ^ 1;
-    }
+fn verdict(text: &[u8], given: Given) {
+    let user = given.user;
+    let side = given.side;
+    let image = given.image;
+    mark(text, given.psn, &user, &side, &image);
 }
 
-fn fill_words(words: &mut [u32], word: u32) {
-    let mut n = 0;
-    while n < words.len() {
-        words[n] = word;
-        n += 1;
-    }
+// Slices of other lengths.
+fn lengths(given: Given) {
+    let user = given.user;
+    let side = given.side;
+    let image = given.image;
+    mark(b"side for user: ", given.psn, &side, &side, &image);
+    mark(b"user for side: ", given.psn, &user, &user, &image);
+    mark(b"side for image: ", given.psn, &user, &side, &side);
+    mark_without_work(b"short work: ", given.psn, &user, &side, &image);
 }
 
-// The image of the pattern with dc words that are all `word`.
-fn image_of(psn: Psn, user: &[u8], side: &[u8], word: u32, image: &mut [u8]) {
-    let mut dc = buffers::dc_words();
-    let mut work = buffers::work_bytes();
-    fill_words(&mut dc, word);
-    writer::write_image(user, psn, side, &dc, image, &mut work);
+fn with_psn(given: Given, psn: u32) -> Given {
+    let mut out = given;
+    out.psn = psn;
+    out
 }
 
+// With a bit of user byte k changed.
+fn with_user(given: Given, k: usize) -> Given {
+    let mut user = given.user;
+    compare::flip(&mut user, k, 1);
+    let mut out = given;
+    out.user = user;
+    out
+}
+
+fn with_side(given: Given, k: usize) -> Given {
+    let mut side = given.side;
+    compare::flip(&mut side, k, 1);
+    let mut out = given;
+    out.side = side;
+    out
+}
+
+fn with_last_bit(given: Given) -> Given {
+    let mut image = given.image;
+    compare::flip(&mut image, 119787, 1);
+    let mut out = given;
+    out.image = image;
+    out
+}
+
+fn words_of(word: u32) -> [u32; 496] {
+    [word; 496]
+}
+
+// With the image of the pattern under these dc words.
+fn with_image(given: Given, dc: [u32; 496]) -> Given {
+    let user = given.user;
+    let side = given.side;
+    let mut image = given.image;
+    let mut work = lent::work();
+    writer::write_image(&user, Psn(given.psn), &side, &dc, &mut image, &mut work);
+    let mut out = given;
+    out.image = image;
+    out
+}
+
+fn other_psns(given: Given) {
+    verdict(b"another PSN: ", with_psn(given, 0x0410_0000));
+    verdict(b"no PSN: ", with_psn(given, 7));
+}
+
+fn other_parts(given: Given) -> Given {
+    let one = with_side(given, 591);
+    verdict(b"last side byte: ", one);
+    let two = with_side(one, 16);
+    verdict(b"two side bytes: ", two);
+    let three = with_user(two, 65535);
+    verdict(b"and the last user byte: ", three);
+    let four = with_user(three, 2048);
+    verdict(b"and another: ", four);
+    four
+}
+
+fn images(given: Given) -> Given {
+    verdict(b"zeros: ", given);
+    let ones = with_image(given, words_of(0x0FFF_FFFF));
+    verdict(b"dc words all ones: ", ones);
+    let zeros = with_image(given, words_of(0));
+    verdict(b"dc words zero: ", zeros);
+    zeros
+}
+
+// Bytes that count up to 250 and again.
 fn fill(bytes: &mut [u8]) {
-    let mut k = 0;
-    while k < bytes.len() {
+    for k in 0..bytes.len() {
         bytes[k] = (k % 251) as u8;
-        k += 1;
     }
 }
 
-fn other_psns(user: &[u8], side: &[u8], image: &[u8]) {
-    verdict_on(b"another PSN: ", Psn(0x0410_0000), user, side, image);
-    verdict_on(b"no PSN: ", Psn(7), user, side, image);
-}
-
-fn other_sides(psn: Psn, user: &[u8], side: &mut [u8], image: &[u8]) {
-    change(side, 591);
-    verdict_on(b"last side byte: ", psn, user, side, image);
-    change(side, 16);
-    verdict_on(b"two side bytes: ", psn, user, side, image);
-}
-
-fn other_users(psn: Psn, user: &mut [u8], side: &[u8], image: &[u8]) {
-    change(user, 65535);
-    verdict_on(b"and the last user byte: ", psn, user, side, image);
-    change(user, 2048);
-    verdict_on(b"and another: ", psn, user, side, image);
-}
-
-fn lengths(psn: Psn, user: &[u8], side: &[u8], image: &[u8]) {
-    verdict_on(b"side for user: ", psn, side, side, image);
-    verdict_on(b"user for side: ", psn, user, user, image);
-    verdict_on(b"side for image: ", psn, user, side, side);
-    verdict_without_work(psn, user, side, image);
-}
-
-fn images(psn: Psn, user: &[u8], side: &[u8], image: &mut [u8]) {
-    verdict_on(b"zeros: ", psn, user, side, image);
-    image_of(psn, user, side, 0x0FFF_FFFF, image);
-    verdict_on(b"dc words all ones: ", psn, user, side, image);
-    image_of(psn, user, side, 0, image);
-    verdict_on(b"dc words zero: ", psn, user, side, image);
-}
-
-fn last_bit(psn: Psn, user: &[u8], side: &[u8], image: &mut [u8]) {
-    change(image, 119787);
-    verdict_on(b"last bit: ", psn, user, side, image);
-}
-
-fn other_parts(psn: Psn, user: &mut [u8], side: &mut [u8], image: &[u8]) {
-    other_psns(user, side, image);
-    other_sides(psn, user, side, image);
-    other_users(psn, user, side, image);
-}
-
-fn verdicts(psn: Psn, user: &mut [u8], side: &mut [u8], image: &mut [u8]) {
-    images(psn, user, side, image);
-    lengths(psn, user, side, image);
-    other_parts(psn, user, side, image);
-    last_bit(psn, user, side, image);
-}
-
-fn pattern(user: &mut [u8], side: &mut [u8]) {
-    fill(user);
-    fill(side);
+fn pattern() -> Given {
+    let mut user = lent::user();
+    let mut side = lent::side();
+    fill(&mut user);
+    fill(&mut side);
+    Given {
+        psn: 0x02F7_6400,
+        user,
+        side,
+        image: [0u8; 119788],
+    }
 }
 
 fn main() {
-    let mut user = buffers::user_bytes();
-    let mut side = buffers::side_bytes();
-    let mut image = buffers::image_bytes();
-    pattern(&mut user, &mut side);
-    verdicts(Psn(0x02F7_6400), &mut user, &mut side, &mut image);
+    let given = images(pattern());
+    lengths(given);
+    other_psns(given);
+    verdict(b"last bit: ", with_last_bit(other_parts(given)));
 }

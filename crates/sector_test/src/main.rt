@@ -1,67 +1,22 @@
 // Error-detection code and scrambling: document 01's trials, and clusters of which an independent program gave the values.
 use address::Psn;
+use test_support::compare;
+use test_support::draws;
+use test_support::hash;
+use test_support::lines;
+ghost use mathlib.Core.Path.{_≡_};
 ghost use Prim.Native.Nat.{_≤_};
+ghost use lib.ListN.{length};
 
-fn line(text: &[u8], value: u64, digits: usize) {
-    io::write_all(1, text);
-    io::print_hex(1, value, digits);
-    io::write_all(1, b"\n");
-}
-
-fn bytes_line(text: &[u8], bytes: &[u8]) {
-    io::write_all(1, text);
-    for k in 0..bytes.len() {
-        io::print_hex(1, wide(bytes[k]), 2);
-    }
-    io::write_all(1, b"\n");
-}
-
-// a times b, modulo 2^64.
-fn times(a: u64, b: u64) -> u64 {
-    let half = 0x1_0000_0000;
-    let cross = std::num::wrapping_add_u64(a / half * (b % half), a % half * (b / half));
-    std::num::wrapping_add_u64(a % half * (b % half), cross << 32)
-}
-
-const NO_BYTES: u64 = 0xcbf2_9ce4_8422_2325;
-
-// FNV-1a with 64 bits, of bytes behind those with the hash `before`.
-fn hash(before: u64, bytes: &[u8]) -> u64 {
-    let mut h = before;
-    for k in 0..bytes.len() {
-        let byte = bytes[k];
-        h = times(h ^ wide(byte), 0x100_0000_01b3);
-    }
-    h
-}
-
-fn wide(byte: u8) -> u64 {
-    byte as u64
-}
-
-// The generator of the clusters: its next state, whose highest byte is drawn.
-fn next(x: u64) -> u64 {
-    std::num::wrapping_add_u64(times(x, 6364136223846793005), 1442695040888963407)
-}
-
-// Bytes drawn, or left as they are; the state behind them.
-fn draw(drawn: bool, state: u64, bytes: &mut [u8]) -> u64 {
-    if !drawn {
-        return state;
-    }
-    let mut x = state;
-    for k in 0..bytes.len() {
-        x = next(x);
-        bytes[k] = (x / 0x100_0000_0000_0000 % 256) as u8;
-    }
-    x
-}
-
-fn no_user() -> [u8; 2048] {
+fn no_user() -> [u8; 2048]
+    ensures { λ r. ⌜ length r ≡ 2048 ⌝ }
+{
     [0u8; 2048]
 }
 
-fn no_frame() -> [u8; 2052] {
+fn no_frame() -> [u8; 2052]
+    ensures { λ r. ⌜ length r ≡ 2052 ⌝ }
+{
     [7u8; 2052]
 }
 
@@ -79,95 +34,125 @@ fn flag(set: bool) -> u64
     if set { 1 } else { 0 }
 }
 
-// The code of the first and of the last sector.
-fn end_code(s: usize, user: &[u8]) {
-    if s % 31 == 0 {
-        line(b"error-detection code ", edc::edc(user) as u64, 8);
+fn edc_line(text: &[u8], bytes: &[u8]) {
+    lines::hex_line(text, edc::edc(bytes) as u64, 8);
+}
+
+// Bytes drawn, or left as they are; the state behind them.
+fn draw(drawn: bool, state: u64, bytes: &mut [u8]) -> u64 {
+    if drawn {
+        return draws::draw(state, bytes);
     }
+    state
+}
+
+// The data frame of a sector, scrambled and back.
+fn frame_of(user: &[u8], stream: &[u8]) -> [u8; 2052]
+    ensures { λ r. ⌜ length r ≡ 2052 ⌝ }
+{
+    let mut frame = no_frame();
+    sector::data_frame(user, stream, &mut frame);
+    scrambling::scramble(&mut frame, stream);
+    frame
+}
+
+// How often the test of the code answers wrongly: on a data frame, and with one byte changed.
+fn wrong_answers(frame: &mut [u8], s: usize) -> u64
+    ensures { λ r. ⌜ r ≤ 2 ⌝ }
+{
+    let refused = flag(!sector::edc_right(frame));
+    compare::flip(frame, s % 32 * 66 + 5, 1);
+    let passed = flag(sector::edc_right(frame));
+    refused + passed
 }
 
 // One sector more: written, read back, and read with one byte changed.
-fn sector(seen: Seen, drawn: bool, s: usize, stream: &[u8]) -> Seen {
+fn sector(seen: Seen, drawn: bool, s: usize, stream: [u8; 2052]) -> Seen {
     let mut user = no_user();
     let state = draw(drawn, seen.state, &mut user);
-    end_code(s, &user);
-    let mut frame = no_frame();
-    sector::data_frame(&user, stream, &mut frame);
-    scrambling::scramble(&mut frame, stream);
-    let frames = hash(seen.frames, &frame);
-    let refused = flag(!sector::edc_right(&frame));
-    let damaged = s % 32 * 66 + 5;
-    frame[damaged] = frame[damaged] ^ 1;
-    let passed = flag(sector::edc_right(&frame));
+    if s % 31 == 0 {
+        edc_line(b"error-detection code ", &user);
+    }
+    let mut frame = frame_of(&user, &stream);
     Seen {
         state,
-        user: hash(seen.user, &user),
-        frames,
-        wrong: std::num::wrapping_add_u64(seen.wrong, refused + passed),
+        user: hash::behind(seen.user, &user),
+        frames: hash::behind(seen.frames, &frame),
+        wrong: std::num::wrapping_add_u64(seen.wrong, wrong_answers(&mut frame, s)),
     }
+}
+
+// 32 sectors; the code of the first and of the last is printed.
+fn sectors(drawn: bool, seed: u64, stream: [u8; 2052]) -> Seen {
+    let mut seen = Seen {
+        state: draws::next(seed),
+        user: hash::NONE,
+        frames: hash::NONE,
+        wrong: 0,
+    };
+    for s in 0..32usize {
+        seen = sector(seen, drawn, s, stream);
+    }
+    seen
+}
+
+fn seen_lines(seen: Seen) {
+    lines::hex_line(b"user bytes ", seen.user, 16);
+    lines::hex_line(b"data frames ", seen.frames, 16);
+    lines::hex_line(b"wrong answers ", seen.wrong, 1);
+}
+
+fn stream_lines(stream: [u8; 2052]) {
+    lines::bytes_line(b"first scrambling bytes ", compare::part(&stream, 0, 16));
+    lines::hex_line(b"scrambling bytes ", hash::of(&stream), 16);
 }
 
 // A cluster of bytes drawn, or of zeros.
 fn cluster(psn: u32, drawn: bool, seed: u64) {
     let stream = scrambling::scrambling(Psn(psn));
-    line(b"PSN ", psn as u64, 8);
-    bytes_line(b"first scrambling bytes ", &stream[0..16]);
-    line(b"scrambling bytes ", hash(NO_BYTES, &stream), 16);
-    let mut seen = Seen {
-        state: next(seed),
-        user: NO_BYTES,
-        frames: NO_BYTES,
-        wrong: 0,
-    };
-    for s in 0..32usize {
-        seen = sector(seen, drawn, s, &stream);
-    }
-    line(b"user bytes ", seen.user, 16);
-    line(b"data frames ", seen.frames, 16);
-    line(b"wrong answers ", seen.wrong, 1);
+    lines::hex_line(b"PSN ", psn as u64, 8);
+    stream_lines(stream);
+    seen_lines(sectors(drawn, seed, stream));
 }
 
 // A sector of zeros but for its last byte.
 fn last_byte(x: u8) {
     let mut user = no_user();
     user[2047] = x;
-    line(b"last byte ", x as u64, 2);
-    line(b"error-detection code ", edc::edc(&user) as u64, 8);
+    lines::hex_line(b"last byte ", x as u64, 2);
+    edc_line(b"error-detection code ", &user);
+}
+
+// The data frame of these bytes: whether there is one, and its hash.
+fn frame_lines(text: &[u8], user: &[u8], stream: &[u8], hashed: &[u8]) {
+    let mut frame = no_frame();
+    let done = sector::data_frame(user, stream, &mut frame);
+    lines::hex_line(text, flag(done), 1);
+    lines::hex_line(hashed, hash::of(&frame), 16);
 }
 
 // The scrambled data frame of a sector of zeros is the stream.
-fn zeros_scrambled() {
+fn zeros_scrambled(stream: [u8; 2052]) {
     let user = no_user();
-    let stream = scrambling::scrambling(Psn(0x0010_0000));
-    let mut frame = no_frame();
-    let done = sector::data_frame(&user, &stream, &mut frame);
-    line(b"data frame of zeros ", flag(done), 1);
-    line(b"scrambled ", hash(NO_BYTES, &frame), 16);
+    frame_lines(b"data frame of zeros ", &user, &stream, b"scrambled ");
 }
 
 // The bytes 1, 2, .. of other lengths, and what is refused.
-fn other_lengths() {
-    let bytes: [u8; 13] = [1, 2, 3, 4, 5, 6, 7, 8, 9, 10, 11, 12, 13];
-    line(b"no byte ", edc::edc(&bytes[0..0]) as u64, 8);
-    line(b"one byte ", edc::edc(&bytes[0..1]) as u64, 8);
-    line(b"13 bytes ", edc::edc(&bytes) as u64, 8);
-    let mut frame = no_frame();
-    let done = sector::data_frame(&bytes, &bytes, &mut frame);
-    line(b"data frame of 13 bytes ", flag(done), 1);
-    line(b"frame ", hash(NO_BYTES, &frame), 16);
-    line(
-        b"code of 13 bytes right ",
-        flag(sector::edc_right(&bytes)),
-        1,
-    );
+fn other_lengths(bytes: &[u8]) {
+    edc_line(b"no byte ", b"");
+    edc_line(b"one byte ", &[1u8]);
+    edc_line(b"13 bytes ", bytes);
+    frame_lines(b"data frame of 13 bytes ", bytes, bytes, b"frame ");
+    let right = flag(sector::edc_right(bytes));
+    lines::hex_line(b"code of 13 bytes right ", right, 1);
 }
 
 fn main() {
     last_byte(0);
     last_byte(1);
     last_byte(2);
-    zeros_scrambled();
-    other_lengths();
+    zeros_scrambled(scrambling::scrambling(Psn(0x0010_0000)));
+    other_lengths(&[1u8, 2, 3, 4, 5, 6, 7, 8, 9, 10, 11, 12, 13]);
     cluster(0x0010_0000, false, 0);
     cluster(0x04C5_DBC0, true, 0);
     cluster(0x0507_1980, true, 1);

@@ -50,10 +50,10 @@ pub fn put(bytes: &mut [u8], at: usize, byte: u8) {
     }
 }
 
-// Another byte at a place.
-pub fn change(bytes: &mut [u8], at: usize) {
+// Other bits at a place.
+pub fn flip(bytes: &mut [u8], at: usize, bits: u8) {
     if at < bytes.len() {
-        bytes[at] = bytes[at] ^ 1;
+        bytes[at] = bytes[at] ^ bits;
     }
 }
 

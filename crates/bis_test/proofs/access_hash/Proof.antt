@@ -1,6 +1,6 @@
 -- `access_hash` is safe and ends.
-use borrow.Author.Needs.{needs}
 use Prim.Native.Nat.{_≤_, _-_}
+use borrow.Author.Needs.{needs}
 use Rattle.bis_test.proofs.access_hash.Statement.{statement}
 use Rattle.bis_test.proofs.access_hash.Tie as tie
 
@@ -13,17 +13,17 @@ abbrev μ-loop : tie.MeasureT-loop
 loop-holds : tie.Need-loop-holds Inv-loop μ-loop
 loop-holds c = search needs
 
-mul-hashed : tie.Need-mul-hashed Inv-loop μ-loop
-mul-hashed c = search needs
+mul-more : tie.Need-mul-more Inv-loop μ-loop
+mul-more c = search needs
 
-index-1-hashed : tie.Need-index-1-hashed Inv-loop μ-loop
-index-1-hashed c = search needs
+index-1-more : tie.Need-index-1-more Inv-loop μ-loop
+index-1-more c = search needs
 
-index-2-hashed : tie.Need-index-2-hashed Inv-loop μ-loop
-index-2-hashed c = search needs
+index-2-more : tie.Need-index-2-more Inv-loop μ-loop
+index-2-more c = search needs
 
-hashed-requires : tie.Need-hashed-requires Inv-loop μ-loop
-hashed-requires c κs = search needs
+more-requires : tie.Need-more-requires Inv-loop μ-loop
+more-requires c κs = search needs
 
 add-k : tie.Need-add-k Inv-loop μ-loop
 add-k c = search needs
@@ -44,10 +44,10 @@ access-hash-spec =
     Inv-loop
     μ-loop
     loop-holds
-    mul-hashed
-    index-1-hashed
-    index-2-hashed
-    hashed-requires
+    mul-more
+    index-1-more
+    index-2-more
+    more-requires
     add-k
     loop-less
     loop-again

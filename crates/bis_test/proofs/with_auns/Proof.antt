@@ -1,6 +1,6 @@
 -- `with_auns` is safe and ends.
-use borrow.Author.Needs.{needs}
 use Prim.Native.Nat.{_≤_, _-_}
+use borrow.Author.Needs.{needs}
 use Rattle.bis_test.proofs.with_auns.Statement.{statement}
 use Rattle.bis_test.proofs.with_auns.Tie as tie
 
@@ -13,23 +13,20 @@ abbrev μ-loop : tie.MeasureT-loop
 loop-holds : tie.Need-loop-holds Inv-loop μ-loop
 loop-holds c = search needs
 
-mul-t9 : tie.Need-mul-t9 Inv-loop μ-loop
-mul-t9 c = search needs
+cast-with-aun : tie.Need-cast-with-aun Inv-loop μ-loop
+cast-with-aun c = search needs
 
-mul-t10 : tie.Need-mul-t10 Inv-loop μ-loop
-mul-t10 c = search needs
+mul-with-aun : tie.Need-mul-with-aun Inv-loop μ-loop
+mul-with-aun c = search needs
 
-add-t11 : tie.Need-add-t11 Inv-loop μ-loop
-add-t11 c = search needs
+mul-with-aun-2 : tie.Need-mul-with-aun-2 Inv-loop μ-loop
+mul-with-aun-2 c = search needs
 
-address-field-requires : tie.Need-address-field-requires Inv-loop μ-loop
-address-field-requires c κs = search needs
+add-with-aun : tie.Need-add-with-aun Inv-loop μ-loop
+add-with-aun c = search needs
 
-cast-with-field : tie.Need-cast-with-field Inv-loop μ-loop
-cast-with-field c = search needs
-
-with-field-requires : tie.Need-with-field-requires Inv-loop μ-loop
-with-field-requires c κs = search needs
+with-aun-requires : tie.Need-with-aun-requires Inv-loop μ-loop
+with-aun-requires c κs = search needs
 
 add-unit : tie.Need-add-unit Inv-loop μ-loop
 add-unit c = search needs
@@ -50,12 +47,11 @@ with-auns-spec =
     Inv-loop
     μ-loop
     loop-holds
-    mul-t9
-    mul-t10
-    add-t11
-    address-field-requires
-    cast-with-field
-    with-field-requires
+    cast-with-aun
+    mul-with-aun
+    mul-with-aun-2
+    add-with-aun
+    with-aun-requires
     add-unit
     loop-less
     loop-again

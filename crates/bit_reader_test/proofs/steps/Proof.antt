@@ -1,14 +1,14 @@
--- `steps` ends after `count` turns.
-use Prim.Native.Nat.{_-_, _≤_}
+-- `steps` ends.
+use Prim.Native.Nat.{_≤_, _-_}
 use borrow.Author.Needs.{needs}
 use Rattle.bit_reader_test.proofs.steps.Statement.{statement}
 use Rattle.bit_reader_test.proofs.steps.Tie as tie
 
 abbrev Inv-loop : tie.InvT-loop
-Inv-loop text image start count position₀ k₀ t8 position k = k ≤ count
+Inv-loop text image start count position₀ k₀ position k = k ≤ count
 
 abbrev μ-loop : tie.MeasureT-loop
-μ-loop text image start count position₀ k₀ t8 position k = count - k
+μ-loop text image start count position₀ k₀ position k = count - k
 
 write-all-requires : tie.Need-write-all-requires Inv-loop μ-loop
 write-all-requires c κs = search needs
@@ -31,11 +31,8 @@ loop-less c = search needs
 loop-again : tie.Need-loop-again Inv-loop μ-loop
 loop-again c = search needs
 
-slice-aggregate-write-all : tie.Need-slice-aggregate-write-all Inv-loop μ-loop
-slice-aggregate-write-all c = search needs
-
-write-all-requires-2 : tie.Need-write-all-requires-2 Inv-loop μ-loop
-write-all-requires-2 c κs = search needs
+end-line-requires : tie.Need-end-line-requires Inv-loop μ-loop
+end-line-requires c κs = search needs
 
 returns : tie.Need-returns Inv-loop μ-loop
 returns c = search needs
@@ -53,6 +50,5 @@ steps-spec =
     add-k
     loop-less
     loop-again
-    slice-aggregate-write-all
-    write-all-requires-2
+    end-line-requires
     returns)

@@ -1,37 +1,26 @@
--- `main` keeps the length of its input over its turns.
-use Prim.Native.Nat.{_-_, _≤_}
-use mathlib.Core.Path.{_≡_}
+-- `main` is safe and ends.
+use Prim.Native.Nat.{_≤_, _-_}
 use borrow.Author.Needs.{needs}
-use lib.ListN.{length}
 use Rattle.frame_gaps_test.proofs.main.Statement.{statement}
 use Rattle.frame_gaps_test.proofs.main.Tie as tie
 
 abbrev Inv-loop : tie.InvT-loop
-Inv-loop input₀ k₀ input k = (k ≤ 6) × (length input ≡ 162)
+Inv-loop k₀ k = k ≤ 6
 
 abbrev μ-loop : tie.MeasureT-loop
-μ-loop input₀ k₀ input k = 6 - k
-
-room-requires : tie.Need-room-requires Inv-loop μ-loop
-room-requires c κs = search needs
-
-slice-aggregate-record : tie.Need-slice-aggregate-record Inv-loop μ-loop
-slice-aggregate-record c = search needs
+μ-loop k₀ k = 6 - k
 
 record-requires : tie.Need-record-requires Inv-loop μ-loop
 record-requires c κs = search needs
 
-slice-aggregate-changed : tie.Need-slice-aggregate-changed Inv-loop μ-loop
-slice-aggregate-changed c = search needs
+refusals-requires : tie.Need-refusals-requires Inv-loop μ-loop
+refusals-requires c κs = search needs
 
-changed-requires : tie.Need-changed-requires Inv-loop μ-loop
-changed-requires c κs = search needs
+changes-requires : tie.Need-changes-requires Inv-loop μ-loop
+changes-requires c κs = search needs
 
 loop-holds : tie.Need-loop-holds Inv-loop μ-loop
 loop-holds c = search needs
-
-slice-aggregate-record-2 : tie.Need-slice-aggregate-record-2 Inv-loop μ-loop
-slice-aggregate-record-2 c = search needs
 
 record-requires-2 : tie.Need-record-requires-2 Inv-loop μ-loop
 record-requires-2 c κs = search needs
@@ -54,13 +43,10 @@ main-spec =
     (tie.spec
     Inv-loop
     μ-loop
-    room-requires
-    slice-aggregate-record
     record-requires
-    slice-aggregate-changed
-    changed-requires
+    refusals-requires
+    changes-requires
     loop-holds
-    slice-aggregate-record-2
     record-requires-2
     add-k
     loop-less

@@ -1,29 +1,32 @@
--- `print_counts` reads within its counts.
-use Prim.Native.Nat.{_-_, _≤_}
+-- `print_counts` is safe and ends.
+use Prim.Native.Nat.{_≤_, _-_}
 use borrow.Author.Needs.{needs}
 use Rattle.frame_gaps_test.proofs.print_counts.Statement.{statement}
 use Rattle.frame_gaps_test.proofs.print_counts.Tie as tie
 
 abbrev Inv-loop : tie.InvT-loop
-Inv-loop counts k₀ k = k ≤ 8
+Inv-loop counts k₀ t4 k = k ≤ 8
 
 abbrev μ-loop : tie.MeasureT-loop
-μ-loop counts k₀ k = 8 - k
+μ-loop counts k₀ t4 k = 8 - k
 
 loop-holds : tie.Need-loop-holds Inv-loop μ-loop
 loop-holds c = search needs
 
-mul-spaced : tie.Need-mul-spaced Inv-loop μ-loop
-mul-spaced c = search needs
+slice-aggregate-number : tie.Need-slice-aggregate-number Inv-loop μ-loop
+slice-aggregate-number c = search needs
 
-array-read-spaced : tie.Need-array-read-spaced Inv-loop μ-loop
-array-read-spaced c = search needs
+mul-number : tie.Need-mul-number Inv-loop μ-loop
+mul-number c = search needs
 
-cast-spaced : tie.Need-cast-spaced Inv-loop μ-loop
-cast-spaced c = search needs
+array-read-number : tie.Need-array-read-number Inv-loop μ-loop
+array-read-number c = search needs
 
-spaced-requires : tie.Need-spaced-requires Inv-loop μ-loop
-spaced-requires c κs = search needs
+cast-number : tie.Need-cast-number Inv-loop μ-loop
+cast-number c = search needs
+
+number-requires : tie.Need-number-requires Inv-loop μ-loop
+number-requires c κs = search needs
 
 add-k : tie.Need-add-k Inv-loop μ-loop
 add-k c = search needs
@@ -44,10 +47,11 @@ print-counts-spec =
     Inv-loop
     μ-loop
     loop-holds
-    mul-spaced
-    array-read-spaced
-    cast-spaced
-    spaced-requires
+    slice-aggregate-number
+    mul-number
+    array-read-number
+    cast-number
+    number-requires
     add-k
     loop-less
     loop-again

@@ -1,16 +1,14 @@
--- `sync_line` keeps the image's length over its turns.
-use Prim.Native.Nat.{_-_, _≤_}
-use mathlib.Core.Path.{_≡_}
+-- `sync_line` is safe and ends.
+use Prim.Native.Nat.{_≤_, _-_}
 use borrow.Author.Needs.{needs}
-use lib.ListN.{length}
 use Rattle.frame_test.proofs.sync_line.Statement.{statement}
 use Rattle.frame_test.proofs.sync_line.Tie as tie
 
 abbrev Inv-loop : tie.InvT-loop
-Inv-loop image₀ at sync k₀ image k = (k ≤ 30) × (length image ≡ 245)
+Inv-loop image at sync k₀ k = k ≤ 30
 
 abbrev μ-loop : tie.MeasureT-loop
-μ-loop image₀ at sync k₀ image k = 30 - k
+μ-loop image at sync k₀ k = 30 - k
 
 slice-aggregate-write-all : tie.Need-slice-aggregate-write-all Inv-loop μ-loop
 slice-aggregate-write-all c = search needs
@@ -21,11 +19,11 @@ write-all-requires c κs = search needs
 loop-holds : tie.Need-loop-holds Inv-loop μ-loop
 loop-holds c = search needs
 
-add-flip : tie.Need-add-flip Inv-loop μ-loop
-add-flip c = search needs
+add-flipped : tie.Need-add-flipped Inv-loop μ-loop
+add-flipped c = search needs
 
-flip-requires : tie.Need-flip-requires Inv-loop μ-loop
-flip-requires c κs = search needs
+flipped-requires : tie.Need-flipped-requires Inv-loop μ-loop
+flipped-requires c κs = search needs
 
 sync-right-requires : tie.Need-sync-right-requires Inv-loop μ-loop
 sync-right-requires c κs = search needs
@@ -35,12 +33,6 @@ flag-requires c κs = search needs
 
 print-decimal-requires : tie.Need-print-decimal-requires Inv-loop μ-loop
 print-decimal-requires c κs = search needs
-
-add-flip-2 : tie.Need-add-flip-2 Inv-loop μ-loop
-add-flip-2 c = search needs
-
-flip-requires-2 : tie.Need-flip-requires-2 Inv-loop μ-loop
-flip-requires-2 c κs = search needs
 
 add-k : tie.Need-add-k Inv-loop μ-loop
 add-k c = search needs
@@ -54,9 +46,6 @@ loop-again c = search needs
 end-line-requires : tie.Need-end-line-requires Inv-loop μ-loop
 end-line-requires c κs = search needs
 
-same-length : tie.Need-same-length Inv-loop μ-loop
-same-length c = search needs
-
 returns : tie.Need-returns Inv-loop μ-loop
 returns c = search needs
 
@@ -69,16 +58,13 @@ sync-line-spec =
     slice-aggregate-write-all
     write-all-requires
     loop-holds
-    add-flip
-    flip-requires
+    add-flipped
+    flipped-requires
     sync-right-requires
     flag-requires
     print-decimal-requires
-    add-flip-2
-    flip-requires-2
     add-k
     loop-less
     loop-again
     end-line-requires
-    same-length
     returns)

@@ -1,14 +1,14 @@
--- `sync_numbers` needs nothing but its count of turns.
-use Prim.Native.Nat.{_-_, _≤_}
+-- `sync_numbers` is safe and ends.
+use Prim.Native.Nat.{_≤_, _-_}
 use borrow.Author.Needs.{needs}
 use Rattle.frame_test.proofs.sync_numbers.Statement.{statement}
 use Rattle.frame_test.proofs.sync_numbers.Tie as tie
 
 abbrev Inv-loop : tie.InvT-loop
-Inv-loop n₀ n = n ≤ 62
+Inv-loop n₀ t3 n = n ≤ 62
 
 abbrev μ-loop : tie.MeasureT-loop
-μ-loop n₀ n = 62 - n
+μ-loop n₀ t3 n = 62 - n
 
 slice-aggregate-write-all : tie.Need-slice-aggregate-write-all Inv-loop μ-loop
 slice-aggregate-write-all c = search needs
@@ -19,11 +19,14 @@ write-all-requires c κs = search needs
 loop-holds : tie.Need-loop-holds Inv-loop μ-loop
 loop-holds c = search needs
 
+slice-aggregate-number : tie.Need-slice-aggregate-number Inv-loop μ-loop
+slice-aggregate-number c = search needs
+
 sync-number-requires : tie.Need-sync-number-requires Inv-loop μ-loop
 sync-number-requires c κs = search needs
 
-spaced-requires : tie.Need-spaced-requires Inv-loop μ-loop
-spaced-requires c κs = search needs
+number-requires : tie.Need-number-requires Inv-loop μ-loop
+number-requires c κs = search needs
 
 add-n : tie.Need-add-n Inv-loop μ-loop
 add-n c = search needs
@@ -49,8 +52,9 @@ sync-numbers-spec =
     slice-aggregate-write-all
     write-all-requires
     loop-holds
+    slice-aggregate-number
     sync-number-requires
-    spaced-requires
+    number-requires
     add-n
     loop-less
     loop-again

@@ -1,17 +1,16 @@
 -- `fill` is safe and ends.
-use mathlib.Core.Path.{_≡_}
 use Prim.Native.Nat.{_≤_, _-_}
+use mathlib.Core.Path.{_≡_}
+use lib.ListN.{length}
 use borrow.Author.Needs.{needs}
-use lib.ListN.{length, length-set}
-use native.Mathlib.Omega.{arith}
 use Rattle.marker_test.proofs.fill.Statement.{statement}
 use Rattle.marker_test.proofs.fill.Tie as tie
 
 abbrev Inv-loop : tie.InvT-loop
-Inv-loop bytes₀ k₀ bytes k = (k ≤ length bytes) × (length bytes ≡ length bytes₀)
+Inv-loop bytes₀ k₀ k-end bytes k = (length bytes ≡ length bytes₀) × (k ≤ length bytes₀)
 
 abbrev μ-loop : tie.MeasureT-loop
-μ-loop bytes₀ k₀ bytes k = length bytes - k
+μ-loop bytes₀ k₀ k-end bytes k = length bytes₀ - k
 
 loop-holds : tie.Need-loop-holds Inv-loop μ-loop
 loop-holds c = search needs
@@ -26,10 +25,10 @@ add-k : tie.Need-add-k Inv-loop μ-loop
 add-k c = search needs
 
 loop-less : tie.Need-loop-less Inv-loop μ-loop
-loop-less c = simp length-set (omega arith)
+loop-less c = search needs
 
 loop-again : tie.Need-loop-again Inv-loop μ-loop
-loop-again c = (simp length-set (omega arith), simp length-set (omega arith))
+loop-again c = search needs
 
 same-length : tie.Need-same-length Inv-loop μ-loop
 same-length c = search needs

@@ -1,2 +1,0 @@
--- A law that the proof of `times` cites.
-pub mod Product
