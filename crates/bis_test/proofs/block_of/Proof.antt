@@ -1,5 +1,6 @@
 -- `block_of` meets what `bis::block` asks: the table was filled, the PSN judged, and an array of 592 has that length.
 use borrow.Author.Needs.{needs}
+use Rattle.answer.proofs.Tests.{done-told}
 use Rattle.bis_test.proofs.block_of.Statement.{statement}
 use Rattle.bis_test.proofs.block_of.Tie as tie
 
@@ -12,29 +13,20 @@ fill-remainders-requires c κs = search needs
 judge-requires : tie.Need-judge-requires
 judge-requires c κs = search needs
 
-enum-told : tie.Need-enum-told
-enum-told c = search needs
+is-done-requires : tie.Need-is-done-requires
+is-done-requires c κs = search needs
 
 slice-aggregate-block : tie.Need-slice-aggregate-block
 slice-aggregate-block c = search needs
 
 block-requires : tie.Need-block-requires
-block-requires c κs = (search needs, (search needs, cc))
-
-enum-told-2 : tie.Need-enum-told-2
-enum-told-2 c = search needs
-
-enum-told-3 : tie.Need-enum-told-3
-enum-told-3 c = search needs
+block-requires c κs = (search needs, (search needs, search (done-told)))
 
 returns : tie.Need-returns
 returns c = search needs
 
 returns-2 : tie.Need-returns-2
 returns-2 c = search needs
-
-returns-3 : tie.Need-returns-3
-returns-3 c = search needs
 
 pub block-of-spec : {M : Type 1} → statement M
 block-of-spec =
@@ -43,11 +35,8 @@ block-of-spec =
     no-remainders-requires
     fill-remainders-requires
     judge-requires
-    enum-told
+    is-done-requires
     slice-aggregate-block
     block-requires
-    enum-told-2
-    enum-told-3
     returns
-    returns-2
-    returns-3)
+    returns-2)
