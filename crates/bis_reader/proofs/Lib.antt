@@ -1,2 +1,2 @@
--- x
+-- The tests in a BIS block, case by case.
 pub mod Judging

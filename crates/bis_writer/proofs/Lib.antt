@@ -1,2 +1,2 @@
--- x
+-- A BIS block, put together.
 pub mod Writing

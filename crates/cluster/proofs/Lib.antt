@@ -1,4 +1,4 @@
--- The multiplexing both ways, and the LDC block by eighths.
+-- Places in the ECC cluster, its rows, and what is promised of it.
 pub mod Multiplex
 pub mod Places
 pub mod Statements

@@ -1,2 +1,2 @@
--- x
+-- An ECC cluster, put together.
 pub mod Encoding

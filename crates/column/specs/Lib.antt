@@ -1,2 +1,2 @@
--- Columns of the Reed-Solomon codes, and the table that divides eight bytes at once.
+-- Columns of the Reed-Solomon codes.
 pub mod Column

@@ -1,4 +1,4 @@
--- The two theorems are Complete and Sound; the other files lead from them to the code's words.
+-- Words and windows of a frame, and the loops that read it.
 pub mod Windows
 pub mod Running
 pub mod Held

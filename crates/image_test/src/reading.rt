@@ -35,8 +35,8 @@ pub fn read(psn: u32, image: [u8; 119788], blank: Cluster) -> Cluster {
 
 // How many places of the slices are not as a refusal leaves them; every byte of work is then `left`.
 fn touched(user: [u8; 65536], side: [u8; 592], dc: [u32; 496], work: [u8; 76880], left: u8) -> u64 {
-    let n = compare::others(&user, lent::MARK);
-    let n = std::num::wrapping_add_u64(n, compare::others(&side, lent::MARK));
+    let n = compare::others(&user, lent::USER_MARK);
+    let n = std::num::wrapping_add_u64(n, compare::others(&side, lent::SIDE_MARK));
     let n = std::num::wrapping_add_u64(n, compare::other_words(&dc, lent::WORD_MARK));
     std::num::wrapping_add_u64(n, compare::others(&work, left))
 }
@@ -70,9 +70,9 @@ pub fn refuse_image(image: &[u8]) {
 
 // Tests 1 to 5; where two tests fail, the lower number.
 pub fn refuse_slices(image: &[u8]) {
-    refuse(image, 2, 2, 496, 76880, lent::MARK);
-    refuse(image, 65536, 2, 2, 76880, lent::MARK);
-    refuse(image, 65536, 592, 2, 76880, lent::MARK);
-    refuse(b"short", 65536, 592, 496, 2, lent::MARK);
-    refuse(image, 65536, 592, 496, 2, lent::MARK);
+    refuse(image, 2, 2, 496, 76880, lent::WORK_MARK);
+    refuse(image, 65536, 2, 2, 76880, lent::WORK_MARK);
+    refuse(image, 65536, 592, 2, 76880, lent::WORK_MARK);
+    refuse(b"short", 65536, 592, 496, 2, lent::WORK_MARK);
+    refuse(image, 65536, 592, 496, 2, lent::WORK_MARK);
 }

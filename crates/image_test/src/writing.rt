@@ -38,10 +38,10 @@ fn words_with(first: usize) -> [u32; 496]
 }
 
 fn say_touched(image: [u8; 119788], work: [u8; 76880]) {
-    if compare::others(&image, lent::MARK) != 0 {
+    if compare::others(&image, lent::IMAGE_MARK) != 0 {
         io::write_all(1, b"  image touched\n");
     }
-    if compare::others(&work, lent::MARK) != 0 {
+    if compare::others(&work, lent::WORK_MARK) != 0 {
         io::write_all(1, b"  work touched\n");
     }
 }

@@ -1,2 +1,2 @@
--- The rows in the code's table, what is found by them, the table made of them, and what a modulated frame leaves in a slice.
+-- The tables by which frames are modulated, and what the steps leave.
 pub mod steps

@@ -1,3 +1,3 @@
--- x
+-- The tables, and what the steps leave.
 pub mod Table
 pub mod Put

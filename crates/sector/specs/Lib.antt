@@ -1,2 +1,2 @@
--- Sectors: error-detection code, scrambling, data frames.
+-- Data frames.
 pub mod DataFrame
