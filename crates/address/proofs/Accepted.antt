@@ -1,5 +1,5 @@
 -- An accepted PSN, its AUNs, and the way back. Assumes nothing.
-use mathlib.Core.Path.{_≡_, refl, ap, _∙_}
+use mathlib.Core.Path.{_≡_, refl, ap, _∙_, sym}
 use mathlib.Core.Bool.{Bool, true, false, cond}
 use Prim.Native.Nat.{ℕ, _*_, _/_, _%_, _^_, _<_}
 use native.Mathlib.Decide.{decLt}
@@ -14,7 +14,6 @@ use Rattle.address.specs.Judged.{judged, ifDone}
 use Rattle.address.specs.Conversions.{aunOf, psnToAun, aunToPsn}
 use Rattle.address.proofs.Judging.{past-zones}
 use Rattle.address.specs.declared.PsnAnswer.{PsnAnswer}
-use mathlib.Core.Path.{sym}
 
 both-accept : (m z : Bool) → cond m (cond z Done (NoZone 0)) (NoMultiple 0) ≡ Done → (m ≡ true) × (z ≡ true)
 both-accept true true e = (refl, refl)

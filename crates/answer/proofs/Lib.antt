@@ -1,3 +1,2 @@
--- Laws of tests one after the other, and of the lengths.
+-- Laws of tests one after the other.
 pub mod Tests
-pub mod RightLengths

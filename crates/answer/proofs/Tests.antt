@@ -4,11 +4,10 @@ use mathlib.Core.Bool.{Bool, true, false, cond}
 use Prim.Native.Nat.{ℕ, _<_, _≤_}
 use native.Mathlib.Decide.{decLt}
 use native.Mathlib.Omega.{arith}
-use borrow.Author.Tests.{eq-eqb, ne-eqb, eqb-true, lt-ltb, le-ltb}
-use lib.Dec.{eqb}
+use borrow.Author.Tests.{ne-eqb, eqb-true, lt-ltb, le-ltb}
 use Rattle.answer.specs.declared.Answer.{Answer}
 use Rattle.answer.specs.declared.Answer.the-variants.{Done, WrongUser, WrongSide, WrongDc, WrongImage, WrongWork, NoMultiple, NoZone, DcWord, LastBits, Sync, Frame, BisColumn, AddressUnit, NoPsn, LdcColumn, Sector}
-use Rattle.answer.specs.Answer.{numberOf, isDone, andThen, lowest, sized}
+use Rattle.answer.specs.Answer.{numberOf, isDone, andThen, lowest}
 
 -- the answer whose number is 0 is `Done`
 pub number-zero : (a : Answer) → numberOf a ≡ 0 → a ≡ Done
@@ -106,19 +105,3 @@ module _ (refusal : ℕ → Answer) (next : Answer) {n i j : ℕ} (e : i ≡ j) 
 
   pub go-on : n ≤ i → next ≡ andThen (lowest refusal n j) next
   go-on h = sym (ap (λ (k : ℕ). andThen (lowest refusal n k) next) (sym e) ∙ ap (λ (x : Answer). andThen x next) (lowest-none refusal h))
-
--- ---- a length
-
-module _ {size right : ℕ} (refusal : Answer) where
-  pub sized-right : size ≡ right → sized size right refusal ≡ Done
-  sized-right e = rw (eq-eqb size right e)
-
-  pub sized-wrong : (size ≡ right → ⊥) → sized size right refusal ≡ refusal
-  sized-wrong h = rw (ne-eqb size right h)
-
-  pub sized-done : isDone refusal ≡ false → sized size right refusal ≡ Done → size ≡ right
-  sized-done r e = by (eqb size right) refl e
-    where
-      by : (t : Bool) → eqb size right ≡ t → cond t Done refusal ≡ Done → size ≡ right
-      by true t e = eqb-true size right t
-      by false t e = absurd (done-not refusal r e)

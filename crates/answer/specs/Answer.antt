@@ -55,7 +55,3 @@ andThen a next = cond (isDone a) next a
 -- a test of the indexes below n, of which i is the lowest that fails; i is n where none does
 abbrev pub lowest : (ℕ → Answer) → ℕ → ℕ → Answer
 lowest refusal n i = cond (ltb i n) (refusal i) Done
-
--- a test of a length that has to be `right`
-abbrev pub sized : ℕ → ℕ → Answer → Answer
-sized size right refusal = cond (eqb size right) Done refusal

@@ -1,3 +1,2 @@
 -- The answers of document 01.
 pub mod Answer
-pub mod Lengths

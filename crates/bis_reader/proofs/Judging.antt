@@ -2,20 +2,18 @@
 use mathlib.Core.Path.{_≡_, refl, sym, ap, ap₂, _∙_}
 use mathlib.Core.Bool.{Bool, true, false, cond, not}
 use mathlib.Core.List.{List, []}
-use Prim.Native.Nat.{ℕ, _*_, _-_, _/_, _%_, _<_, _≤_}
-use native.Mathlib.Omega.{arith}
+use Prim.Native.Nat.{ℕ, _-_, _<_, _≤_}
 use borrow.Author.Tests.{lt-ltb, le-ltb, eq-eqb, ne-eqb}
-use lib.Dec.{eqb, ltb}
+use lib.Dec.{ltb}
 use lib.ListN.{length, getD}
 use Rattle.laws.proofs.Fill.{Upto, upto-all}
 use Rattle.column.specs.Column.{hasRoots}
-use Rattle.answer.specs.declared.Answer.{Answer}
-use Rattle.answer.specs.declared.Answer.the-variants.{Done, NoMultiple}
+use Rattle.answer.specs.declared.Answer.the-variants.{Done}
 use Rattle.answer.specs.Answer.{isDone}
 use Rattle.answer.proofs.Tests.{done-is}
 use Rattle.address.specs.declared.AunAnswer.{AunAnswer}
 use Rattle.address.specs.declared.PsnAnswer.{PsnAnswer}
-use Rattle.address.specs.Judged.{judged, ifDone}
+use Rattle.address.specs.Judged.{judged}
 use Rattle.address.specs.Conversions.{aunOf, psnToAun, aunToPsn}
 use Rattle.address.proofs.Accepted.{aun-answered, answered-accepted}
 use Rattle.bis.specs.AddressField.{flagIn}

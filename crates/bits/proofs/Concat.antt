@@ -2,10 +2,10 @@
 use mathlib.Core.Path.{_≡_, refl, sym, ap, ap₂, subst, _∙_}
 use mathlib.Core.List.{List, [], _∷_, _++_}
 use Prim.Native.Nat.{ℕ, _+_, _*_, _-_, _/_, _%_, _^_, _<_}
-use native.Mathlib.Nat.{zero-mul, add-mul, mul-assoc}
+use native.Mathlib.Nat.{zero-mul, add-mul, mul-assoc, mod-eq-of-lt, mod-lt, zero-lt-suc}
 use native.Mathlib.Decide.{decLt}
 use native.Mathlib.Omega.{arith}
-use lib.ListN.{length, getD, length-append, List·getD-append}
+use lib.ListN.{length, getD, length-append, List·getD-append, List·getD-eq-default}
 use lib.Pow.{pow-add}
 use lib.Seq.{ext-getD, getD-append-add}
 use Rattle.laws.specs.Bytes.{Bytes}
@@ -14,10 +14,6 @@ use Rattle.bits.specs.Bits.{bitsOf, bitsOfNumber, number, packed, Bits}
 use Rattle.bits.proofs.Bits.{length-bits, bit-in, bits-bits, bits-then}
 use Rattle.bits.proofs.Number.{number-of-bits, bits-of-number, length-bits-of, getD-bits-of}
 use Rattle.bits.proofs.Pack.{packed-bits}
-use native.Mathlib.Nat.{mod-eq-of-lt}
-use native.Mathlib.Nat.{mod-lt}
-use native.Mathlib.Nat.{zero-lt-suc}
-use lib.ListN.{List·getD-eq-default}
 
 pub bits-append : (a b : List ℕ) → bitsOf (a ++ b) ≡ bitsOf a ++ bitsOf b
 bits-append a b = ext-getD 0 (bitsOf (a ++ b)) (bitsOf a ++ bitsOf b) (omega (arith, size, length-append (bitsOf a) (bitsOf b), length-bits a, length-bits b)) at

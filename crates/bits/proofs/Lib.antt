@@ -1,7 +1,6 @@
 -- Laws of the bits of bytes.
 pub mod Bits
 pub mod Number
-pub mod Write
 pub mod Read
 pub mod Pack
 pub mod Concat

@@ -9,7 +9,8 @@ use borrow.Author.Tests.{le-leb, lt-leb, lt-ltb, le-ltb}
 use lib.Pow.{shr-shr, high, field, mod-mod-pow, low}
 use Rattle.laws.proofs.Finite.{all, equal-below}
 use lib.ListN.{length, getD}
-use Rattle.bits.specs.Bits.{bitsOf, threeAt, LowBits}
+use Rattle.bits.specs.Bits.{bitsOf, threeAt}
+use Rattle.bits.specs.steps.LowBits.{LowBits}
 use Rattle.bits.specs.Step.{stepAt}
 use Rattle.bits.proofs.Bits.{bit-in}
 

@@ -1,6 +1,5 @@
 -- The bits of a list of bytes, the highest of each byte first (document 01: bytes run msb first). A bit is a number, 0 or 1.
 use mathlib.Core.List.{List, [], _∷_}
-use mathlib.Core.Path.{_≡_}
 use Prim.Native.Nat.{ℕ, _+_, _*_, _-_, _/_, _%_, _^_, _<_}
 use lib.ListN.{length, getD, take, drop}
 use Rattle.laws.specs.Tabulate.{tabulate}
@@ -36,7 +35,3 @@ threeAt b p = 4 * getD b p 0 + 2 * getD b (p + 1) 0 + getD b (p + 2) 0
 -- the three low bits of v, the highest first
 abbrev pub threeOf : ℕ → List ℕ
 threeOf v = v / 4 % 2 ∷ v / 2 % 2 ∷ v % 2 ∷ []
-
--- the n low bits of v are those of b from p on
-pub record LowBits (b : List ℕ) (p n v : ℕ) : Type 0 where
-  pub each : (d : ℕ) → d < n → v / 2 ^ (n - 1 - d) % 2 ≡ getD b (p + d) 0

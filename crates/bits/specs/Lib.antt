@@ -1,3 +1,4 @@
 -- The bits of bytes.
 pub mod Bits
 pub mod Step
+pub mod steps

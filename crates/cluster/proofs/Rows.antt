@@ -1,18 +1,14 @@
 -- The rows of an ECC cluster, and a row shown of a lent slice. Assumes nothing.
-use mathlib.Core.Path.{_≡_, _∙_}
+use mathlib.Core.Path.{_≡_, _∙_, ap, sym}
 use mathlib.Core.List.{List, []}
 use Prim.Native.Nat.{ℕ, _+_, _*_, _-_, _<_, _≤_, _/_, _%_}
 use native.Mathlib.Omega.{arith}
 use borrow.Author.Tests.{eq-eqb, ne-eqb, le-leb, lt-leb}
-use lib.ListN.{length, take, drop, length-take}
+use lib.ListN.{length, take, drop, getD, length-drop}
 use Rattle.cluster.specs.EccCluster.{shownRow, rowOf}
-use lib.ListN.{getD}
 use lib.Seq.{ext-getD, getD-take, getD-drop, length-take-le}
 use Rattle.laws.specs.Bytes.{Bytes}
 use Rattle.laws.proofs.Bytes.{bytes-take, bytes-drop}
-use lib.ListN.{length-drop}
-use mathlib.Core.Path.{ap}
-use mathlib.Core.Path.{sym}
 
 pub row-of-no-cluster : (work : List ℕ) (n : ℕ) → (length work ≡ 76880 → ⊥) → [] ≡ shownRow work n
 row-of-no-cluster work n h = rw (ne-eqb (length work) 76880 h)

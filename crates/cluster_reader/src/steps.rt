@@ -73,7 +73,7 @@ fn data_frame(frames: &[u8], stream: &[u8], f: usize) -> [u8; 2052]
     let mut bytes = zero_frame();
     let from = 2052 * f;
     let end = from + 2052;
-    slices::copy_bytes(&frames[from..end], &mut bytes);
+    slices::steps::copy_bytes(&frames[from..end], &mut bytes);
     scrambling::scramble(&mut bytes, stream);
     bytes
 }

@@ -12,9 +12,6 @@ ghost use Rattle.laws.specs.Bytes.{Bytes};
 ghost use Rattle.laws.specs.Tabulate.{tabulate};
 ghost use Rattle.column.specs.Column.{remainder, parity, hasRoots, EndsIn};
 ghost use Rattle.remainders.specs.steps.Remainders.{divisor, leaves, AreRemainders, Padded, front, added};
-ghost use mathlib.Core.Path.{_≡_};
-ghost use Prim.Native.Nat.{_+_, _<_, _≤_};
-ghost use lib.ListN.{length};
 
 fn entry(table: &Remainders, k: usize, b: usize, j: usize) -> u8
     requires { ⌜ AreRemainders (now table) × ((k < 8) × ((b < 256) × (j < 32))) ⌝ }

@@ -4,10 +4,10 @@ pub mod steps;
 use field::Gf;
 ghost use mathlib.Core.Path.{_≡_};
 ghost use Prim.Native.Nat.{_+_, _<_};
-ghost use lib.ListN.{length};
+ghost use lib.ListN.{length, drop};
 ghost use Rattle.laws.specs.Tabulate.{tabulate};
 ghost use Rattle.field.specs.Tables.{AreTables};
-ghost use Rattle.column.specs.Column.{value, hasRoots, remainder, parity};
+ghost use Rattle.column.specs.Column.{value, hasRoots, remainder, generator, parity};
 
 // ---- the parity, byte by byte
 
@@ -34,11 +34,20 @@ pub fn parity_32(message: &[u8], out: &mut [u8; 32])
     divide(&generator, message, out);
 }
 
+// The generator with 4 roots (formula 33), without its first coefficient.
+const GENERATOR_4: [u8; 4] = [15, 54, 120, 64];
+
+fn generator_4() -> [u8; 4]
+    ensures { λ r. ⌜ (length r ≡ 4) × (r ≡ drop 1 (generator 4)) ⌝ }
+{
+    GENERATOR_4
+}
+
 // The parity of a primary address field.
 pub fn parity_4(message: &[u8], out: &mut [u8; 4])
     ensures { λ r. ⌜ now (out .exit) ≡ parity 4 (now (message .entry)) ⌝ }
 {
-    let generator = steps::generator_4();
+    let generator = generator_4();
     divide(&generator, message, out);
 }
 

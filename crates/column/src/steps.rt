@@ -3,9 +3,7 @@ use field::Gf;
 ghost use mathlib.Core.Path.{_≡_};
 ghost use lib.ListN.{length, drop};
 ghost use Rattle.column.specs.Column.{generator, pushed};
-ghost use mathlib.Core.Path.{_≡_};
 ghost use Prim.Native.Nat.{_+_, _<_};
-ghost use lib.ListN.{length};
 ghost use Rattle.laws.specs.Tabulate.{tabulate};
 ghost use Rattle.field.specs.Tables.{AreTables};
 
@@ -45,19 +43,10 @@ const GENERATOR_32: [u8; 32] = [
     88,
 ];
 
-// The generator with 4 roots (formula 33), likewise.
-const GENERATOR_4: [u8; 4] = [15, 54, 120, 64];
-
 pub fn generator_32() -> [u8; 32]
     ensures { λ r. ⌜ (length r ≡ 32) × (r ≡ drop 1 (generator 32)) ⌝ }
 {
     GENERATOR_32
-}
-
-pub fn generator_4() -> [u8; 4]
-    ensures { λ r. ⌜ (length r ≡ 4) × (r ≡ drop 1 (generator 4)) ⌝ }
-{
-    GENERATOR_4
 }
 
 // One byte into the register.

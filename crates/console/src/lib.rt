@@ -1,6 +1,5 @@
 // What the programs share: arguments, whole files, and texts printed.
 use texts::Text;
-ghost use mathlib.Core.Path.{_≡_};
 ghost use Rattle.io.specs.Counts.{Counts};
 
 // The first size of the bytes. A text has no more than fit (`report`, proofs/Words; `tallying`, proofs/Table).

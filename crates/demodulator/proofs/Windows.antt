@@ -6,7 +6,8 @@ use native.Mathlib.Omega.{arith}
 use lib.Dec.{eqb, eqb→eq}
 use lib.ListN.{getD}
 use Rattle.laws.proofs.Finite.{all, all₂, all₃, all₃-at}
-use Rattle.bits.specs.Bits.{Bits, threeAt, LowBits}
+use Rattle.bits.specs.Bits.{Bits, threeAt}
+use Rattle.bits.specs.steps.LowBits.{LowBits}
 use Rattle.bits.proofs.Read.{eight-sum}
 use Rattle.modulation.specs.Modulation.{Three, threeNumber}
 use Rattle.modulation.specs.Bits.{three}

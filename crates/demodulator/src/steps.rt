@@ -20,7 +20,7 @@ fn six(bytes: &[u8], at: usize) -> usize
     requires { ⌜ Inside (now bytes) at 2 ⌝ }
     ensures { λ r. ⌜ (twoGroups r ≡ groupsAt (bitsOf (now (bytes .entry))) at 2) × (r < 64) ⌝ }
 {
-    (bits::low_bits(bytes, at, 6) % 64) as usize
+    (bits::steps::low_bits(bytes, at, 6) % 64) as usize
 }
 
 // The three groups at bit `at`.
@@ -28,7 +28,7 @@ fn nine(bytes: &[u8], at: usize) -> usize
     requires { ⌜ Inside (now bytes) at 3 ⌝ }
     ensures { λ r. ⌜ (threeGroups r ≡ groupsAt (bitsOf (now (bytes .entry))) at 3) × (r < 512) ⌝ }
 {
-    (bits::low_bits(bytes, at, 9) % 512) as usize
+    (bits::steps::low_bits(bytes, at, 9) % 512) as usize
 }
 
 // The groups at bit `at`, three a turn.

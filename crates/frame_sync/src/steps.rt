@@ -61,7 +61,7 @@ pub fn write_sync(hash: bool, number: usize, image: &mut [u8], at: usize)
     let word = sync_word(hash, number);
     let mut j = 0;
     while j < 10 {
-        bits::write_three(image, at + 3 * j, group_of(word, j));
+        bit_writer::write_three(image, at + 3 * j, group_of(word, j));
         j += 1;
     }
 }

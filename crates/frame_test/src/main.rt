@@ -82,7 +82,7 @@ fn seen_line(text: &[u8], seen: Seen) {
 fn flipped(image: [u8; 245], bit: usize) -> [u8; 245] {
     let mut out = image;
     let old = bits::read_bit(&out, bit);
-    bits::write_bit(&mut out, bit, old ^ 1);
+    bit_writer::write_bit(&mut out, bit, old ^ 1);
     out
 }
 

@@ -106,7 +106,7 @@ fn copy_bits(bytes: &[u8], image: &mut [u8], at: usize)
 {
     let mut k = 0;
     while k < sizes::FRAME {
-        bits::write_bit(image, at + k, bits::read_bit(bytes, k));
+        bit_writer::write_bit(image, at + k, bits::read_bit(bytes, k));
         k += 1;
     }
 }

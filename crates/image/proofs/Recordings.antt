@@ -1,10 +1,6 @@
 -- The recording of an input. Assumes nothing.
-use mathlib.Core.Path.{_≡_, sym, ap, _∙_}
 use mathlib.Core.Bool.{Bool}
-use mathlib.Core.List.{List}
-use Prim.Native.Nat.{ℕ, _/_, _%_, _<_}
-use native.Mathlib.Omega.{arith}
-use lib.ListN.{length, getD}
+use Prim.Native.Nat.{ℕ}
 use Rattle.modulation.specs.Stream.{Full}
 use Rattle.image.specs.Image.{Input, recording, cluster}
 use Rattle.recording.proofs.Frames.{full-of}

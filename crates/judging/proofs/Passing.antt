@@ -8,7 +8,6 @@ use Rattle.laws.proofs.First.{ended}
 use Rattle.answer.specs.declared.Answer.the-variants.{Done, Sync, Frame, BisColumn, AddressUnit, LdcColumn, Sector}
 use Rattle.answer.specs.Answer.{numberOf}
 use Rattle.answer.proofs.Tests.{lowest-end, lowest-done}
-use Rattle.address.specs.declared.PsnAnswer.{PsnAnswer}
 use Rattle.scrambling.specs.Scrambling.{scramblingOf}
 use Rattle.bis.specs.declared.PsnFound.{PsnFound}
 use Rattle.bis.specs.declared.PsnFound.the-variants.{Found, NotFound}

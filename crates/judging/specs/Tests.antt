@@ -4,6 +4,7 @@ use mathlib.Core.List.{List}
 use Prim.Native.Nat.{ℕ}
 use lib.Dec.{eqb}
 use lib.ListN.{getD}
+use Rattle.sizes.specs.Sizes.{frameCount}
 use Rattle.answer.specs.declared.Answer.{Answer}
 use Rattle.answer.specs.declared.Answer.the-variants.{Done, LastBits, Sync, Frame, BisColumn, AddressUnit, NoPsn, LdcColumn, Sector}
 use Rattle.answer.specs.Answer.{lowest}
@@ -29,7 +30,7 @@ syncsAnswer first b = lowest Sync 497 (firstWrongSync first b)
 
 -- 11: the frames
 unfoldable pub framesAnswer : List ℕ → Answer
-framesAnswer b = lowest Frame 496 (firstNoFrame b)
+framesAnswer b = lowest Frame frameCount (firstNoFrame b)
 
 -- ---- in a BIS block
 

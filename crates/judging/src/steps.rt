@@ -7,6 +7,7 @@ use bis::PsnFound;
 use remainders::Remainders;
 ghost use mathlib.Core.Path.{_≡_};
 ghost use lib.ListN.{length, drop};
+ghost use Rattle.sizes.specs.Sizes.{frameCount, workSize};
 ghost use Rattle.bits.specs.Bits.{bitsOf};
 ghost use Rattle.answer.specs.Answer.{lowest};
 ghost use Rattle.remainders.specs.steps.Remainders.{AreRemainders};
@@ -48,11 +49,11 @@ pub fn syncs(image: &[u8], at: usize, first: bool) -> Answer
 
 // 11: its frames. Where they are passed the ECC cluster stands in work and the dc words in dc.
 pub fn frames(image: &[u8], at: usize, dc: &mut [u32], work: &mut [u8]) -> Answer
-    requires { ⌜ Within (now image) at × ((length (now dc) ≡ 496) × (length (now work) ≡ 76880)) ⌝ }
+    requires { ⌜ Within (now image) at × ((length (now dc) ≡ frameCount) × (length (now work) ≡ workSize)) ⌝ }
     ensures { λ r. ⌜ FramesTested (drop at (bitsOf (now (image .entry)))) r (now (dc .exit)) (now (work .exit)) ⌝ }
 {
     let n = recording::steps::read_frames(image, at, dc, work);
-    lowest(n, 496, Answer::Frame(n))
+    lowest(n, sizes::FRAMES, Answer::Frame(n))
 }
 
 // 12: the columns of a BIS block.
@@ -91,7 +92,7 @@ pub fn psn(block: Block) -> PsnAnswer
 
 // 15: the LDC columns of an ECC cluster.
 pub fn ldc_columns(table: &Remainders, work: &[u8]) -> Answer
-    requires { ⌜ AreRemainders (now table) × (length (now work) ≡ 76880) ⌝ }
+    requires { ⌜ AreRemainders (now table) × (length (now work) ≡ workSize) ⌝ }
     ensures { λ r. ⌜ r ≡ ldcColumnsAnswer (now (work .entry)) ⌝ }
 {
     let column = cluster_reader::steps::first_wrong_word(table, work);
@@ -100,7 +101,7 @@ pub fn ldc_columns(table: &Remainders, work: &[u8]) -> Answer
 
 // 16: its sectors, scrambled with this stream.
 pub fn sectors(work: &[u8], stream: &[u8]) -> Answer
-    requires { ⌜ length (now work) ≡ 76880 ⌝ }
+    requires { ⌜ length (now work) ≡ workSize ⌝ }
     ensures { λ r. ⌜ r ≡ sectorsAnswer (now (stream .entry)) (now (work .entry)) ⌝ }
 {
     let sector = cluster_reader::steps::first_wrong_sector(work, stream);

@@ -1,19 +1,15 @@
 -- A loop that fills a list from the front, an element or a part a turn. Assumes nothing.
 use mathlib.Core.Path.{_≡_, refl, sym, ap, _∙_}
-use mathlib.Core.List.{List, _++_, [], _∷_}
+use mathlib.Core.List.{List, _++_, [], _∷_, append-nil}
 use Prim.Native.Nat.{ℕ, _+_, _-_, _<_, _≤_, suc}
 use native.Mathlib.Nat.{not-suc-le-zero}
 use native.Mathlib.Decide.{decLt}
 use native.Mathlib.Omega.{arith}
 use borrow.Author.Count.{below-more}
-use lib.ListN.{length, getD, set, take, drop, length-set, length-append, length-drop, List·getD-append}
+use lib.ListN.{length, getD, set, take, drop, length-set, length-append, length-drop, List·getD-append, drop-of-length-le}
 use lib.Seq.{sets, sets-eq, take-at, getD-set-same, getD-set-other, length-take-le, getD-take, getD-append-add}
 use Rattle.laws.specs.Tabulate.{tabulate}
 use Rattle.laws.proofs.Tabulate.{is-tabulate}
-use mathlib.Core.List.{_∷_}
-use Prim.Native.Nat.{suc}
-use lib.ListN.{drop-of-length-le}
-use mathlib.Core.List.{append-nil}
 
 -- l has n elements, of which the first i are f's; d is what `getD` gives past the end
 pub record Upto {A : Type 0} (d : A) (f : ℕ → A) (n i : ℕ) (l : List A) : Type 0 where

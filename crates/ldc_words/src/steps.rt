@@ -122,7 +122,7 @@ pub fn take_information(words: &[u8], frames: &mut [u8])
         let end = from + 216;
         let to = 216 * j;
         let past = to + 216;
-        slices::copy_bytes(&words[from..end], &mut frames[to..past]);
+        slices::steps::copy_bytes(&words[from..end], &mut frames[to..past]);
         j += 1;
     }
 }

@@ -6,9 +6,10 @@ use Prim.Native.Nat.{ℕ}
 use lib.ListN.{length}
 use Rattle.answer.specs.declared.Answer.{Answer}
 use Rattle.answer.specs.declared.Answer.the-variants.{Done, WrongUser, WrongSide}
-use Rattle.answer.specs.Answer.{isDone, andThen, sized}
-use Rattle.answer.proofs.Tests.{done-is, done-told, then-done, sized-done}
-use Rattle.answer.proofs.RightLengths.{lengths-done}
+use Rattle.answer.specs.Answer.{isDone, andThen}
+use Rattle.lengths.specs.Lengths.{sized}
+use Rattle.answer.proofs.Tests.{done-is, done-told, then-done}
+use Rattle.lengths.proofs.RightLengths.{sized-done, lengths-done}
 use Rattle.reader.specs.Outcome.{Lent, Outcome, imageOutcome, sizesAnswer, outcome}
 use Rattle.reader.specs.Promise.{RightSlices}
 use Rattle.bits.specs.Bits.{bitsOf}

@@ -13,8 +13,10 @@ use Rattle.laws.specs.Bytes.{Bytes}
 use Rattle.laws.proofs.First.{first-none, first-all}
 use Rattle.answer.specs.declared.Answer.{Answer}
 use Rattle.answer.specs.declared.Answer.the-variants.{Done, WrongUser, WrongSide}
-use Rattle.answer.specs.Answer.{numberOf, isDone, andThen, sized}
-use Rattle.answer.proofs.Tests.{done-is, then-both, sized-right}
+use Rattle.answer.specs.Answer.{numberOf, isDone, andThen}
+use Rattle.answer.proofs.Tests.{done-is, then-both}
+use Rattle.lengths.specs.Lengths.{sized}
+use Rattle.lengths.proofs.RightLengths.{sized-right}
 use Rattle.image.specs.Image as Image
 use Rattle.image.specs.Image.{Input, IsAccepted}
 use Rattle.reader.specs.Outcome.{Lent, Outcome, outcome}

@@ -5,7 +5,8 @@ use mathlib.Core.List.{List}
 use Prim.Native.Nat.{ℕ}
 use lib.ListN.{length}
 use Rattle.answer.specs.declared.Answer.the-variants.{WrongUser, WrongSide}
-use Rattle.answer.specs.Answer.{isDone, andThen, sized}
+use Rattle.answer.specs.Answer.{isDone, andThen}
+use Rattle.lengths.specs.Lengths.{sized}
 use Rattle.image.specs.Image as Image
 use Rattle.reader.specs.Outcome.{Lent, Outcome, outcome}
 use Rattle.verdict.specs.declared.Verdict.{Verdict}

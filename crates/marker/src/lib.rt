@@ -50,8 +50,8 @@ pub fn mark(
     ensures { λ r. ⌜ (RightSlices (record { user = now (bytes .entry); side = now (control .entry); dc = now (dc .entry); work = now (work .entry) })
         → (r ≡ Verdict.Pass) ↔ IsImageOf (psn .0) (now (user .entry)) (now (side .entry)) (now (image .entry))) ⌝ }
 {
-    let one = answer::sized(user.len(), sizes::USER, Answer::WrongUser(0));
-    let two = answer::sized(side.len(), sizes::SIDE, Answer::WrongSide);
+    let one = lengths::sized(user.len(), sizes::USER, Answer::WrongUser(0));
+    let two = lengths::sized(side.len(), sizes::SIDE, Answer::WrongSide);
     let given = one.and_then(two);
     if given.is_done() {
         return mark_sized(psn, user, side, image, bytes, control, dc, work);

@@ -1,5 +1,5 @@
 -- The modulating machine gives what the definition gives (`machine-is`). Also: when the next modulation bits are 010. Assumes nothing.
-use mathlib.Core.Bool.{Bool, true, false, not, true≢false}
+use mathlib.Core.Bool.{Bool, true, false, true≢false}
 use mathlib.Core.List.{List, [], _∷_, _++_}
 use mathlib.Core.Path.{_≡_, refl, ap, _∙_, sym}
 use Rattle.modulation.specs.Modulation.{Two, d00, d01, d10, d11, Modulated, startsWith010, modulateFrom, modulate}

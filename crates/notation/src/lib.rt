@@ -3,6 +3,7 @@ use address::Psn;
 ghost use mathlib.Core.Path.{_≡_};
 ghost use Prim.Native.Nat.{_<_, _≤_};
 ghost use lib.ListN.{length};
+ghost use Rattle.sizes.specs.Sizes.{frameCount};
 ghost use Rattle.notation.specs.Psn.{digitOf, psnOf};
 ghost use Rattle.notation.specs.Words.{wordCount, wordFrom, wordAt, byteOf, wordsRead, bytesRead};
 
@@ -52,7 +53,7 @@ fn word(a: u8, b: u8, c: u8, d: u8) -> u32
 }
 
 fn word_at(bytes: &[u8], n: usize) -> u32
-    requires { ⌜ (length (now bytes) ≡ 1984) × (n < 496) ⌝ }
+    requires { ⌜ (length (now bytes) ≡ 1984) × (n < frameCount) ⌝ }
     ensures { λ r. ⌜ r ≡ wordAt (now (bytes .entry)) n ⌝ }
 {
     let at = 4 * n;
@@ -61,12 +62,12 @@ fn word_at(bytes: &[u8], n: usize) -> u32
 
 // How many dc words so many bytes hold: 496 are 1,984 bytes, and no other number holds any.
 pub fn word_count(bytes: usize) -> usize
-    ensures { λ r. ⌜ (r ≤ 496) × (r ≡ wordCount bytes) ⌝ }
+    ensures { λ r. ⌜ (r ≤ frameCount) × (r ≡ wordCount bytes) ⌝ }
 {
     if bytes != 1984 {
         return 0;
     }
-    496
+    sizes::FRAMES
 }
 
 // The 496 dc words of 1,984 bytes, high byte first. Slices of other lengths stay as they were.
@@ -76,11 +77,11 @@ pub fn words_of(bytes: &[u8], words: &mut [u32])
     if bytes.len() != 1984 {
         return;
     }
-    if words.len() != 496 {
+    if words.len() != sizes::FRAMES {
         return;
     }
     let mut n = 0;
-    while n < 496 {
+    while n < sizes::FRAMES {
         words[n] = word_at(bytes, n);
         n += 1;
     }
@@ -103,7 +104,7 @@ fn byte_of(word: u32, j: usize) -> u8
 pub fn bytes_of(words: &[u32], bytes: &mut [u8])
     ensures { λ _. ⌜ now (bytes .exit) ≡ bytesRead (now (words .entry)) (now (bytes .entry)) ⌝ }
 {
-    if words.len() != 496 {
+    if words.len() != sizes::FRAMES {
         return;
     }
     if bytes.len() != 1984 {

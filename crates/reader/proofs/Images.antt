@@ -15,13 +15,11 @@ use Rattle.bits.proofs.Bits as B
 use Rattle.bits.proofs.Pack.{packed-bits}
 use Rattle.answer.specs.declared.Answer.the-variants.{Done, LastBits}
 use Rattle.answer.proofs.Tests.{done-not, then-both, then-done}
-use Rattle.scrambling.specs.Scrambling.{scramblingOf}
 use Rattle.modulation.specs.Bits.{bits}
 use Rattle.modulation.specs.Stream.{stream}
-use Rattle.bis.specs.Reading.{sideIn}
 use Rattle.cluster.specs.Multiplex.{bisIn}
 use Rattle.cluster.specs.EccCluster.{eccCluster}
-use Rattle.cluster.specs.Reading.{userIn, Reads}
+use Rattle.cluster.specs.Reading.{Reads}
 use Rattle.cluster.proofs.Statements as Cluster
 use Rattle.recording.specs.Recording.{recordingOf}
 use Rattle.recording.specs.Reading.{clusterIn, dcIn}
@@ -29,7 +27,7 @@ use Rattle.recording.proofs.Accepting.{Passes, stream-there}
 use Rattle.recording.proofs.Back as Back
 use Rattle.image.specs.Image.{Input, IsAccepted, cluster, imageBitsFrom, imageBits, image}
 use Rattle.image.proofs.Demand3.{image-bits, image-size}
-use Rattle.judging.specs.Tests.{lastBitsAnswer, syncsAnswer, framesAnswer, bisColumnsAnswer, addressFieldsAnswer, psnAnswer, clusterPsn, ldcColumnsAnswer}
+use Rattle.judging.specs.Tests.{lastBitsAnswer, syncsAnswer, framesAnswer, bisColumnsAnswer, addressFieldsAnswer, psnAnswer, ldcColumnsAnswer}
 use Rattle.judging.proofs.Passing.{syncs-passed, frames-passed, recording-passes, ClusterPasses, reads-passes}
 use Rattle.reader.specs.Outcome.{imageAnswer}
 

@@ -8,9 +8,9 @@ use Rattle.laws.specs.Tabulate.{tabulate}
 use Rattle.bits.specs.Bits.{bitsOf}
 use Rattle.answer.specs.declared.Answer.{Answer}
 use Rattle.answer.specs.Answer.{isDone, andThen}
-use Rattle.answer.specs.Lengths.{lengthsAnswer}
+use Rattle.lengths.specs.Lengths.{lengthsAnswer}
 use Rattle.answer.proofs.Tests.{done-is, done-not, then-here, then-assoc, goes-on, stops}
-use Rattle.answer.proofs.RightLengths.{lengths-passed}
+use Rattle.lengths.proofs.RightLengths.{lengths-passed}
 use Rattle.cluster.specs.Multiplex.{bisIn}
 use Rattle.recording.specs.Reading.{clusterIn, dcIn}
 use Rattle.judging.specs.Tests.{lastBitsAnswer, syncsAnswer, framesAnswer}

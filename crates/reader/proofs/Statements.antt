@@ -15,7 +15,7 @@ use Rattle.answer.specs.declared.Answer.{Answer}
 use Rattle.answer.specs.declared.Answer.the-variants.{Done, LastBits, Sync, Frame, BisColumn, AddressUnit, NoPsn, LdcColumn, Sector}
 use Rattle.answer.specs.Answer.{numberOf, isDone, andThen, lowest}
 use Rattle.answer.proofs.Tests.{number-zero, done-is, done-not}
-use Rattle.answer.proofs.RightLengths.{lengths-right, lengths-done, lengths-number}
+use Rattle.lengths.proofs.RightLengths.{lengths-right, lengths-done, lengths-number}
 use Rattle.scrambling.specs.Scrambling.{scramblingOf}
 use Rattle.bis.specs.declared.PsnFound.{PsnFound}
 use Rattle.bis.specs.declared.PsnFound.the-variants.{Found, NotFound}

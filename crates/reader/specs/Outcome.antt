@@ -6,7 +6,7 @@ use lib.ListN.{length}
 use Rattle.bits.specs.Bits.{bitsOf}
 use Rattle.answer.specs.declared.Answer.{Answer}
 use Rattle.answer.specs.Answer.{isDone, andThen}
-use Rattle.answer.specs.Lengths.{lengthsAnswer}
+use Rattle.lengths.specs.Lengths.{lengthsAnswer}
 use Rattle.scrambling.specs.Scrambling.{scramblingOf}
 use Rattle.cluster.specs.Multiplex.{bisIn}
 use Rattle.recording.specs.Reading.{clusterIn, dcIn}

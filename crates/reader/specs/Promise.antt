@@ -3,7 +3,7 @@ use mathlib.Core.Path.{_≡_}
 use mathlib.Core.List.{List}
 use Prim.Native.Nat.{ℕ}
 use lib.ListN.{length}
-use Rattle.answer.specs.Lengths.{RightLengths}
+use Rattle.lengths.specs.Lengths.{RightLengths}
 use Rattle.image.specs.Image.{Input, IsAccepted, cluster, image}
 use Rattle.reader.specs.Outcome.{Lent}
 

@@ -4,6 +4,7 @@ use mathlib.Core.Bool.{false}
 use mathlib.Core.List.{List}
 use Prim.Native.Nat.{ℕ}
 use lib.ListN.{length}
+use Rattle.sizes.specs.Sizes.{workSize}
 use Rattle.answer.specs.declared.Answer.{Answer}
 use Rattle.answer.specs.declared.Answer.the-variants.{Done}
 use Rattle.answer.specs.Answer.{andThen}
@@ -14,4 +15,4 @@ pub record RecordingTested (b : List ℕ) (answer : Answer) (dc work : List ℕ)
   pub answer-is : answer ≡ andThen (lastBitsAnswer b) (andThen (syncsAnswer false b) (framesAnswer b))
   pub dc-is : answer ≡ Done → dc ≡ dcIn b
   pub work-is : answer ≡ Done → work ≡ clusterIn b
-  pub size : length work ≡ 76880
+  pub size : length work ≡ workSize

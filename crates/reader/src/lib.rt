@@ -3,6 +3,7 @@ use address::Psn;
 use answer::Answer;
 ghost use mathlib.Core.Path.{_≡_};
 ghost use lib.ListN.{length};
+ghost use Rattle.sizes.specs.Sizes.{frameCount, imageSize, workSize};
 ghost use Rattle.bits.specs.Bits.{bitsOf};
 ghost use Rattle.answer.specs.Answer.{numberOf};
 ghost use Rattle.reader.specs.Outcome.{outcome};
@@ -17,7 +18,7 @@ pub struct Read {
 
 // Tests 9 to 11; where they are passed the ECC cluster stands in work and its dc words in words.
 fn test_recording(image: &[u8], words: &mut [u32], work: &mut [u8]) -> Answer
-    requires { ⌜ (length (now image) ≡ 119788) × ((length (now words) ≡ 496) × (length (now work) ≡ 76880)) ⌝ }
+    requires { ⌜ (length (now image) ≡ imageSize) × ((length (now words) ≡ frameCount) × (length (now work) ≡ workSize)) ⌝ }
     ensures { λ r. ⌜ RecordingTested (bitsOf (now (image .entry))) r (now (words .exit)) (now (work .exit)) ⌝ }
 {
     let last = judging::steps::last_bits(image);
@@ -28,10 +29,10 @@ fn test_recording(image: &[u8], words: &mut [u32], work: &mut [u8]) -> Answer
     answer
 }
 
-fn no_words() -> [u32; 496]
-    ensures { λ r. ⌜ length r ≡ 496 ⌝ }
+fn no_words() -> [u32; sizes::FRAMES]
+    ensures { λ r. ⌜ length r ≡ frameCount ⌝ }
 {
-    [0u32; 496]
+    [0u32; sizes::FRAMES]
 }
 
 // Reads an image strictly. Document 01's answers 0 to 5 and 9 to 16: on 0 the user bytes, side data and dc words that the image was made
@@ -48,8 +49,8 @@ pub fn read_image(
     ensures { λ r. ⌜ ReadsExactly (now (image .entry)) (record { user = now (user .entry); side = now (side .entry); dc = now (dc .entry); work = now (work .entry) })
         (numberOf (r .answer)) (r .psn .0) (record { user = now (user .exit); side = now (side .exit); dc = now (dc .exit); work = now (work .exit) }) ⌝ }
 {
-    let sizes = answer::lengths(user.len(), side.len(), dc.len(), image.len(), work.len());
-    if sizes.is_done() {
+    let given = lengths::judge(user.len(), side.len(), dc.len(), image.len(), work.len());
+    if given.is_done() {
         let mut words = no_words();
         let tested = test_recording(image, &mut words, work);
         let read = strict_cluster::steps::read(tested, work, &words, user, side, dc);
@@ -58,7 +59,7 @@ pub fn read_image(
         return Read { answer, psn };
     }
     Read {
-        answer: sizes,
+        answer: given,
         psn: Psn(0),
     }
 }

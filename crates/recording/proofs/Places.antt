@@ -1,13 +1,11 @@
 -- Places in a recording that starts at bit `at` of the bits b. Assumes nothing.
-use mathlib.Core.Path.{_≡_, ap, _∙_}
+use mathlib.Core.Path.{_≡_, ap}
 use mathlib.Core.List.{List}
 use Prim.Native.Nat.{ℕ, _+_}
 use lib.Dec.{eqb}
-use lib.ListN.{getD, take, drop}
+use lib.ListN.{take, drop}
 use lib.Seq.{getD-drop, drop-drop}
-use Rattle.modulation.specs.Bits.{bits}
-use Rattle.modulation.specs.Sync.{FS, sync}
-use Rattle.laws.specs.Same.{same}
+use Rattle.modulation.specs.Sync.{FS}
 use Rattle.frame_sync.specs.Sync.{hashAt, syncRight}
 
 module _ (b : List ℕ) (at p : ℕ) where

@@ -1,4 +1,6 @@
-// Slices of plain numbers: cleared, copied.
+// Slices of plain numbers: cleared, copied. `steps` is for the crates of this repository.
+pub mod steps;
+
 ghost use mathlib.Core.Path.{_≡_};
 ghost use lib.ListN.{length};
 ghost use Rattle.laws.specs.Tabulate.{tabulate};
@@ -11,29 +13,5 @@ pub fn clear(bytes: &mut [u8])
     while i < bytes.len() {
         bytes[i] = 0;
         i += 1;
-    }
-}
-
-// Words into a slice of as many. For the crates of this repository.
-pub fn copy_words(from: &[u32], to: &mut [u32])
-    requires { ⌜ length (now from) ≡ length (now to) ⌝ }
-    ensures { λ _. ⌜ now (to .exit) ≡ now (from .entry) ⌝ }
-{
-    let mut i = 0;
-    while i < to.len() {
-        to[i] = from[i];
-        i += 1;
-    }
-}
-
-// Bytes into a slice of as many. For the crates of this repository.
-pub fn copy_bytes(from: &[u8], to: &mut [u8])
-    requires { ⌜ length (now from) ≡ length (now to) ⌝ }
-    ensures { λ _. ⌜ now (to .exit) ≡ now (from .entry) ⌝ }
-{
-    let mut k = 0;
-    while k < to.len() {
-        to[k] = from[k];
-        k += 1;
     }
 }

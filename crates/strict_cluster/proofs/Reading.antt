@@ -9,7 +9,6 @@ use Rattle.laws.specs.Tabulate.{tabulate}
 use Rattle.answer.specs.declared.Answer.{Answer}
 use Rattle.answer.specs.Answer.{isDone, andThen}
 use Rattle.answer.proofs.Tests.{done-is, then-assoc, goes-on, stops}
-use Rattle.address.specs.declared.Psn.{Psn}
 use Rattle.address.specs.declared.PsnAnswer.{PsnAnswer}
 use Rattle.scrambling.specs.Scrambling.{scramblingOf}
 use Rattle.bis.specs.Reading.{sideIn, sideOut}

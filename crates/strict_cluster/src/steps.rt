@@ -6,6 +6,7 @@ use bis::Block;
 use remainders::Remainders;
 ghost use mathlib.Core.Path.{_≡_};
 ghost use lib.ListN.{length};
+ghost use Rattle.sizes.specs.Sizes.{frameCount, sideSize, userSize, workSize};
 ghost use Rattle.answer.specs.Answer.{andThen};
 ghost use Rattle.remainders.specs.steps.Remainders.{AreRemainders};
 ghost use Rattle.judging.specs.Tests.{ldcColumnsAnswer, sectorsAnswer};
@@ -36,7 +37,7 @@ fn test_block(table: &Remainders, block: Block) -> PsnAnswer
 
 // Tests 15 and 16, where those before are passed.
 fn test_data(before: Answer, table: &Remainders, work: &[u8], stream: &[u8]) -> Answer
-    requires { ⌜ AreRemainders (now table) × (length (now work) ≡ 76880) ⌝ }
+    requires { ⌜ AreRemainders (now table) × (length (now work) ≡ workSize) ⌝ }
     ensures { λ r. ⌜ r ≡ andThen before (andThen (ldcColumnsAnswer (now (work .entry))) (sectorsAnswer (now (stream .entry)) (now (work .entry)))) ⌝ }
 {
     if before.is_done() {
@@ -51,7 +52,7 @@ fn test_data(before: Answer, table: &Remainders, work: &[u8], stream: &[u8]) -> 
 
 // All of them, in a cluster and its BIS block, behind the tests before.
 fn test(before: Answer, work: &[u8], block: Block) -> Tested
-    requires { ⌜ length (now work) ≡ 76880 ⌝ }
+    requires { ⌜ length (now work) ≡ workSize ⌝ }
     ensures { λ r. ⌜ r ≡ clusterTested before block (now (work .entry)) ⌝ }
 {
     let mut table = remainders::steps::no_remainders();
@@ -72,29 +73,29 @@ fn give(
     work: &[u8],
     block: Block,
     stream: &[u8],
-    words: &[u32; 496],
+    words: &[u32; sizes::FRAMES],
     user: &mut [u8],
     side: &mut [u8],
     dc: &mut [u32],
 )
-    requires { ⌜ ((length (now work) ≡ 76880) × (length (now user) ≡ 65536)) × ((length (now side) ≡ 592) × ((length (now words) ≡ 496) × (length (now dc) ≡ 496))) ⌝ }
+    requires { ⌜ ((length (now work) ≡ workSize) × (length (now user) ≡ userSize)) × ((length (now side) ≡ sideSize) × ((length (now words) ≡ frameCount) × (length (now dc) ≡ frameCount))) ⌝ }
     ensures { λ _. ⌜ Given (now (work .entry)) block (now (stream .entry)) (now (words .entry)) (now (user .exit)) (now (side .exit)) (now (dc .exit)) ⌝ }
 {
     cluster_reader::steps::user_bytes(work, stream, user);
     bis_reader::side_data(block, side);
-    slices::copy_words(words, dc);
+    slices::steps::copy_words(words, dc);
 }
 
 // Reads the cluster in work, where `before`, the answer of the tests before, is `Done`: fills user, side and dc. A refusal leaves them and clears work.
 pub fn read(
     before: Answer,
     work: &mut [u8],
-    words: &[u32; 496],
+    words: &[u32; sizes::FRAMES],
     user: &mut [u8],
     side: &mut [u8],
     dc: &mut [u32],
 ) -> PsnAnswer
-    requires { ⌜ ((length (now work) ≡ 76880) × (length (now user) ≡ 65536)) × ((length (now side) ≡ 592) × ((length (now words) ≡ 496) × (length (now dc) ≡ 496))) ⌝ }
+    requires { ⌜ ((length (now work) ≡ workSize) × (length (now user) ≡ userSize)) × ((length (now side) ≡ sideSize) × ((length (now words) ≡ frameCount) × (length (now dc) ≡ frameCount))) ⌝ }
     ensures { λ r. ⌜ record { answer = r .answer; psn = r .psn .0; lent = record { user = now (user .exit); side = now (side .exit); dc = now (dc .exit); work = now (work .exit) } }
         ≡ clusterOutcome before (now (work .entry)) (now (words .entry)) (record { user = now (user .entry); side = now (side .entry); dc = now (dc .entry); work = now (work .entry) }) ⌝ }
 {

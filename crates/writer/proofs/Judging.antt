@@ -8,9 +8,9 @@ use lib.ListN.{length, getD}
 use Rattle.answer.specs.declared.Answer.{Answer}
 use Rattle.answer.specs.declared.Answer.the-variants.{Done, DcWord}
 use Rattle.answer.specs.Answer.{isDone, andThen, lowest}
-use Rattle.answer.specs.Lengths.{lengthsAnswer, RightLengths}
+use Rattle.lengths.specs.Lengths.{lengthsAnswer, RightLengths}
 use Rattle.answer.proofs.Tests.{done-told, then-done, goes-on, stops, lowest-here, lowest-none, lowest-done}
-use Rattle.answer.proofs.RightLengths.{lengths-done}
+use Rattle.lengths.proofs.RightLengths.{lengths-done}
 use Rattle.address.specs.Judged.{judged}
 use Rattle.image.specs.Image.{Input, cluster, image}
 use Rattle.writer.specs.Written.{Filled}

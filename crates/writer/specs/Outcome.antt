@@ -8,7 +8,7 @@ use Rattle.laws.specs.First.{first}
 use Rattle.answer.specs.declared.Answer.{Answer}
 use Rattle.answer.specs.declared.Answer.the-variants.{DcWord}
 use Rattle.answer.specs.Answer.{isDone, andThen, lowest}
-use Rattle.answer.specs.Lengths.{lengthsAnswer}
+use Rattle.lengths.specs.Lengths.{lengthsAnswer}
 use Rattle.address.specs.Judged.{judged}
 use Rattle.image.specs.Image.{Input, cluster, image}
 use Rattle.sizes.specs.Sizes.{frameCount}

@@ -4,7 +4,7 @@ use mathlib.Core.Logic.{_↔_}
 use mathlib.Core.List.{List}
 use Prim.Native.Nat.{ℕ}
 use lib.ListN.{length}
-use Rattle.answer.specs.Lengths.{RightLengths}
+use Rattle.lengths.specs.Lengths.{RightLengths}
 use Rattle.image.specs.Image.{Input, IsAccepted, cluster, image}
 use Rattle.sizes.specs.Sizes.{imageSize}
 

@@ -7,7 +7,7 @@ ghost use Prim.Native.Nat.{_<_};
 ghost use lib.ListN.{length};
 ghost use Rattle.answer.specs.declared.Answer.the-variants.{Done};
 ghost use Rattle.answer.specs.Answer.{numberOf, andThen};
-ghost use Rattle.answer.specs.Lengths.{lengthsAnswer, RightLengths};
+ghost use Rattle.lengths.specs.Lengths.{lengthsAnswer, RightLengths};
 ghost use Rattle.address.specs.Judged.{judged};
 ghost use Rattle.writer.specs.Written.{ImageWritten, Filled};
 ghost use Rattle.writer.specs.Outcome.{partsAnswer, firstTooLarge, outcome};
@@ -36,8 +36,8 @@ fn put_image(work: &[u8], dc: &[u32], image: &mut [u8])
 {
     let state = recording::steps::put_frames(work, dc, State { hash: false }, image, 0);
     frame_sync::steps::write_sync(state.hash, 0, image, 958272);
-    bits::write_bit(image, 958302, 0);
-    bits::write_bit(image, 958303, 0);
+    bit_writer::write_bit(image, 958302, 0);
+    bit_writer::write_bit(image, 958303, 0);
 }
 
 // Tests 6 to 8: the PSN and the dc words.
@@ -59,11 +59,11 @@ fn judge_parts(psn: Psn, dc: &[u32]) -> Answer
 fn judge(user: usize, psn: Psn, side: usize, dc: &[u32], image: usize, work: usize) -> Answer
     ensures { λ r. ⌜ r ≡ andThen (lengthsAnswer user side (length (now (dc .entry))) image work) (partsAnswer (psn .0) (now (dc .entry))) ⌝ }
 {
-    let lengths = answer::lengths(user, side, dc.len(), image, work);
-    if lengths.is_done() {
+    let given = lengths::judge(user, side, dc.len(), image, work);
+    if given.is_done() {
         return judge_parts(psn, dc);
     }
-    lengths
+    given
 }
 
 // The ECC cluster in work and the image of an input that passed the tests.

@@ -1,15 +1,15 @@
 -- Two and three groups at once: a table by state and groups. A number x stands for a state and the number of the data bits so far: 32 times
 -- the latter, and the state.
-use mathlib.Core.Bool.{Bool, cond}
+use mathlib.Core.Bool.{cond}
 use mathlib.Core.List.{List, [], _∷_}
 use mathlib.Core.Path.{_≡_}
 use Prim.Native.Nat.{ℕ, _+_, _*_, _-_, _/_, _%_, _<_}
-use lib.Dec.{eqb, ltb}
+use lib.Dec.{ltb}
 use lib.ListN.{length, getD}
 use Rattle.laws.specs.Tabulate.{tabulate}
 use Rattle.modulation.specs.Modulation.{Three}
 use Rattle.modulation.specs.Bits.{three}
-use Rattle.automaton.specs.Automaton.{reads, ending, stateAfter, numberAfter}
+use Rattle.automaton.specs.Automaton.{reads, stateAfter, numberAfter}
 
 abbrev pub group : ℕ → Three
 group g = three (g / 4 % 2) (g / 2 % 2) (g % 2)

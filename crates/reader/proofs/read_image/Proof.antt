@@ -1,13 +1,13 @@
 -- `read_image` meets its contract: the lengths, then the recording and its cluster (Reading), and what is promised of it (Statements).
 use borrow.Author.Needs.{needs}
-use Rattle.answer.proofs.RightLengths.{lengths-passed}
+use Rattle.lengths.proofs.RightLengths.{lengths-passed}
 use Rattle.reader.proofs.Reading.{is-read, is-refused}
 use Rattle.reader.proofs.Statements.{with-exactly}
 use Rattle.reader.proofs.read_image.Statement.{statement}
 use Rattle.reader.proofs.read_image.Tie as tie
 
-lengths-requires : tie.Need-lengths-requires
-lengths-requires c κs = search needs
+judge-requires : tie.Need-judge-requires
+judge-requires c κs = search needs
 
 is-done-requires : tie.Need-is-done-requires
 is-done-requires c κs = search needs
@@ -22,14 +22,14 @@ test-recording-requires : tie.Need-test-recording-requires
 test-recording-requires c κs =
     let words = c .before .before in
     let test = words .before in
-    let sizes = lengths-passed _ _ _ _ _ (test .before .before .lengths .ensures) (test .before .is-done .ensures) (test .if1 .taken) in
+    let sizes = lengths-passed _ _ _ _ _ (test .before .before .judge .ensures) (test .before .is-done .ensures) (test .if1 .taken) in
     (sizes .1, (words .no-words .ensures, sizes .0 .work))
 
 read-requires : tie.Need-read-requires
 read-requires c κs =
     let recording = c .before .before .before .before .before .before .before .before in
     let test = recording .before .before .before .before in
-    let sizes = lengths-passed _ _ _ _ _ (test .before .before .lengths .ensures) (test .before .is-done .ensures) (test .if1 .taken) .0 in
+    let sizes = lengths-passed _ _ _ _ _ (test .before .before .judge .ensures) (test .before .is-done .ensures) (test .if1 .taken) .0 in
     ((recording .test-recording .ensures .size, sizes .user), (sizes .side, (search needs, sizes .dc)))
 
 same-length : tie.Need-same-length
@@ -61,7 +61,7 @@ pub read-image-spec : {M : Type 1} → statement M
 read-image-spec =
     tie.close
     (tie.spec
-    lengths-requires
+    judge-requires
     is-done-requires
     no-words-requires
     slice-aggregate-test-recording

@@ -1,13 +1,13 @@
 -- `judge` meets its contract: the lengths, then the other tests (answer, Tests).
 use Rattle.answer.proofs.Tests.{goes-on, stops}
-use Rattle.answer.proofs.RightLengths.{lengths-passed}
+use Rattle.lengths.proofs.RightLengths.{lengths-passed}
 use lib.ListN.{length}
 use borrow.Author.Needs.{needs}
 use Rattle.writer.proofs.judge.Statement.{statement}
 use Rattle.writer.proofs.judge.Tie as tie
 
-lengths-requires : tie.Need-lengths-requires
-lengths-requires c κs = search needs
+judge-requires : tie.Need-judge-requires
+judge-requires c κs = search needs
 
 is-done-requires : tie.Need-is-done-requires
 is-done-requires c κs = search needs
@@ -15,7 +15,7 @@ is-done-requires c κs = search needs
 judge-parts-requires : tie.Need-judge-parts-requires
 judge-parts-requires c κs =
     let args = c .before .before .before .before .args in
-    lengths-passed (args .user) (args .side) (length (args .dc .now)) (args .image) (args .work) (c .before .before .lengths .ensures) (c .before .is-done .ensures) (c .if1 .taken) .0 .dc
+    lengths-passed (args .user) (args .side) (length (args .dc .now)) (args .image) (args .work) (c .before .before .judge .ensures) (c .before .is-done .ensures) (c .if1 .taken) .0 .dc
 
 returns : tie.Need-returns
 returns c = search (goes-on)
@@ -25,4 +25,4 @@ returns-2 c = search (stops)
 
 pub judge-spec : {M : Type 1} → statement M
 judge-spec =
-    tie.close (tie.spec lengths-requires is-done-requires judge-parts-requires returns returns-2)
+    tie.close (tie.spec judge-requires is-done-requires judge-parts-requires returns returns-2)

@@ -1,0 +1,2 @@
+-- A bit written, and three.
+pub mod Write

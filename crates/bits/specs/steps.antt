@@ -1,0 +1,2 @@
+-- What the steps give.
+pub mod LowBits

@@ -1,0 +1,2 @@
+-- The lengths of lent slices.
+pub mod Lengths
