@@ -17,27 +17,28 @@ use Rattle.verdict.specs.declared.Verdict.{Verdict}
 use Rattle.verdict.specs.declared.Verdict.the-variants.{Pass, Refused, OtherPsn, OtherUser, OtherSide}
 use Rattle.verdict.specs.Verdict.{kindOf, refusalIn, ownPsn, placeIn}
 use Rattle.marker.specs.Marked as marker
-use Rattle.bdre.specs.Seen.{Writing, Reading, Marking, Number, writing, reading, marking, psnSeen, aunSeen, paaSeen}
+use Rattle.seen.specs.declared.Answered.{Answered}
+use Rattle.seen.specs.declared.ReadAnswered.{ReadAnswered}
+use Rattle.seen.specs.declared.Marking.{Marking}
+use Rattle.seen.specs.declared.Converted.{Converted}
+use Rattle.bdre.specs.Seen.{Number, writing, reading, marking, psnSeen, aunSeen, paaSeen}
 
--- what is promised of an answer's number is promised of the number that is returned
-pub same-writing : {number place : ℕ} {a : Answer} {image work : List ℕ} {o : writer.Outcome} {input : Input} {before entry : List ℕ} → number ≡ Answer.numberOf a → place ≡ Answer.placeOf a
+-- r is what is returned; what is promised of an answer's number is promised of the number that is returned
+pub same-writing : {r : Answered} {a : Answer} {image work : List ℕ} {o : writer.Outcome} {input : Input} {before entry : List ℕ} → r ≡ record { number = Answer.numberOf a; place = Answer.placeOf a }
     → (record { answer = a; image = image; work = work } ≡ o) × WritesExactly input before entry (Answer.numberOf a) image work
-    → (record { number = number; place = place; image = image; work = work } ≡ writing o) × WritesExactly input before entry number image work
-same-writing {number} {place} {a} {image} {work} {input = input} {before = before} {entry = entry} hn hp h = (
-  ap (λ (n : ℕ). record { number = n; place = place; image = image; work = work }) hn
-      ∙ ap (λ (p : ℕ). record { number = Answer.numberOf a; place = p; image = image; work = work }) hp
-      ∙ ap writing (h .0),
-  subst (λ (n : ℕ). WritesExactly input before entry n image work) (sym hn) (h .1),
+    → (record { number = r .number; place = r .place; image = image; work = work } ≡ writing o) × WritesExactly input before entry (r .number) image work
+same-writing {image = image} {work = work} {input = input} {before = before} {entry = entry} hr h = (
+  ap (λ (r : Answered). record { number = r .number; place = r .place; image = image; work = work }) hr ∙ ap writing (h .0),
+  subst (λ (r : Answered). WritesExactly input before entry (r .number) image work) (sym hr) (h .1),
 )
 
-pub same-reading : {number place psn : ℕ} {a : Answer} {lent : reader.Lent} {o : reader.Outcome} {l : List ℕ} {before : reader.Lent} → number ≡ Answer.numberOf a → place ≡ Answer.placeOf a
+pub same-reading : {r : ReadAnswered} {a : Answer} {psn : ℕ} {lent : reader.Lent} {o : reader.Outcome} {l : List ℕ} {before : reader.Lent}
+    → r ≡ record { number = Answer.numberOf a; psn = psn; place = Answer.placeOf a }
     → (record { answer = a; psn = psn; lent = lent } ≡ o) × ReadsExactly l before (Answer.numberOf a) psn lent
-    → (record { number = number; place = place; psn = psn; lent = lent } ≡ reading o) × ReadsExactly l before number psn lent
-same-reading {number} {place} {psn} {a} {lent} {l = l} {before = before} hn hp h = (
-  ap (λ (n : ℕ). record { number = n; place = place; psn = psn; lent = lent }) hn
-      ∙ ap (λ (p : ℕ). record { number = Answer.numberOf a; place = p; psn = psn; lent = lent }) hp
-      ∙ ap reading (h .0),
-  subst (λ (n : ℕ). ReadsExactly l before n psn lent) (sym hn) (h .1),
+    → (record { number = r .number; place = r .place; psn = r .psn; lent = lent } ≡ reading o) × ReadsExactly l before (r .number) (r .psn) lent
+same-reading {lent = lent} {l = l} {before = before} hr h = (
+  ap (λ (r : ReadAnswered). record { number = r .number; place = r .place; psn = r .psn; lent = lent }) hr ∙ ap reading (h .0),
+  subst (λ (r : ReadAnswered). ReadsExactly l before (r .number) (r .psn) lent) (sym hr) (h .1),
 )
 
 pass-is : (v : Verdict) → kindOf v ≡ 0 → v ≡ Pass
@@ -51,26 +52,25 @@ pass-is (OtherSide n) e = cc
 same-pass : (kind : ℕ) (v : Verdict) (P : Type 0) → kind ≡ kindOf v → (v ≡ Pass) ↔ P → (kind ≡ 0) ↔ P
 same-pass kind v P hk h = (λ e. h .0 (pass-is v (sym hk ∙ e)), λ p. hk ∙ ap kindOf (h .1 p))
 
-pub same-marking : (kind number psn place : ℕ) (v : Verdict) (lent : reader.Lent) (m : marker.Marked) (F P : Type 0)
-    → kind ≡ kindOf v → number ≡ refusalIn v → psn ≡ ownPsn v → place ≡ placeIn v
+pub same-marking : {r : Marking} {v : Verdict} {lent : reader.Lent} {m : marker.Marked} {F P : Type 0}
+    → r ≡ record { verdict = kindOf v; number = refusalIn v; psn = ownPsn v; place = placeIn v }
     → (record { verdict = v; lent = lent } ≡ m) × (F → (v ≡ Pass) ↔ P)
-    → (record { verdict = kind; number = number; psn = psn; place = place; lent = lent } ≡ marking m) × (F → (kind ≡ 0) ↔ P)
-same-marking kind number psn place v lent m F P hk hn hs hp h = (
-  ap (λ (k : ℕ). record { verdict = k; number = number; psn = psn; place = place; lent = lent }) hk
-      ∙ ap (λ (n : ℕ). record { verdict = kindOf v; number = n; psn = psn; place = place; lent = lent }) hn
-      ∙ ap (λ (s : ℕ). record { verdict = kindOf v; number = refusalIn v; psn = s; place = place; lent = lent }) hs
-      ∙ ap (λ (p : ℕ). record { verdict = kindOf v; number = refusalIn v; psn = ownPsn v; place = p; lent = lent }) hp
-      ∙ ap marking (h .0),
-  λ f. same-pass kind v P hk (h .1 f),
+    → (record { verdict = r .verdict; number = r .number; psn = r .psn; place = r .place; lent = lent } ≡ marking m) × (F → (r .verdict ≡ 0) ↔ P)
+same-marking {r} {v} {lent} {P = P} hr h = (
+  ap (λ (r : Marking). record { verdict = r .verdict; number = r .number; psn = r .psn; place = r .place; lent = lent }) hr ∙ ap marking (h .0),
+  λ f. same-pass (r .verdict) v P (ap (λ (r : Marking). r .verdict) hr) (h .1 f),
 )
 
 -- ---- conversions: r is what is returned, a what the conversion gave, b what it is defined to give
 
-pub same-psn : (r : Number) (a b : PsnAnswer) → r ≡ psnSeen a → a ≡ b → r ≡ psnSeen b
-same-psn r a b hr h = hr ∙ ap psnSeen h
+abbrev seen : Converted → Number
+seen r = record { number = r .number; value = r .value }
 
-pub same-aun : (r : Number) (a b : AunAnswer) → r ≡ aunSeen a → a ≡ b → r ≡ aunSeen b
-same-aun r a b hr h = hr ∙ ap aunSeen h
+pub same-psn : {r : Converted} {a b : PsnAnswer} → r ≡ record { number = Answer.numberOf (a .answer); value = a .psn .0 } → a ≡ b → seen r ≡ psnSeen b
+same-psn hr h = ap seen hr ∙ ap psnSeen h
 
-pub same-paa : (r : Number) (a b : PaaAnswer) → r ≡ paaSeen a → a ≡ b → r ≡ paaSeen b
-same-paa r a b hr h = hr ∙ ap paaSeen h
+pub same-aun : {r : Converted} {a b : AunAnswer} → r ≡ record { number = Answer.numberOf (a .answer); value = a .aun .0 } → a ≡ b → seen r ≡ aunSeen b
+same-aun hr h = ap seen hr ∙ ap aunSeen h
+
+pub same-paa : {r : Converted} {a b : PaaAnswer} → r ≡ record { number = Answer.numberOf (a .answer); value = a .paa .0 } → a ≡ b → seen r ≡ paaSeen b
+same-paa hr h = ap seen hr ∙ ap paaSeen h

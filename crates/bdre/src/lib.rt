@@ -2,58 +2,19 @@
 use address::Aun;
 use address::Paa;
 use address::Psn;
-use answer::Answer;
+use seen::Answered;
+use seen::Converted;
+use seen::Marking;
+use seen::ReadAnswered;
 ghost use mathlib.Core.Path.{_≡_};
 ghost use mathlib.Core.Logic.{_↔_};
-ghost use Rattle.image.specs.Image.{Input};
 ghost use Rattle.writer.specs.Outcome as writer;
 ghost use Rattle.reader.specs.Outcome as reader;
 ghost use Rattle.writer.specs.Promise.{WritesExactly};
 ghost use Rattle.reader.specs.Promise.{RightSlices, ReadsExactly};
 ghost use Rattle.marker.specs.Marked.{IsImageOf, marked};
 ghost use Rattle.address.specs.Conversions.{psnToPaa, paaToPsn, psnToAun, aunToPsn};
-ghost use Rattle.bdre.specs.Seen.{Writing, Reading, Marking, Number, writing, reading, marking, numbered, psnSeen, aunSeen, paaSeen};
-
-// Document 01's number and place.
-#[repr(C)]
-pub struct Answered {
-    pub number: u32,
-    pub place: usize,
-}
-
-// What the reader answers; the PSN is 0 on refusal.
-#[repr(C)]
-pub struct ReadAnswered {
-    pub number: u32,
-    pub psn: u32,
-    pub place: usize,
-}
-
-// What the marker answers: 0 pass; 1 refused, with the reader's number and place; 2 another PSN, with the image's own; 3 other user bytes and
-// 4 other side data, with the first place that differs.
-#[repr(C)]
-pub struct Marking {
-    pub verdict: u32,
-    pub number: u32,
-    pub psn: u32,
-    pub place: usize,
-}
-
-// What a conversion answers: 0, 6 or 7, and the number asked for, 0 on refusal.
-#[repr(C)]
-pub struct Converted {
-    pub number: u32,
-    pub value: u32,
-}
-
-fn numbered(given: Answer, value: u32) -> Converted
-    ensures { λ r. ⌜ record { number = r .number; value = r .value } ≡ numbered given value ⌝ }
-{
-    Converted {
-        number: given.number(),
-        value,
-    }
-}
+ghost use Rattle.bdre.specs.Seen.{writing, reading, marking, psnSeen, aunSeen, paaSeen};
 
 // Writes the image of a cluster.
 #[no_mangle]
@@ -70,11 +31,7 @@ pub extern "C" fn bdre_write_image(
     ensures { λ r. ⌜ WritesExactly (record { user = now (user .entry); psn = psn; side = now (side .entry); dc = now (dc .entry) }) (now (image .entry)) (now (work .entry))
         (r .number) (now (image .exit)) (now (work .exit)) ⌝ }
 {
-    let written = writer::write_image(user, Psn(psn), side, dc, image, work);
-    Answered {
-        number: written.number(),
-        place: written.place(),
-    }
+    Answered::of(writer::write_image(user, Psn(psn), side, dc, image, work))
 }
 
 // Reads an image strictly.
@@ -93,11 +50,8 @@ pub extern "C" fn bdre_read_image(
 {
     let read = reader::read_image(image, user, side, dc, work);
     let answer = read.answer;
-    ReadAnswered {
-        number: answer.number(),
-        psn: read.psn.0,
-        place: answer.place(),
-    }
+    let psn = read.psn;
+    ReadAnswered::of(answer, psn)
 }
 
 // Marks an image: whether it is that of these user bytes, this side data and this PSN under some dc words. The other slices are lent to read it.
@@ -117,13 +71,7 @@ pub extern "C" fn bdre_mark_image(
     ensures { λ r. ⌜ (RightSlices (record { user = now (bytes .entry); side = now (control .entry); dc = now (dc .entry); work = now (work .entry) })
         → (r .verdict ≡ 0) ↔ IsImageOf psn (now (user .entry)) (now (side .entry)) (now (image .entry))) ⌝ }
 {
-    let verdict = marker::mark(Psn(psn), user, side, image, bytes, control, dc, work);
-    Marking {
-        verdict: verdict.kind(),
-        number: verdict.refusal(),
-        psn: verdict.own_psn(),
-        place: verdict.place(),
-    }
+    Marking::of(marker::mark(Psn(psn), user, side, image, bytes, control, dc, work))
 }
 
 // The PAA of the first word of the cluster at a PSN.
@@ -133,7 +81,7 @@ pub extern "C" fn bdre_psn_to_paa(psn: u32) -> Converted
 {
     let found = Psn(psn).paa();
     let answer = found.answer;
-    numbered(answer, found.paa.0)
+    Converted::of(answer, found.paa.0)
 }
 
 // The AUN of an address unit, 0 to 15, of the cluster at a PSN; 0 for a unit above 15.
@@ -143,7 +91,7 @@ pub extern "C" fn bdre_psn_to_aun(psn: u32, unit: u32) -> Converted
 {
     let found = Psn(psn).aun(unit);
     let answer = found.answer;
-    numbered(answer, found.aun.0)
+    Converted::of(answer, found.aun.0)
 }
 
 // The PSN of the cluster whose first word has a PAA.
@@ -153,7 +101,7 @@ pub extern "C" fn bdre_paa_to_psn(paa: u32) -> Converted
 {
     let found = Paa(paa).psn();
     let answer = found.answer;
-    numbered(answer, found.psn.0)
+    Converted::of(answer, found.psn.0)
 }
 
 // The PSN of the cluster that holds the address unit with an AUN.
@@ -163,5 +111,5 @@ pub extern "C" fn bdre_aun_to_psn(aun: u32) -> Converted
 {
     let found = Aun(aun).psn();
     let answer = found.answer;
-    numbered(answer, found.psn.0)
+    Converted::of(answer, found.psn.0)
 }

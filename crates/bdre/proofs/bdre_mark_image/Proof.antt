@@ -1,4 +1,4 @@
--- `bdre_mark_image` meets its contract: the parts of the verdict below it (Seen).
+-- `bdre_mark_image` meets its contract: the parts of the answer below it (Seen).
 use Rattle.bdre.proofs.Seen.{same-marking}
 use borrow.Author.Needs.{needs}
 use Rattle.bdre.proofs.bdre_mark_image.Statement.{statement}
@@ -7,17 +7,8 @@ use Rattle.bdre.proofs.bdre_mark_image.Tie as tie
 mark-requires : tie.Need-mark-requires
 mark-requires c κs = search needs
 
-kind-requires : tie.Need-kind-requires
-kind-requires c κs = search needs
-
-refusal-requires : tie.Need-refusal-requires
-refusal-requires c κs = search needs
-
-own-psn-requires : tie.Need-own-psn-requires
-own-psn-requires c κs = search needs
-
-place-requires : tie.Need-place-requires
-place-requires c κs = search needs
+of-requires : tie.Need-of-requires
+of-requires c κs = search needs
 
 same-length : tie.Need-same-length
 same-length c = search needs
@@ -33,18 +24,15 @@ same-length-4 c = search needs
 
 returns : tie.Need-returns
 returns c =
-    let marked = c .before .before .before .before .before .before .before .before .before .before .before .before .mark .ensures in
-    same-marking _ _ _ _ _ _ _ _ _ (search needs) (search needs) (search needs) (search needs) marked
+    let call = c .before .before .before .before .before .before .before .before .before in
+    same-marking (c .of .ensures) (call .mark .ensures)
 
 pub bdre-mark-image-spec : {M : Type 1} → statement M
 bdre-mark-image-spec =
     tie.close
     (tie.spec
     mark-requires
-    kind-requires
-    refusal-requires
-    own-psn-requires
-    place-requires
+    of-requires
     same-length
     same-length-2
     same-length-3

@@ -7,11 +7,11 @@ use Rattle.bdre.proofs.bdre_paa_to_psn.Tie as tie
 psn-requires : tie.Need-psn-requires
 psn-requires c κs = search needs
 
-numbered-requires : tie.Need-numbered-requires
-numbered-requires c κs = search needs
+of-requires : tie.Need-of-requires
+of-requires c κs = search needs
 
 returns : tie.Need-returns
 returns c = search (same-psn)
 
 pub bdre-paa-to-psn-spec : {M : Type 1} → statement M
-bdre-paa-to-psn-spec = tie.close (tie.spec psn-requires numbered-requires returns)
+bdre-paa-to-psn-spec = tie.close (tie.spec psn-requires of-requires returns)

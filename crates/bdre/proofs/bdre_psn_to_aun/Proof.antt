@@ -7,11 +7,11 @@ use Rattle.bdre.proofs.bdre_psn_to_aun.Tie as tie
 aun-requires : tie.Need-aun-requires
 aun-requires c κs = search needs
 
-numbered-requires : tie.Need-numbered-requires
-numbered-requires c κs = search needs
+of-requires : tie.Need-of-requires
+of-requires c κs = search needs
 
 returns : tie.Need-returns
 returns c = search (same-aun)
 
 pub bdre-psn-to-aun-spec : {M : Type 1} → statement M
-bdre-psn-to-aun-spec = tie.close (tie.spec aun-requires numbered-requires returns)
+bdre-psn-to-aun-spec = tie.close (tie.spec aun-requires of-requires returns)

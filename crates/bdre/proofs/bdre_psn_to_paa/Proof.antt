@@ -7,11 +7,11 @@ use Rattle.bdre.proofs.bdre_psn_to_paa.Tie as tie
 paa-requires : tie.Need-paa-requires
 paa-requires c κs = search needs
 
-numbered-requires : tie.Need-numbered-requires
-numbered-requires c κs = search needs
+of-requires : tie.Need-of-requires
+of-requires c κs = search needs
 
 returns : tie.Need-returns
 returns c = search (same-paa)
 
 pub bdre-psn-to-paa-spec : {M : Type 1} → statement M
-bdre-psn-to-paa-spec = tie.close (tie.spec paa-requires numbered-requires returns)
+bdre-psn-to-paa-spec = tie.close (tie.spec paa-requires of-requires returns)

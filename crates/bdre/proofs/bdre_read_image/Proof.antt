@@ -7,11 +7,8 @@ use Rattle.bdre.proofs.bdre_read_image.Tie as tie
 read-image-requires : tie.Need-read-image-requires
 read-image-requires c κs = search needs
 
-number-requires : tie.Need-number-requires
-number-requires c κs = search needs
-
-place-requires : tie.Need-place-requires
-place-requires c κs = search needs
+of-requires : tie.Need-of-requires
+of-requires c κs = search needs
 
 same-length : tie.Need-same-length
 same-length c = search needs
@@ -28,15 +25,14 @@ same-length-4 c = search needs
 returns : tie.Need-returns
 returns c =
     let call = c .before .before .before .before .before .before .before .before .before .before in
-    same-reading (c .before .number .ensures) (c .place .ensures) (call .read-image .ensures)
+    same-reading (c .of .ensures) (call .read-image .ensures)
 
 pub bdre-read-image-spec : {M : Type 1} → statement M
 bdre-read-image-spec =
     tie.close
     (tie.spec
     read-image-requires
-    number-requires
-    place-requires
+    of-requires
     same-length
     same-length-2
     same-length-3

@@ -1,0 +1,2 @@
+-- Parts of an answer put together.
+pub mod Parts
