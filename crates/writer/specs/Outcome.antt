@@ -1,30 +1,15 @@
 -- Document 01's table, writing: the answer and the two slices that are lent to be written, as they are at exit.
-use mathlib.Core.Bool.{Bool, cond}
+use mathlib.Core.Bool.{cond}
 use mathlib.Core.List.{List}
 use Prim.Native.Nat.{ℕ}
-use lib.Dec.{ltb}
-use lib.ListN.{length, getD}
-use Rattle.laws.specs.First.{first}
+use lib.ListN.{length}
 use Rattle.answer.specs.declared.Answer.{Answer}
-use Rattle.answer.specs.declared.Answer.the-variants.{DcWord}
-use Rattle.answer.specs.Answer.{isDone, andThen, lowest}
+use Rattle.answer.specs.Answer.{isDone, andThen}
 use Rattle.lengths.specs.Lengths.{lengthsAnswer}
-use Rattle.address.specs.Judged.{judged}
+use Rattle.parts.specs.Parts.{partsAnswer}
 use Rattle.image.specs.Image.{Input, cluster, image}
-use Rattle.sizes.specs.Sizes.{frameCount}
 
 -- ---- the tests 1 to 8, in rising order
-
--- 8: the first dc word above 0FFFFFFFh
-unfoldable pub tooLarge : List ℕ → ℕ → Bool
-tooLarge dc n = ltb 0x0FFF_FFFF (getD dc n 0)
-
-unfoldable pub firstTooLarge : List ℕ → ℕ
-firstTooLarge dc = first frameCount (tooLarge dc)
-
--- 6 to 8: the PSN and the dc words
-abbrev pub partsAnswer : ℕ → List ℕ → Answer
-partsAnswer psn dc = andThen (judged psn) (lowest DcWord frameCount (firstTooLarge dc))
 
 -- 1 to 8; the lengths of image and work
 unfoldable pub answer : Input → ℕ → ℕ → Answer

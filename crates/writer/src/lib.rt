@@ -3,31 +3,16 @@ use address::Psn;
 use answer::Answer;
 use frame::State;
 ghost use mathlib.Core.Path.{_≡_};
-ghost use Prim.Native.Nat.{_<_};
 ghost use lib.ListN.{length};
 ghost use Rattle.answer.specs.declared.Answer.the-variants.{Done};
 ghost use Rattle.answer.specs.Answer.{numberOf, andThen};
 ghost use Rattle.lengths.specs.Lengths.{lengthsAnswer, RightLengths};
 ghost use Rattle.address.specs.Judged.{judged};
+ghost use Rattle.parts.specs.Parts.{partsAnswer};
 ghost use Rattle.writer.specs.Written.{ImageWritten, Filled};
-ghost use Rattle.writer.specs.Outcome.{partsAnswer, firstTooLarge, outcome};
+ghost use Rattle.writer.specs.Outcome.{outcome};
 ghost use Rattle.writer.specs.Promise.{WritesExactly};
 ghost use Rattle.sizes.specs.Sizes.{workSize, imageSize, frameCount};
-
-// Test 8: the first dc word above 0FFFFFFFh, or 496.
-fn first_too_large(dc: &[u32]) -> usize
-    requires { ⌜ length (now dc) ≡ frameCount ⌝ }
-    ensures { λ r. ⌜ r ≡ firstTooLarge (now (dc .entry)) ⌝ }
-{
-    let mut n = 0;
-    while n < sizes::FRAMES {
-        if 0x0FFF_FFFF < dc[n] {
-            return n;
-        }
-        n += 1;
-    }
-    n
-}
 
 // The frames, the sync that follows, which is FS0, and two zero bits.
 fn put_image(work: &[u8], dc: &[u32], image: &mut [u8])
@@ -40,28 +25,13 @@ fn put_image(work: &[u8], dc: &[u32], image: &mut [u8])
     bit_writer::write_bit(image, 958303, 0);
 }
 
-// Tests 6 to 8: the PSN and the dc words.
-fn judge_parts(psn: Psn, dc: &[u32]) -> Answer
-    requires { ⌜ length (now dc) ≡ frameCount ⌝ }
-    ensures { λ r. ⌜ r ≡ partsAnswer (psn .0) (now (dc .entry)) ⌝ }
-{
-    let sector = psn.judge();
-    if sector.is_done() {
-        let n = first_too_large(dc);
-        if n < sizes::FRAMES {
-            return Answer::DcWord(n);
-        }
-    }
-    sector
-}
-
 // All tests, in rising order.
 fn judge(user: usize, psn: Psn, side: usize, dc: &[u32], image: usize, work: usize) -> Answer
     ensures { λ r. ⌜ r ≡ andThen (lengthsAnswer user side (length (now (dc .entry))) image work) (partsAnswer (psn .0) (now (dc .entry))) ⌝ }
 {
     let given = lengths::judge(user, side, dc.len(), image, work);
     if given.is_done() {
-        return judge_parts(psn, dc);
+        return parts::steps::judge(psn, dc);
     }
     given
 }

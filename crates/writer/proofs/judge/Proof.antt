@@ -12,8 +12,8 @@ judge-requires c κs = search needs
 is-done-requires : tie.Need-is-done-requires
 is-done-requires c κs = search needs
 
-judge-parts-requires : tie.Need-judge-parts-requires
-judge-parts-requires c κs =
+judge-requires-2 : tie.Need-judge-requires-2
+judge-requires-2 c κs =
     let args = c .before .before .before .before .args in
     lengths-passed (args .user) (args .side) (length (args .dc .now)) (args .image) (args .work) (c .before .before .judge .ensures) (c .before .is-done .ensures) (c .if1 .taken) .0 .dc
 
@@ -25,4 +25,4 @@ returns-2 c = search (stops)
 
 pub judge-spec : {M : Type 1} → statement M
 judge-spec =
-    tie.close (tie.spec judge-requires is-done-requires judge-parts-requires returns returns-2)
+    tie.close (tie.spec judge-requires is-done-requires judge-requires-2 returns returns-2)

@@ -4,10 +4,10 @@ use mathlib.Core.Path.{_≡_, _∙_}
 use Prim.Native.Nat.{_-_, _≤_}
 use borrow.Author.Needs.{needs}
 use Rattle.laws.proofs.First.{Passed, passed-none, passed-more, first-here, first-past}
-use Rattle.writer.specs.Outcome.{tooLarge, firstTooLarge}
-use Rattle.writer.proofs.Judging.{dc-large, dc-small}
-use Rattle.writer.proofs.first_too_large.Statement.{statement}
-use Rattle.writer.proofs.first_too_large.Tie as tie
+use Rattle.parts.specs.Parts.{tooLarge, firstTooLarge}
+use Rattle.parts.proofs.Judging.{dc-large, dc-small}
+use Rattle.parts.proofs.steps.first_too_large.Statement.{statement}
+use Rattle.parts.proofs.steps.first_too_large.Tie as tie
 
 abbrev Inv-loop : tie.InvT-loop
 Inv-loop dc n₀ n = (n ≤ 496) × Passed (tooLarge dc) n

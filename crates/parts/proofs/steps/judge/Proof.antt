@@ -1,8 +1,8 @@
--- `judge_parts` meets its contract: the PSN is refused, or the dc words decide (Judging).
-use Rattle.writer.proofs.Judging.{psn-refused, dc-word, all-right}
+-- `judge` meets its contract: the PSN is refused, or the dc words decide (Judging).
+use Rattle.parts.proofs.Judging.{psn-refused, dc-word, all-right}
 use borrow.Author.Needs.{needs}
-use Rattle.writer.proofs.judge_parts.Statement.{statement}
-use Rattle.writer.proofs.judge_parts.Tie as tie
+use Rattle.parts.proofs.steps.judge.Statement.{statement}
+use Rattle.parts.proofs.steps.judge.Tie as tie
 
 judge-requires : tie.Need-judge-requires
 judge-requires c κs = search needs
@@ -22,7 +22,7 @@ returns-2 c = search (all-right)
 returns-3 : tie.Need-returns-3
 returns-3 c = search (psn-refused)
 
-pub judge-parts-spec : {M : Type 1} → statement M
-judge-parts-spec =
+pub judge-spec : {M : Type 1} → statement M
+judge-spec =
     tie.close
     (tie.spec judge-requires is-done-requires first-too-large-requires returns returns-2 returns-3)

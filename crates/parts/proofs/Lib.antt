@@ -1,0 +1,2 @@
+-- The tests, case by case.
+pub mod Judging

@@ -1,0 +1,2 @@
+-- The tests of PSN and dc words.
+pub mod Parts
