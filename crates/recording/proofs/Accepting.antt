@@ -1,6 +1,6 @@
 -- Bits that pass tests 10 and 11 are the recording of what is read in them. Assumes nothing.
 use mathlib.Core.Path.{_≡_, refl, sym, ap, ap₂, _∙_}
-use mathlib.Core.Bool.{Bool, true, _&&_, not, Bool·beq}
+use mathlib.Core.Bool.{Bool, true, false, _&&_, not, Bool·beq}
 use mathlib.Core.List.{List, _++_}
 use Prim.Native.Nat.{ℕ, zero, suc, _+_, _*_, _/_, _%_, _<_, _≤_}
 use native.Mathlib.Numerals.{add-one}
@@ -21,7 +21,7 @@ use Rattle.modulation.proofs.Bits.{bits-append}
 use Rattle.frame_bits.specs.FrameBits.{rowFrom}
 use Rattle.frame.specs.Frame.{frame}
 use Rattle.frame_sync.specs.Sync.{hashAt, syncRight}
-use Rattle.frame.specs.Reading.{RowGives}
+use Rattle.frame.specs.Reading.{RowGives, readable}
 use Rattle.frame.proofs.Frame.{frame-as-read}
 use Rattle.frame.proofs.Reading.{bits-row, readable-gives}
 use Rattle.frame_sync.proofs.SyncRight.{sync-as-read}
@@ -29,7 +29,11 @@ use Rattle.cluster.specs.EccCluster as Ecc
 use Rattle.cluster.proofs.Rows.{length-row}
 use Rattle.recording.specs.Recording.{recordingOf}
 use Rattle.recording.specs.Reading.{wrongSync, firstWrongSync, modulatedAt, hashBehind, noFrame, firstNoFrame, frameBitsIn, clusterByte, clusterIn, dcWordIn, dcIn}
-use Rattle.recording.proofs.Reading.{readable-is}
+
+-- what is no refusal of test 11
+pub readable-is : (b : List ℕ) (n : ℕ) → noFrame b n ≡ false → readable (syncNumber n) (modulatedAt b n) (hashBehind b n) ≡ true
+unfolding noFrame
+readable-is b n e = not-false (readable (syncNumber n) (modulatedAt b n) (hashBehind b n)) e
 
 -- tests 10 and 11 are passed by the bits b, with # of the first sync as given
 pub record Passes (first : Bool) (b : List ℕ) : Type 0 where

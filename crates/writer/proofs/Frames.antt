@@ -20,7 +20,7 @@ use Rattle.frame_sync.specs.Sync.{fs}
 use Rattle.frame_sync.specs.steps.Written.{SyncWritten}
 use Rattle.cluster.specs.EccCluster.{eccCluster}
 use Rattle.recording.specs.Recording.{recordingOf}
-use Rattle.recording.specs.steps.Written.{FramesWritten}
+use Rattle.recording_writer.specs.steps.Written.{FramesWritten}
 use Rattle.recording.proofs.Frames.{full-of}
 use Rattle.image.specs.Image.{Input, cluster, imageBitsFrom, image}
 use Rattle.writer.specs.Written.{ImageWritten, Filled}

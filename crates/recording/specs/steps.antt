@@ -1,3 +1,0 @@
--- What the steps leave.
-pub mod Written
-pub mod Read

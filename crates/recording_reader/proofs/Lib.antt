@@ -1,0 +1,4 @@
+-- Syncs judged, and frames read two by two.
+pub mod Places
+pub mod Judging
+pub mod Reading

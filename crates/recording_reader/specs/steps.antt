@@ -1,0 +1,2 @@
+-- What the steps find and leave.
+pub mod Read

@@ -1,0 +1,2 @@
+-- Frames written one behind the other.
+pub mod Writing
