@@ -34,7 +34,7 @@ fn primary_field(aun: Aun, flag: u8) -> [u8; 9]
 {
     let i = information(aun, flag);
     let mut p = [0u8; 4];
-    column::parity_4(&i, &mut p);
+    parity::parity_4(&i, &mut p);
     [i[0], i[1], i[2], i[3], i[4], p[0], p[1], p[2], p[3]]
 }
 

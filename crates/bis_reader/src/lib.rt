@@ -54,7 +54,7 @@ pub fn first_wrong_field(block: Block) -> usize
     let mut unit: usize = 0;
     while unit < 16 {
         let primary = primary_in(&block, unit);
-        if !column::has_roots(&primary, 4) {
+        if !roots::has_roots(&primary, 4) {
             return unit;
         }
         unit += 1;

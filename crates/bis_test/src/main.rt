@@ -122,7 +122,7 @@ fn with_parity(column: [u8; 62], parity: [u8; 32]) -> [u8; 62] {
 // The column with the parity of its first 30 bytes.
 fn recoded(column: [u8; 62]) -> [u8; 62] {
     let mut parity = [0u8; 32];
-    column::parity_32(compare::part(&column, 0, 30), &mut parity);
+    parity::parity_32(compare::part(&column, 0, 30), &mut parity);
     with_parity(column, parity)
 }
 

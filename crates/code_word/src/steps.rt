@@ -117,7 +117,7 @@ pub fn is_code_word(table: &Remainders, column: &[u8]) -> bool
     ensures { λ r. ⌜ r ≡ hasRoots 32 (now (column .entry)) ⌝ }
 {
     let n = column.len() - 32;
-    let mut parity = column::steps::no_parity();
+    let mut parity = parity::steps::no_parity();
     parity_32_by(table, &column[..n], &mut parity);
     ends_in(column, n, &parity)
 }

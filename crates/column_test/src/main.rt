@@ -30,7 +30,7 @@ fn has_roots(table: &Remainders, column: &[u8], roots: u8, looked: bool) -> bool
             return code_word::steps::is_code_word(table, column);
         }
     }
-    column::has_roots(column, roots)
+    roots::has_roots(column, roots)
 }
 
 // Whether a column that differs from this one in byte k has the roots as well.
@@ -62,7 +62,7 @@ fn parity_32(table: &Remainders, message: &[u8], looked: bool) -> [u8; 32]
     if looked {
         code_word::steps::parity_32_by(table, message, &mut parity);
     } else {
-        column::parity_32(message, &mut parity);
+        parity::parity_32(message, &mut parity);
     }
     parity
 }
@@ -73,7 +73,7 @@ fn print_32(parity: [u8; 32]) {
 
 fn parity_4(message: &[u8]) -> [u8; 4] {
     let mut parity = [0u8; 4];
-    column::parity_4(message, &mut parity);
+    parity::parity_4(message, &mut parity);
     parity
 }
 

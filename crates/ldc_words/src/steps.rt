@@ -148,7 +148,7 @@ fn complete(table: &Remainders, information: &[u8], word: &mut [u8])
     requires { ⌜ AreRemainders (now table) × ((length (now information) ≡ 216) × (length (now word) ≡ 248)) ⌝ }
     ensures { λ _. ⌜ now (word .exit) ≡ completed (now (information .entry)) ⌝ }
 {
-    let mut parity = column::steps::no_parity();
+    let mut parity = parity::steps::no_parity();
     code_word::steps::parity_32_by(table, information, &mut parity);
     join(information, &parity, word);
 }

@@ -63,8 +63,8 @@ fn first_row(powers: &[u8; 256], logs: &[u8; 256], generator: &[u8; 32], b: u8) 
     requires { ⌜ AreTables (now powers) (now logs) × (now generator ≡ divisor) ⌝ }
     ensures { λ r. ⌜ (length r ≡ 32) × Row (32 * b) r ⌝ }
 {
-    let mut row = column::steps::no_parity();
-    column::steps::push(powers, logs, generator, &mut row, b);
+    let mut row = parity::steps::no_parity();
+    parity::steps::push(powers, logs, generator, &mut row, b);
     row
 }
 
@@ -82,7 +82,7 @@ fn fill_first(table: &mut Remainders)
 {
     let powers = field::powers();
     let logs = field::logs();
-    let generator = column::steps::generator_32();
+    let generator = parity::steps::generator_32();
     let mut b = 0;
     while b < 256 {
         let row = first_row(&powers, &logs, &generator, byte(b));

@@ -1,11 +1,11 @@
 -- `divide` meets its contract: the loop holds the remainder of the bytes passed. Assumes nothing.
 use Prim.Native.Nat.{_-_}
 use lib.ListN.{length}
 use Rattle.column.proofs.Register.{Divided, divided-none, divided-next, divided-all}
 use borrow.Author.Needs.{needs}
 use native.Mathlib.Omega.{arith}
-use Rattle.column.proofs.divide.Statement.{statement}
-use Rattle.column.proofs.divide.Tie as tie
+use Rattle.parity.proofs.divide.Statement.{statement}
+use Rattle.parity.proofs.divide.Tie as tie
 
 abbrev Inv-loop : tie.InvT-loop
 Inv-loop generator message register₀ powers logs i₀ register i = Divided generator message i register

@@ -1,8 +1,8 @@
 -- `parity_4` meets its contract: the remainder by the generator with 4 roots. Assumes nothing.
 use borrow.Author.Needs.{needs}
 use Rattle.column.proofs.Register.{divided-parity}
-use Rattle.column.proofs.parity_4.Statement.{statement}
-use Rattle.column.proofs.parity_4.Tie as tie
+use Rattle.parity.proofs.parity_4.Statement.{statement}
+use Rattle.parity.proofs.parity_4.Tie as tie
 
 generator-4-requires : tie.Need-generator-4-requires
 generator-4-requires c κs = search needs

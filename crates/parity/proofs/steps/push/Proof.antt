@@ -1,9 +1,9 @@
 -- `push` meets its contract: the loop moves the register on, place by place, and the last place follows. Assumes nothing.
 use Prim.Native.Nat.{_≤_, _-_}
 use Rattle.column.proofs.Register.{Moved, moved-none, moved-next, moved-last}
 use borrow.Author.Needs.{needs}
-use Rattle.column.proofs.steps.push.Statement.{statement}
-use Rattle.column.proofs.steps.push.Tie as tie
+use Rattle.parity.proofs.steps.push.Statement.{statement}
+use Rattle.parity.proofs.steps.push.Tie as tie
 
 abbrev Inv-loop : tie.InvT-loop
 Inv-loop powers logs generator register₀ byte f last j₀ register j = (j ≤ last) × Moved powers logs generator register₀ byte (f .0) j register

@@ -1,10 +1,10 @@
 -- `value_at` meets its contract: the loop holds the value of the bytes passed. Assumes nothing.
 use Prim.Native.Nat.{_-_}
 use lib.ListN.{length}
 use Rattle.column.proofs.Value.{Valued, valued-none, valued-next, valued-all}
 use borrow.Author.Needs.{needs}
-use Rattle.column.proofs.value_at.Statement.{statement}
-use Rattle.column.proofs.value_at.Tie as tie
+use Rattle.roots.proofs.value_at.Statement.{statement}
+use Rattle.roots.proofs.value_at.Tie as tie
 
 abbrev Inv-loop : tie.InvT-loop
 Inv-loop powers logs column x v₀ i₀ v i = Valued powers logs column (x .0) i (v .0)

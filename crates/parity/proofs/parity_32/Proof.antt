@@ -1,8 +1,8 @@
 -- `parity_32` meets its contract: the remainder by the generator with 32 roots. Assumes nothing.
 use borrow.Author.Needs.{needs}
 use Rattle.column.proofs.Register.{divided-parity}
-use Rattle.column.proofs.parity_32.Statement.{statement}
-use Rattle.column.proofs.parity_32.Tie as tie
+use Rattle.parity.proofs.parity_32.Statement.{statement}
+use Rattle.parity.proofs.parity_32.Tie as tie
 
 generator-32-requires : tie.Need-generator-32-requires
 generator-32-requires c κs = search needs

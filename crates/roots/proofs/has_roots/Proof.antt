@@ -1,9 +1,9 @@
 -- `has_roots` meets its contract: the loop passes the roots that are there, and stops at one that is missing. Assumes nothing.
 use Prim.Native.Nat.{_-_}
 use Rattle.column.proofs.Roots.{Rooted, rooted-none, rooted-more, rooted-fails, rooted-all}
 use borrow.Author.Needs.{needs}
-use Rattle.column.proofs.has_roots.Statement.{statement}
-use Rattle.column.proofs.has_roots.Tie as tie
+use Rattle.roots.proofs.has_roots.Statement.{statement}
+use Rattle.roots.proofs.has_roots.Tie as tie
 
 abbrev Inv-loop : tie.InvT-loop
 Inv-loop column count powers logs i₀ i = Rooted column count i
