@@ -37,7 +37,7 @@ fn put_ldc(table: &Remainders, user: &[u8], stream: &[u8], work: &mut [u8])
     let mut e = 0;
     while e < 8 {
         put_frames(user, stream, e, &mut frames);
-        ldc_words::steps::complete_words(table, &frames, &mut words);
+        ldc_parity::steps::complete_words(table, &frames, &mut words);
         ldc_words::steps::put_words(&words, e, work);
         e += 1;
     }

@@ -1,5 +1,5 @@
-// Data bits to modulation bits by the rows of Figure 38 (13.17.2), a few pairs at a time. `steps` has them, for the crates of this repository.
-pub mod steps;
+// Data bits to modulation bits by the rows of Figure 38 (13.17.2), a few pairs at a time: types and definitions. `rows` has the rows, `few_pairs` the
+// conversion.
 
 // When a row may be taken.
 pub enum When {

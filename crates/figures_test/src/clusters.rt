@@ -92,7 +92,7 @@ pub fn word_in(work: &[u8]) -> usize {
     }
     let mut table = remainders::steps::no_remainders();
     remainders::steps::fill_remainders(&mut table);
-    cluster_reader::steps::first_wrong_word(&table, work)
+    ldc_reader::steps::first_wrong_word(&table, work)
 }
 
 // ---- drawn clusters

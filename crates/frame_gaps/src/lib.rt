@@ -22,8 +22,8 @@ fn frame_counts(row: &[u8], dc: u32, number: usize, hash: bool) -> [u32; 8]
     requires { ⌜ (length (now row) ≡ rowSize) × (number < 7) ⌝ }
     ensures { λ r. ⌜ r ≡ gapCounts (frame hash (fs number) (now (row .entry)) dc) ⌝ }
 {
-    let mut table = modulator::steps::no_table();
-    modulator::steps::fill_table(&mut table);
+    let mut table = modulator_table::steps::no_table();
+    modulator_table::steps::fill_table(&mut table);
     let mut image = blank();
     frame_writer::steps::write_frame(&table, row, dc, number, State { hash }, &mut image, 0);
     gaps::steps::gap_counts(&image, sizes::FRAME)

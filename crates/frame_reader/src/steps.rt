@@ -20,8 +20,8 @@ fn take_frame(words: &[u64; 29], found: bool, row: &mut [u8]) -> FrameRead
     ensures { λ r. ⌜ Taken (now (words .entry)) found (now (row .entry)) r (now (row .exit)) ⌝ }
 {
     if found {
-        frame_bits::steps::row_in(words, row);
-        return FrameRead::Found(frame_bits::steps::dc_in(words));
+        unweaving::steps::row_in(words, row);
+        return FrameRead::Found(unweaving::steps::dc_in(words));
     }
     FrameRead::NoFrame
 }

@@ -148,8 +148,8 @@ struct Written {
 fn write(row: [u8; 155], dc: u32, hash: bool, sync: usize, at: usize) -> Written
     requires { ⌜ (at < 16) × (sync < 7) ⌝ }
 {
-    let mut table = modulator::steps::no_table();
-    modulator::steps::fill_table(&mut table);
+    let mut table = modulator_table::steps::no_table();
+    modulator_table::steps::fill_table(&mut table);
     let mut image = [0xa5u8; 245];
     let state = frame_writer::steps::write_frame(
         &table,

@@ -1,4 +1,3 @@
 -- Recording frames written.
 pub mod Copy
 pub mod Image
-pub mod Going

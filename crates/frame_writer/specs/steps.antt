@@ -1,3 +1,2 @@
 -- Recording frames written.
 pub mod Written
-pub mod Around

@@ -95,7 +95,7 @@ pub fn ldc_columns(table: &Remainders, work: &[u8]) -> Answer
     requires { ⌜ AreRemainders (now table) × (length (now work) ≡ workSize) ⌝ }
     ensures { λ r. ⌜ r ≡ ldcColumnsAnswer (now (work .entry)) ⌝ }
 {
-    let column = cluster_reader::steps::first_wrong_word(table, work);
+    let column = ldc_reader::steps::first_wrong_word(table, work);
     lowest(column, 304, Answer::LdcColumn(column))
 }
 
@@ -104,6 +104,6 @@ pub fn sectors(work: &[u8], stream: &[u8]) -> Answer
     requires { ⌜ length (now work) ≡ workSize ⌝ }
     ensures { λ r. ⌜ r ≡ sectorsAnswer (now (stream .entry)) (now (work .entry)) ⌝ }
 {
-    let sector = cluster_reader::steps::first_wrong_sector(work, stream);
+    let sector = sector_reader::steps::first_wrong_sector(work, stream);
     lowest(sector, 32, Answer::Sector(sector))
 }

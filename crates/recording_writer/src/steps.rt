@@ -42,8 +42,8 @@ pub fn put_frames(work: &[u8], dc: &[u32], first: State, image: &mut [u8], at: u
     requires { ⌜ ((length (now work) ≡ workSize) × (length (now dc) ≡ frameCount)) × (at + 958272 < 18446744073709551616) ⌝ }
     ensures { λ r. ⌜ FramesWritten (first .hash) (now (work .entry)) (now (dc .entry)) (now (image .entry)) at frameCount (now (image .exit)) (r .hash) ⌝ }
 {
-    let mut table = modulator::steps::no_table();
-    modulator::steps::fill_table(&mut table);
+    let mut table = modulator_table::steps::no_table();
+    modulator_table::steps::fill_table(&mut table);
     let mut state = first;
     let mut n = 0;
     while n < sizes::FRAMES {

@@ -81,7 +81,7 @@ fn give(
     requires { ⌜ ((length (now work) ≡ workSize) × (length (now user) ≡ userSize)) × ((length (now side) ≡ sideSize) × ((length (now words) ≡ frameCount) × (length (now dc) ≡ frameCount))) ⌝ }
     ensures { λ _. ⌜ Given (now (work .entry)) block (now (stream .entry)) (now (words .entry)) (now (user .exit)) (now (side .exit)) (now (dc .exit)) ⌝ }
 {
-    cluster_reader::steps::user_bytes(work, stream, user);
+    user_reader::steps::user_bytes(work, stream, user);
     bis_reader::side_data(block, side);
     slices::steps::copy_words(words, dc);
 }

@@ -1,0 +1,2 @@
+-- A frame on its way into bytes.
+pub mod Going

@@ -1,0 +1,98 @@
+-- `user_bytes` meets its contract: one eighth after the other (Eighth).
+use mathlib.Core.Path.{_≡_, refl}
+use Prim.Native.Nat.{_-_, _+_, _*_, _≤_}
+use native.Mathlib.Omega.{arith}
+use borrow.Author.Needs.{needs}
+use lib.ListN.{length}
+use Rattle.laws.proofs.Fill.{Upto, upto-none, upto-all}
+use Rattle.cluster.specs.Reading.{userByteIn, userIn}
+use Rattle.ldc_words.proofs.Eighth.{users-turn}
+use Rattle.user_reader.proofs.steps.user_bytes.Statement.{statement}
+use Rattle.user_reader.proofs.steps.user_bytes.Tie as tie
+
+abbrev Inv-loop : tie.InvT-loop
+Inv-loop work stream user₀ frames₀ e₀ user frames e = (length frames ≡ 8208) × ((e ≤ 8) × Upto 0 (userByteIn stream work) 65536 (8192 * e) user)
+
+abbrev μ-loop : tie.MeasureT-loop
+μ-loop work stream user₀ frames₀ e₀ user frames e = 8 - e
+
+no-frames-requires : tie.Need-no-frames-requires Inv-loop μ-loop
+no-frames-requires c κs = search needs
+
+loop-holds : tie.Need-loop-holds Inv-loop μ-loop
+loop-holds c = (search needs, (omega arith, upto-none (omega arith)))
+
+slice-aggregate-take-frames : tie.Need-slice-aggregate-take-frames Inv-loop μ-loop
+slice-aggregate-take-frames c = search needs
+
+take-frames-requires : tie.Need-take-frames-requires Inv-loop μ-loop
+take-frames-requires c κs = search needs
+
+mul-from : tie.Need-mul-from Inv-loop μ-loop
+mul-from c = search needs
+
+add-end : tie.Need-add-end Inv-loop μ-loop
+add-end c = search needs
+
+slice-aggregate-copy-users : tie.Need-slice-aggregate-copy-users Inv-loop μ-loop
+slice-aggregate-copy-users c = search needs
+
+sub-copy-users : tie.Need-sub-copy-users Inv-loop μ-loop
+sub-copy-users c = search needs
+
+part-copy-users-start : tie.Need-part-copy-users-start Inv-loop μ-loop
+part-copy-users-start c = search needs
+
+part-copy-users-end : tie.Need-part-copy-users-end Inv-loop μ-loop
+part-copy-users-end c = search needs
+
+copy-users-requires : tie.Need-copy-users-requires Inv-loop μ-loop
+copy-users-requires c κs = search needs
+
+add-e : tie.Need-add-e Inv-loop μ-loop
+add-e c = search needs
+
+loop-less : tie.Need-loop-less Inv-loop μ-loop
+loop-less c = search needs
+
+loop-again : tie.Need-loop-again Inv-loop μ-loop
+loop-again c =
+    let given = c .before .before in
+    let read = given .before .before .before .before in
+    let head = read .before .before .before in
+    let start = head .before .before .before .before .before in
+    let copied = given .copy-users in
+    let taken = read .take-frames in
+    let args = start .args in
+    let e = head .loop .e in
+    (search needs, (omega arith, users-turn (args .stream .now) (args .work .now) (taken .last .1 .1 .0) e (taken .ensures) (copied .last .1 .1 .0) (head .loop .user) (8192 * e + 8192 - 8192 * e) (8192 * (e + 1)) (omega arith) (omega arith) refl (copied .ensures) (head .loop .inv .1 .1)))
+
+same-length : tie.Need-same-length Inv-loop μ-loop
+same-length c = search needs
+
+returns : tie.Need-returns Inv-loop μ-loop
+unfolding userIn
+returns c = upto-all (omega arith) (c .before .loop .inv .1 .1)
+
+pub user-bytes-spec : {M : Type 1} → statement M
+user-bytes-spec =
+    tie.close
+    (tie.spec
+    Inv-loop
+    μ-loop
+    no-frames-requires
+    loop-holds
+    slice-aggregate-take-frames
+    take-frames-requires
+    mul-from
+    add-end
+    slice-aggregate-copy-users
+    sub-copy-users
+    part-copy-users-start
+    part-copy-users-end
+    copy-users-requires
+    add-e
+    loop-less
+    loop-again
+    same-length
+    returns)

@@ -1,0 +1,2 @@
+// The user bytes of an ECC cluster. `steps` is for the crates of this repository.
+pub mod steps;
