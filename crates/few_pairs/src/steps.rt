@@ -8,7 +8,6 @@ ghost use mathlib.Core.Path.{_≡_};
 ghost use Prim.Native.Nat.{_+_, _*_, _%_, _^_, _<_, _≤_};
 ghost use lib.ListN.{length};
 ghost use Rattle.modulation.specs.Modulation.{twoNumber, rowAt, starts, startsWith010, allowed, fits, modulateFrom, modulate};
-ghost use Rattle.modulation.specs.Bits.{bits};
 ghost use Rattle.conversion.specs.steps.Rows.{packedRows};
 ghost use Rattle.conversion.specs.steps.Few.{fewPairs, standingRow, Fitting, Given};
 

@@ -1,6 +1,6 @@
 // Words of 46 bits: woven of a row and a dc word, and taken apart.
 ghost use mathlib.Core.Path.{_≡_};
-ghost use Prim.Native.Nat.{_-_, _/_, _<_};
+ghost use Prim.Native.Nat.{_<_};
 ghost use Rattle.modulation.specs.Words.{Words};
 
 // 29 words, all 0.

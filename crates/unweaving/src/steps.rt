@@ -1,6 +1,6 @@
 // A row and a dc word out of words of 46 bits.
 ghost use mathlib.Core.Path.{_≡_};
-ghost use Prim.Native.Nat.{_+_, _*_, _-_, _/_, _%_, _^_, _<_};
+ghost use Prim.Native.Nat.{_<_};
 ghost use lib.ListN.{length};
 ghost use Rattle.frame_bits.specs.FrameBits.{rowFrom, dcFrom};
 ghost use Rattle.frame_bits.specs.steps.Slices.{FiveBytes};
