@@ -3,10 +3,11 @@
 use mathlib.Core.Path.{_≡_}
 use mathlib.Core.Bool.{cond}
 use mathlib.Core.List.{List, [], _∷_, _++_}
-use Prim.Native.Nat.{ℕ, _+_, _*_, _/_, _%_, _^_}
+use Prim.Native.Nat.{ℕ, _+_, _*_, _^_}
 use lib.Bits.{bitXor}
 use lib.Dec.{leb}
 use Rattle.bits.specs.Bits.{bitsOf}
+use Rattle.words.specs.Words.{fourBytes}
 
 -- G(x)
 abbrev pub generator : ℕ
@@ -29,10 +30,6 @@ divided r b = cond (leb (2 ^ 32) (r * 2 + b)) (bitXor (r * 2 + b) generator) (r 
 unfoldable pub remainder : ℕ → List ℕ → ℕ
 remainder r [] = r
 remainder r (b ∷ bs) = remainder (divided r b) bs
-
--- a number of 32 bits as four bytes, the highest first
-abbrev pub fourBytes : ℕ → List ℕ
-fourBytes v = v / 2 ^ 24 % 256 ∷ v / 2 ^ 16 % 256 ∷ v / 2 ^ 8 % 256 ∷ v % 256 ∷ []
 
 -- I(x): the bits of the bytes, with zeros where those of the code will stand
 unfoldable pub edcOf : List ℕ → ℕ

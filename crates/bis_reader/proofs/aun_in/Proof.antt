@@ -12,17 +12,17 @@ array-read-restored c = search needs
 restored-requires : tie.Need-restored-requires
 restored-requires c κs = search needs
 
-array-read-number : tie.Need-array-read-number
-array-read-number c = search needs
+array-read-word : tie.Need-array-read-word
+array-read-word c = search needs
 
-array-read-number-2 : tie.Need-array-read-number-2
-array-read-number-2 c = search needs
+array-read-word-2 : tie.Need-array-read-word-2
+array-read-word-2 c = search needs
 
-array-read-number-3 : tie.Need-array-read-number-3
-array-read-number-3 c = search needs
+array-read-word-3 : tie.Need-array-read-word-3
+array-read-word-3 c = search needs
 
-number-requires : tie.Need-number-requires
-number-requires c κs = search needs
+word-requires : tie.Need-word-requires
+word-requires c κs = search needs
 
 returns : tie.Need-returns
 returns c = cc
@@ -34,8 +34,8 @@ aun-in-spec =
     primary-in-requires
     array-read-restored
     restored-requires
-    array-read-number
-    array-read-number-2
-    array-read-number-3
-    number-requires
+    array-read-word
+    array-read-word-2
+    array-read-word-3
+    word-requires
     returns)

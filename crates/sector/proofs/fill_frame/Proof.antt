@@ -34,26 +34,29 @@ loop-again c = (omega arith, search (written-more))
 edc-requires : tie.Need-edc-requires Inv-loop μ-loop
 edc-requires c κs = search needs
 
-cast-frame : tie.Need-cast-frame Inv-loop μ-loop
-cast-frame c = search needs
+word-bytes-requires : tie.Need-word-bytes-requires Inv-loop μ-loop
+word-bytes-requires c κs = search needs
+
+array-read-frame : tie.Need-array-read-frame Inv-loop μ-loop
+array-read-frame c = search needs
 
 slice-write-frame-2 : tie.Need-slice-write-frame-2 Inv-loop μ-loop
 slice-write-frame-2 c = search needs
 
-cast-frame-2 : tie.Need-cast-frame-2 Inv-loop μ-loop
-cast-frame-2 c = search needs
+array-read-frame-2 : tie.Need-array-read-frame-2 Inv-loop μ-loop
+array-read-frame-2 c = search needs
 
 slice-write-frame-3 : tie.Need-slice-write-frame-3 Inv-loop μ-loop
 slice-write-frame-3 c = search needs
 
-cast-frame-3 : tie.Need-cast-frame-3 Inv-loop μ-loop
-cast-frame-3 c = search needs
+array-read-frame-3 : tie.Need-array-read-frame-3 Inv-loop μ-loop
+array-read-frame-3 c = search needs
 
 slice-write-frame-4 : tie.Need-slice-write-frame-4 Inv-loop μ-loop
 slice-write-frame-4 c = search needs
 
-cast-frame-4 : tie.Need-cast-frame-4 Inv-loop μ-loop
-cast-frame-4 c = search needs
+array-read-frame-4 : tie.Need-array-read-frame-4 Inv-loop μ-loop
+array-read-frame-4 c = search needs
 
 slice-write-frame-5 : tie.Need-slice-write-frame-5 Inv-loop μ-loop
 slice-write-frame-5 c = search needs
@@ -77,13 +80,14 @@ fill-frame-spec =
     loop-less
     loop-again
     edc-requires
-    cast-frame
+    word-bytes-requires
+    array-read-frame
     slice-write-frame-2
-    cast-frame-2
+    array-read-frame-2
     slice-write-frame-3
-    cast-frame-3
+    array-read-frame-3
     slice-write-frame-4
-    cast-frame-4
+    array-read-frame-4
     slice-write-frame-5
     same-length
     returns)
