@@ -1,6 +1,7 @@
 // 13.2 to 13.4: data frames of sectors.
 use edc::edc;
 use scrambling::scramble;
+use slices::steps::copy_bytes;
 use words::steps::word_at;
 use words::word_bytes;
 ghost use mathlib.Core.Path.{_≡_};
@@ -12,14 +13,9 @@ fn fill_frame(user: &[u8], frame: &mut [u8])
     requires { ⌜ (length (now user) ≡ 2048) × (length (now frame) ≡ 2052) ⌝ }
     ensures { λ _. ⌜ now (frame .exit) ≡ dataFrame (now (user .entry)) ⌝ }
 {
-    for k in 0..2048usize {
-        frame[k] = user[k];
-    }
+    copy_bytes(user, &mut frame[0..2048]);
     let code = word_bytes(edc(user));
-    frame[2048] = code[0];
-    frame[2049] = code[1];
-    frame[2050] = code[2];
-    frame[2051] = code[3];
+    copy_bytes(&code, &mut frame[2048..2052]);
 }
 
 // The scrambled data frame of a sector's 2,048 user bytes, in a frame of 2,052; false, and the frame as it was, at other lengths.
