@@ -1,4 +1,5 @@
--- `aun_in` meets its contract, from what its steps ensure.
+-- `aun_in` meets its contract, from what its steps ensure (Judging).
+use Rattle.bis_reader.proofs.Judging.{aun-read}
 use borrow.Author.Needs.{needs}
 use Rattle.bis_reader.proofs.aun_in.Statement.{statement}
 use Rattle.bis_reader.proofs.aun_in.Tie as tie
@@ -25,7 +26,7 @@ word-requires : tie.Need-word-requires
 word-requires c κs = search needs
 
 returns : tie.Need-returns
-returns c = cc
+returns c = aun-read _ _ (c .before .before .primary-in .ensures) (c .before .restored .ensures) (c .word .ensures)
 
 pub aun-in-spec : {M : Type 1} → statement M
 aun-in-spec =
