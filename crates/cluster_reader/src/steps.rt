@@ -10,7 +10,7 @@ ghost use Rattle.remainders.specs.steps.Remainders.{AreRemainders};
 ghost use Rattle.ldc.specs.Places.{frameIn};
 ghost use Rattle.cluster.specs.Multiplex.{ldcIn};
 ghost use Rattle.cluster.specs.Reading.{firstWrongWord, firstWrongSector, userIn};
-ghost use Rattle.ldc_words.specs.steps.Eighth.{frameAt, framesOf, wrongOf, wrongFrame, userOf};
+ghost use Rattle.ldc_words.specs.steps.Eighth.{eighthFrame, framesOf, wrongOf, wrongFrame, userOf};
 ghost use Rattle.sizes.specs.Sizes.{workSize, userSize};
 
 // The lowest of 38 code words that has not its 32 roots, or 38.
@@ -68,7 +68,7 @@ fn zero_frame() -> [u8; 2052]
 // Data frame f of four, with the scrambling undone.
 fn data_frame(frames: &[u8], stream: &[u8], f: usize) -> [u8; 2052]
     requires { ⌜ (length (now frames) ≡ 8208) × (f < 4) ⌝ }
-    ensures { λ r. ⌜ r ≡ scrambled (now (stream .entry)) (frameAt (now (frames .entry)) f) ⌝ }
+    ensures { λ r. ⌜ r ≡ scrambled (now (stream .entry)) (eighthFrame (now (frames .entry)) f) ⌝ }
 {
     let mut bytes = zero_frame();
     let from = 2052 * f;

@@ -11,8 +11,8 @@ ghost use lib.ListN.{length};
 ghost use Rattle.bits.specs.Bits.{number};
 ghost use Rattle.modulation.specs.Modulation.{twoNumber, rowAt, starts, startsWith010, lastBit, allowed, fits, terminates, modulateFrom, modulate};
 ghost use Rattle.modulation.specs.Bits.{bits};
-ghost use Rattle.conversion.specs.steps.Rows.{coded, whenNumber, whenAt, packed, packedRows, IsRow, Sized};
-ghost use Rattle.conversion.specs.steps.Few.{fewPairs, standingRow, Fitting, Given};
+ghost use Rattle.conversion.specs.steps.Rows.{coded, whenNumber, whenAt, packedRow, packedRows, IsRow, Sized};
+ghost use Rattle.conversion.specs.steps.Few.{fewPairs, standingRow, Fitting, BitsGiven};
 
 // The rows in the order in which they are tried: the longest first, the terminating ones last.
 const ROWS: [Row; 16] = [
@@ -69,7 +69,7 @@ fn when_at(number: u32) -> When
 // Row k as a number: how many pairs it has, three bits for its condition, eight for its data bits, twelve for its modulation bits.
 fn packed_row(k: usize) -> u32
     requires { ⌜ k < 16 ⌝ }
-    ensures { λ r. ⌜ r ≡ packed (coded (rowAt k)) ⌝ }
+    ensures { λ r. ⌜ r ≡ packedRow (coded (rowAt k)) ⌝ }
 {
     let r = table_row(k);
     let when = r.3;
@@ -248,7 +248,7 @@ fn fitting_row(rows: &PackedRows, count: usize, pairs: u32, before: bool) -> usi
 // At most six pairs modulated after the bit before, as if the frame ended there.
 pub fn modulate(rows: &PackedRows, count: usize, pairs: u32, before: bool) -> Few
     requires { ⌜ (now rows ≡ packedRows) × ((count ≤ 6) × (pairs < 2 ^ (2 * count))) ⌝ }
-    ensures { λ r. ⌜ Given (modulate before (fewPairs count pairs)) (r .value) (r .terminated) ⌝ }
+    ensures { λ r. ⌜ BitsGiven (modulate before (fewPairs count pairs)) (r .value) (r .terminated) ⌝ }
 {
     let mut value = 0;
     let mut terminated = false;

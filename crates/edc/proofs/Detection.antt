@@ -10,7 +10,7 @@ use Rattle.laws.specs.Bytes.{Bytes}
 use Rattle.bits.specs.Bits.{bitsOf, number}
 use Rattle.bits.proofs.Bits.{length-bits, bits-bits}
 use Rattle.bits.proofs.Number.{number-lt}
-use Rattle.edc.specs.Edc.{MultipleOfG, remainder, edcOf, edcBytes}
+use Rattle.edc.specs.Edc.{MultipleOfG, remainderByG, edcOf, edcBytes}
 use Rattle.words.specs.Words.{fourBytes}
 use Rattle.words.proofs.Words.{number-of-four, bytes-word}
 use Rattle.laws.proofs.Xor.{xor-equal}
@@ -25,7 +25,7 @@ unfolding edcOf
 edc-leaves l =
     let bits : List ℕ = bitsOf (l ++ fourBytes 0) in
     let whole : 0 * 2 ^ length bits + number bits ≡ number (bitsOf l) * 2 ^ 32 = omega (arith, zero-mul (2 ^ length bits), number-bytes l (fourBytes 0), number-of-four 0 (omega arith)) in
-    subst (λ (n : ℕ). Leaves n (remainder 0 bits)) whole (leaves-bits bits (bits-bits (l ++ fourBytes 0)) (leaves-self 0 (omega arith)))
+    subst (λ (n : ℕ). Leaves n (remainderByG 0 bits)) whole (leaves-bits bits (bits-bits (l ++ fourBytes 0)) (leaves-self 0 (omega arith)))
 
 pub edc-lt : (l : List ℕ) → edcOf l < 2 ^ 32
 edc-lt l = edc-leaves l .low

@@ -18,12 +18,12 @@ use Rattle.frame.specs.Frame.{frame}
 use Rattle.frame.proofs.Frame.{length-frame}
 use Rattle.gaps.specs.declared.Tally.{Tally}
 use Rattle.gaps.specs.Gaps.{gapCounts, gapAt, howMany}
-use Rattle.frame_gaps.specs.Tally.{tallyDc, accepted, refusal, tallyFrame, tallied, inputOf}
+use Rattle.frame_gaps.specs.Tally.{tallyDc, isTallyInput, refusal, tallyFrame, tallied, inputOf}
 use Rattle.frame_gaps.proofs.FrameCounted.{bits-frame}
 use Rattle.gaps.proofs.Neighbours.{counts-often}
 
 module _ (input : List ℕ) {a : Tally} (r : a ≡ refusal) where
-  refused : accepted input ≡ false → a ≡ tallied input
+  refused : isTallyInput input ≡ false → a ≡ tallied input
   unfolding tallied
   refused e = r ∙ rw e
 
@@ -61,7 +61,7 @@ tallied-counts input {dc} {c} size hash number e small counts =
 -- ---- what is tallied
 
 -- of an accepted input: of each length from 1 to 8, how many places of the frame's 1,932 bits begin such a gap
-pub tallied-often : (input : List ℕ) → accepted input ≡ true → (k : ℕ) → k < 8 → getD (tallied input .counts) k 0 ≡ howMany 1932 (gapAt (tallyFrame input) (suc k))
+pub tallied-often : (input : List ℕ) → isTallyInput input ≡ true → (k : ℕ) → k < 8 → getD (tallied input .counts) k 0 ≡ howMany 1932 (gapAt (tallyFrame input) (suc k))
 unfolding tallied
 tallied-often input e k h =
     ap (λ (t : Bool). getD (cond t (record { accepted = true; counts = gapCounts (tallyFrame input) }) refusal .counts) k 0) e
@@ -77,7 +77,7 @@ module _ (hash : Bool) (number : ℕ) (row : List ℕ) (dc : ℕ) (size : length
   same-dc : tallyDc (inputOf hash number row dc) ≡ dc
   same-dc = word-back dc (omega arith)
 
-  given : accepted (inputOf hash number row dc) ≡ true
+  given : isTallyInput (inputOf hash number row dc) ≡ true
   given =
       rw (
         eq-eqb (length (inputOf hash number row dc)) 161 (omega arith),

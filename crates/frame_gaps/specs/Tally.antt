@@ -14,8 +14,8 @@ use Rattle.gaps.specs.Gaps.{gapCounts}
 abbrev pub tallyDc : List ℕ → ℕ
 tallyDc input = wordAt input 2
 
-abbrev pub accepted : List ℕ → Bool
-accepted input = eqb (length input) 161 && (ltb (getD input 0 0) 2 && (ltb (getD input 1 0) 7 && ltb (tallyDc input) (2 ^ 28)))
+abbrev pub isTallyInput : List ℕ → Bool
+isTallyInput input = eqb (length input) 161 && (ltb (getD input 0 0) 2 && (ltb (getD input 1 0) 7 && ltb (tallyDc input) (2 ^ 28)))
 
 abbrev pub refusal : Tally
 refusal = record { accepted = false; counts = replicate 8 0 }
@@ -26,7 +26,7 @@ tallyFrame input = frame (eqb (getD input 0 0) 1) (fs (getD input 1 0)) (drop 6 
 
 -- its gap counts, or a refusal
 unfoldable pub tallied : List ℕ → Tally
-tallied input = cond (accepted input) (record { accepted = true; counts = gapCounts (tallyFrame input) }) refusal
+tallied input = cond (isTallyInput input) (record { accepted = true; counts = gapCounts (tallyFrame input) }) refusal
 
 -- the 161 bytes that give a frame
 abbrev pub inputOf : Bool → ℕ → List ℕ → ℕ → List ℕ

@@ -4,12 +4,12 @@ use borrow.Author.Needs.{needs}
 use mathlib.Core.Path.{refl}
 use Rattle.laws.proofs.Fill.{Upto, upto-none, upto-more, upto-all}
 use Rattle.modulation.specs.Modulation.{rowAt}
-use Rattle.conversion.specs.steps.Rows.{coded, packed, packedRows}
+use Rattle.conversion.specs.steps.Rows.{coded, packedRow, packedRows}
 use Rattle.conversion.proofs.steps.packed_rows.Statement.{statement}
 use Rattle.conversion.proofs.steps.packed_rows.Tie as tie
 
 abbrev Inv-loop : tie.InvT-loop
-Inv-loop rows₀ k₀ rows k = Upto 0 (λ k. packed (coded (rowAt k))) 16 k rows
+Inv-loop rows₀ k₀ rows k = Upto 0 (λ k. packedRow (coded (rowAt k))) 16 k rows
 
 abbrev μ-loop : tie.MeasureT-loop
 μ-loop rows₀ k₀ rows k = 16 - k
