@@ -6,6 +6,7 @@ use native.Mathlib.Omega.{arith}
 use borrow.Author.Tests.{eq-eqb, ne-eqb}
 use lib.ListN.{length, getD}
 use Rattle.laws.proofs.Fill.{Upto, upto-all}
+use Rattle.laws.proofs.Tabulate.{length-tabulate}
 use Rattle.notation.specs.Words.{wordCount, wordsOf, dcByte, bytesOf, wordsRead, bytesRead}
 use Rattle.words.specs.Words.{wordAt, fourBytes}
 
@@ -18,6 +19,10 @@ pub count-none : (bytes n : ℕ) → (bytes ≡ 1984 → ⊥) → n ≡ 0 → (n
 count-none bytes n e h = (omega arith, h ∙ rw (ne-eqb bytes 1984 e))
 
 -- ---- which
+
+pub length-words : (bytes : List ℕ) → length (wordsOf bytes) ≡ 496
+unfolding wordsOf
+length-words bytes = length-tabulate 496 (λ n. wordAt bytes (4 * n))
 
 module _ (bytes before : List ℕ) where
   pub words-other-bytes : (length bytes ≡ 1984 → ⊥) → before ≡ wordsRead bytes before
