@@ -3,6 +3,7 @@ pub mod steps;
 
 use address::Aun;
 use steps::partly_inverted;
+use words::word_bytes;
 ghost use mathlib.Core.Path.{_≡_};
 ghost use Prim.Native.Nat.{_+_, _*_, _-_};
 ghost use Rattle.bis.specs.AddressField.{reordered, information, primaryField, addressField};
@@ -18,15 +19,8 @@ fn reordered(high: u8) -> u8
 fn information(aun: Aun, flag: u8) -> [u8; 5]
     ensures { λ r. ⌜ r ≡ information (aun .0) flag ⌝ }
 {
-    let n = aun.0;
-    let high = reordered((n / 0x0100_0000) as u8);
-    [
-        high,
-        (n / 0x0001_0000 % 256) as u8,
-        (n / 0x0000_0100 % 256) as u8,
-        (n % 256) as u8,
-        flag,
-    ]
+    let four = word_bytes(aun.0);
+    [reordered(four[0]), four[1], four[2], four[3], flag]
 }
 
 fn primary_field(aun: Aun, flag: u8) -> [u8; 9]

@@ -9,7 +9,7 @@ use Rattle.modulation.specs.Modulation.{Two, d00, d01, d10, d11, Three, threeNu
 use Rattle.modulation.specs.Machine.{Wait, w, w00, w0000, w000000, w000010, w11, w1101, w110111, w11011100, w1101110000, Step, step, stop, machine}
 use Rattle.modulation.proofs.Machine.{machine-is}
 use Rattle.laws.proofs.Booleans.{T-true}
-use Rattle.automaton.specs.Automaton.{reads, ends, start, next, ending, stateAfter, accepts}
+use Rattle.automaton.specs.Automaton.{transitions, ends, start, next, ending, stateAfter, accepts}
 
 -- p holds of each of the list
 abbrev pub each : {A : Type 0} → (A → Bool) → List A → Bool
@@ -67,7 +67,7 @@ follows : Step → ℕ → Bool
 follows t s = among eqb (stateAfter s (t .out)) (partners (t .to) (t .bit))
 
 one-more : (x : Wait) (b : Bool) (d : Two) → T (each (follows (step x b d)) (partners x b))
-unfolding follows stateAfter reads
+unfolding follows stateAfter transitions
 one-more w true d = elim d [ d00 ↦ tt | d01 ↦ tt | d10 ↦ tt | d11 ↦ tt ]
 one-more w false d = elim d [ d00 ↦ tt | d01 ↦ tt | d10 ↦ tt | d11 ↦ tt ]
 one-more w00 true d = elim d [ d00 ↦ tt | d01 ↦ tt | d10 ↦ tt | d11 ↦ tt ]
@@ -94,7 +94,7 @@ finishes : Modulated → ℕ → Bool
 finishes f s = accepts s (f .groups) (f .terminated)
 
 at-the-end : (x : Wait) (b : Bool) → T (each (finishes (stop x b)) (partners x b))
-unfolding finishes stateAfter reads ends
+unfolding finishes stateAfter transitions ends
 at-the-end w true = tt
 at-the-end w false = tt
 at-the-end w00 true = tt

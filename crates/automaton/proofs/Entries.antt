@@ -13,7 +13,7 @@ use Rattle.laws.proofs.Fill.{Upto}
 use Rattle.laws.proofs.Tabulate.{getD-tabulate}
 use Rattle.modulation.specs.Modulation.{Three, threeNumber}
 use Rattle.modulation.proofs.Fronts.{three-below}
-use Rattle.automaton.specs.Automaton.{reads, start, next, added, stateAfter, numberAfter}
+use Rattle.automaton.specs.Automaton.{transitions, start, next, valueAdded, stateAfter, numberAfter}
 use Rattle.automaton.specs.steps.Table.{twoGroups, threeGroups, readFrom, more, tableEntry, table, Twos, After, limit}
 use Rattle.automaton.proofs.Complete.{after-append}
 use Rattle.automaton.proofs.Sound.{shifted, plain}
@@ -21,10 +21,10 @@ use Rattle.automaton.proofs.Sound.{shifted, plain}
 -- ---- one group
 
 abbrev entry : ℕ → ℕ → ℕ
-entry s g = getD reads (8 * s + g) 0
+entry s g = getD transitions (8 * s + g) 0
 
 entry-small : (s g : ℕ) → s < 18 → g < 8 → T (both (ltb (entry s g) 2950) (ltb (entry s g % 32) 18))
-unfolding all all₂ reads
+unfolding all all₂ transitions
 entry-small = all₂-at 18 8 (λ s g. both (ltb (entry s g) 2950) (ltb (entry s g % 32) 18)) tt
 
 pub entry-bound : (s g : ℕ) → s < 18 → g < 8 → entry s g < 2950
@@ -51,7 +51,7 @@ more-state a g h hg =
 
 two-test : (s v : ℕ) → s < 18 → v < 64
     → T (both (eqb (more (more s (v / 8)) (v % 8)) (readFrom s (twoGroups v))) (both (ltb (readFrom s (twoGroups v)) 14752) (ltb (readFrom s (twoGroups v) % 32) 18)))
-unfolding all all₂ reads readFrom numberAfter stateAfter
+unfolding all all₂ transitions readFrom numberAfter stateAfter
 two-test =
     all₂-at 18 64
     (λ s v. both (eqb (more (more s (v / 8)) (v % 8)) (readFrom s (twoGroups v))) (both (ltb (readFrom s (twoGroups v)) 14752) (ltb (readFrom s (twoGroups v) % 32) 18))) tt
@@ -71,7 +71,7 @@ module _ (s v : ℕ) (hs : s < 18) (hv : v < 64) where
       (both-right (ltb (readFrom s (twoGroups v)) 14752) _ (both-right (eqb (more (more s (v / 8)) (v % 8)) (readFrom s (twoGroups v))) _ (two-test s v hs hv)))
 
 three-test : (s v : ℕ) → s < 18 → v < 512 → T (eqb (more (readFrom s (twoGroups (v / 8))) (v % 8)) (readFrom s (threeGroups v)))
-unfolding all all₂ reads readFrom numberAfter stateAfter
+unfolding all all₂ transitions readFrom numberAfter stateAfter
 three-test = all₂-at 18 512 (λ s v. eqb (more (readFrom s (twoGroups (v / 8))) (v % 8)) (readFrom s (threeGroups v))) tt
 
 three-is : (s v : ℕ) → s < 18 → v < 512 → more (readFrom s (twoGroups (v / 8))) (v % 8) ≡ readFrom s (threeGroups v)
@@ -145,13 +145,13 @@ twos-upto twos = record { within = omega arith; size = twos .size; below = twos 
 pub number-append : (s a : ℕ) (x y : List Three) → numberAfter s a (x ++ y) ≡ numberAfter (stateAfter s x) (numberAfter s a x) y
 unfolding numberAfter stateAfter
 number-append s a [] y = refl
-number-append s a (g ∷ x) y = number-append (next s (threeNumber g)) (4 * a + added s (threeNumber g)) x y
+number-append s a (g ∷ x) y = number-append (next s (threeNumber g)) (4 * a + valueAdded s (threeNumber g)) x y
 
 pub number-shift : (s a : ℕ) (gs : List Three) → numberAfter s a gs ≡ a * 4 ^ length gs + numberAfter s 0 gs
 unfolding numberAfter
 number-shift s a [] = omega arith
 number-shift s a (g ∷ gs) =
-    let d : ℕ = added s (threeNumber g) in
+    let d : ℕ = valueAdded s (threeNumber g) in
     let t : ℕ = next s (threeNumber g) in
     let rest : ℕ = numberAfter t 0 gs in
     number-shift t (4 * a + d) gs
@@ -201,15 +201,15 @@ after-more {gs} {hs} {x} {y} {r} a b =
 
 -- ---- how large the number grows
 
-grows-within : (s g : ℕ) → s < 18 → g < 8 → T (leb (added s g + limit (next s g)) (4 * limit s))
-unfolding all all₂ reads
-grows-within = all₂-at 18 8 (λ s g. leb (added s g + limit (next s g)) (4 * limit s)) tt
+grows-within : (s g : ℕ) → s < 18 → g < 8 → T (leb (valueAdded s g + limit (next s g)) (4 * limit s))
+unfolding all all₂ transitions
+grows-within = all₂-at 18 8 (λ s g. leb (valueAdded s g + limit (next s g)) (4 * limit s)) tt
 
 pub number-limit : (s : ℕ) (gs : List Three) → s < 18 → numberAfter s 0 gs + limit (stateAfter s gs) ≤ limit s * 4 ^ length gs
 unfolding numberAfter stateAfter
 number-limit s [] h = omega arith
 number-limit s (g ∷ gs) h =
-    let d : ℕ = added s (threeNumber g) in
+    let d : ℕ = valueAdded s (threeNumber g) in
     let t : ℕ = next s (threeNumber g) in
     let p : ℕ = 4 ^ length gs in
     let rest = number-limit t gs (entry-state s (threeNumber g) h (three-below g)) in

@@ -15,7 +15,7 @@ use Rattle.modulation.specs.Machine.{Wait, w, w00, w0000, w000000, w000010, w11
 use Rattle.modulation.proofs.Machine.{machine-is}
 use Rattle.laws.proofs.Booleans.{T-true, true-T, beq-same, implies, given}
 use Rattle.modulation.proofs.Fronts.{three-injective, starts-split}
-use Rattle.automaton.specs.Automaton.{reads, ends, start, next, added, ending, stateAfter, numberAfter, accepts, numberRead, onto}
+use Rattle.automaton.specs.Automaton.{transitions, ends, start, next, valueAdded, ending, stateAfter, numberAfter, accepts, numberRead, onto}
 use Rattle.automaton.proofs.Complete.{each, among, each-at}
 
 -- ---- pairs as digits
@@ -168,7 +168,7 @@ unfed s = getD (0 ∷ 0 ∷ 0 ∷ 0 ∷ 1 ∷ 1 ∷ 0 ∷ 1 ∷ 1 ∷ 2 ∷ 2 �
 
 -- the number with one group more, its pairs that are decided now, and what the machine gives for them
 abbrev grown : Met → Three → ℕ
-grown m g = 4 * m .base + added (m .state) (threeNumber g)
+grown m g = 4 * m .base + valueAdded (m .state) (threeNumber g)
 
 abbrev to : Met → Three → ℕ
 to m g = next (m .state) (threeNumber g)
@@ -272,7 +272,7 @@ abbrev groups : List Three
 groups = m000 ∷ m001 ∷ m010 ∷ m011 ∷ m100 ∷ m101 ∷ m110 ∷ m111 ∷ []
 
 all-go : T (each (λ m. each (goes m) groups) meetings)
-unfolding goes reads onto
+unfolding goes transitions onto
 all-go = tt
 
 -- the last pairs, and the frame that ends with them
@@ -301,7 +301,7 @@ finishes : Bool → Met → Bool
 finishes hash m = implies (eqb (ending (m .state) hash % 2) 0) (ending-right m hash)
 
 all-finish : (hash : Bool) → T (each (finishes hash) meetings)
-unfolding finishes reads ends onto
+unfolding finishes transitions ends onto
 all-finish true = tt
 all-finish false = tt
 
@@ -336,7 +336,7 @@ finishes-at m hash t e =
 
 -- in state 2 nothing is right any more
 dead : (gs : List Three) → stateAfter 2 gs ≡ 2
-unfolding stateAfter reads
+unfolding stateAfter transitions
 dead [] = refl
 dead (m000 ∷ gs) = dead gs
 dead (m001 ∷ gs) = dead gs
@@ -384,10 +384,10 @@ step-back m n g gs hash t back =
         ∙ ap (λ (l : List Three). l ++ gs) (sym front)
         ∙ append-assoc (m .lag) (g ∷ []) gs
 
-    grows : 4 * (n * 4 ^ unfed (m .state) + m .base) + added (m .state) (threeNumber g)
+    grows : 4 * (n * 4 ^ unfed (m .state) + m .base) + valueAdded (m .state) (threeNumber g)
         ≡ onto n (decided m g) * 4 ^ unfed (to m g) + grown m g % 4 ^ unfed (to m g)
     grows =
-        numbers-meet n (4 ^ unfed (m .state)) (m .base) (added (m .state) (threeNumber g)) (onto 0 (decided m g)) (4 ^ length (decided m g)) (4 ^ unfed (to m g))
+        numbers-meet n (4 ^ unfed (m .state)) (m .base) (valueAdded (m .state) (threeNumber g)) (onto 0 (decided m g)) (4 ^ length (decided m g)) (4 ^ unfed (to m g))
         (grown m g % 4 ^ unfed (to m g))
         (eqb→eq _ _ (both-left (sum-right m g) _ (both-right (front-right m g) _ t)))
         (eqb→eq _ _ (both-left (weight-right m g) _ (both-right (sum-right m g) _ (both-right (front-right m g) _ t))))

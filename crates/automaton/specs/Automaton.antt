@@ -10,8 +10,8 @@ use Rattle.modulation.specs.Modulation.{Two, twoNumber, Three, threeNumber}
 
 -- State s at group g: 32 times what is added, and the next state, at place 8 s + g. States 0 and 1 are a frame's start after a ZERO and after
 -- a ONE, and in state 2 no group is right any more.
-unfoldable pub reads : List ℕ
-reads =
+unfoldable pub transitions : List ℕ
+transitions =
     3 ∷ 68 ∷ 5 ∷ 2 ∷ 2 ∷ 102 ∷ 2 ∷ 2 ∷
     7 ∷ 68 ∷ 5 ∷ 2 ∷ 2 ∷ 2 ∷ 2 ∷ 2 ∷
     2 ∷ 2 ∷ 2 ∷ 2 ∷ 2 ∷ 2 ∷ 2 ∷ 2 ∷
@@ -44,10 +44,10 @@ abbrev pub start : Bool → ℕ
 start before = cond before 1 0
 
 abbrev pub next : ℕ → ℕ → ℕ
-next s g = getD reads (8 * s + g) 0 % 32
+next s g = getD transitions (8 * s + g) 0 % 32
 
-abbrev pub added : ℕ → ℕ → ℕ
-added s g = getD reads (8 * s + g) 0 / 32
+abbrev pub valueAdded : ℕ → ℕ → ℕ
+valueAdded s g = getD transitions (8 * s + g) 0 / 32
 
 abbrev pub ending : ℕ → Bool → ℕ
 ending s hash = getD ends (2 * s + cond hash 1 0) 0
@@ -60,7 +60,7 @@ stateAfter s (g ∷ gs) = stateAfter (next s (threeNumber g)) gs
 -- the number of the data bits behind the groups, where it was a before
 unfoldable pub numberAfter : ℕ → ℕ → List Three → ℕ
 numberAfter s a [] = a
-numberAfter s a (g ∷ gs) = numberAfter (next s (threeNumber g)) (4 * a + added s (threeNumber g)) gs
+numberAfter s a (g ∷ gs) = numberAfter (next s (threeNumber g)) (4 * a + valueAdded s (threeNumber g)) gs
 
 -- a frame may end so
 abbrev pub accepts : ℕ → List Three → Bool → Bool

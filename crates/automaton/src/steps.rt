@@ -6,12 +6,12 @@ ghost use mathlib.Core.Bool.{cond};
 ghost use mathlib.Core.Path.{_≡_};
 ghost use Prim.Native.Nat.{_+_, _*_, _-_, _/_, _%_, _<_, _≤_};
 ghost use lib.ListN.{length};
-ghost use Rattle.automaton.specs.Automaton.{reads, ending};
+ghost use Rattle.automaton.specs.Automaton.{transitions, ending};
 ghost use Rattle.automaton.specs.steps.Table.{twoGroups, threeGroups, more, tableEntry, table, Twos, After};
 
 // A number of data bits and a state, as the table has them, with group g read.
 fn one_more(ones: &[u16; 144], a: u16, g: usize) -> u16
-    requires { ⌜ (now ones ≡ reads) × ((a < 14752) × ((a % 32 < 18) × (g < 8))) ⌝ }
+    requires { ⌜ (now ones ≡ transitions) × ((a < 14752) × ((a % 32 < 18) × (g < 8))) ⌝ }
     ensures { λ r. ⌜ r ≡ more a g ⌝ }
 {
     a / 32 * 128 + ones[8 * (a % 32) as usize + g]
@@ -19,7 +19,7 @@ fn one_more(ones: &[u16; 144], a: u16, g: usize) -> u16
 
 // Entry k of the table, for two groups.
 fn two_at(ones: &[u16; 144], k: usize) -> u16
-    requires { ⌜ (now ones ≡ reads) × (k < 1152) ⌝ }
+    requires { ⌜ (now ones ≡ transitions) × (k < 1152) ⌝ }
     ensures { λ r. ⌜ r ≡ tableEntry k ⌝ }
 {
     let a = one_more(ones, (k % 18) as u16, k / 144);
@@ -28,7 +28,7 @@ fn two_at(ones: &[u16; 144], k: usize) -> u16
 
 // Entry k of the table, for three groups: one more than the two of an entry that is made.
 fn three_at(ones: &[u16; 144], made: &Table, k: usize) -> u16
-    requires { ⌜ (now ones ≡ reads) × (Twos (now made) × ((1152 ≤ k) × (k < 10368))) ⌝ }
+    requires { ⌜ (now ones ≡ transitions) × (Twos (now made) × ((1152 ≤ k) × (k < 10368))) ⌝ }
     ensures { λ r. ⌜ r ≡ tableEntry k ⌝ }
 {
     let j = k - 1152;
@@ -38,7 +38,7 @@ fn three_at(ones: &[u16; 144], made: &Table, k: usize) -> u16
 
 // The entries for two groups.
 fn fill_twos(ones: &[u16; 144], made: &mut Table)
-    requires { ⌜ (now ones ≡ reads) × (length (now made) ≡ 10368) ⌝ }
+    requires { ⌜ (now ones ≡ transitions) × (length (now made) ≡ 10368) ⌝ }
     ensures { λ _. ⌜ Twos (now (made .exit)) ⌝ }
 {
     let mut k = 0;

@@ -4,7 +4,6 @@ use mathlib.Core.Bool.{Bool, true, false, cond}
 use mathlib.Core.List.{List, [], _∷_, _++_}
 use Prim.Native.Nat.{ℕ, zero, suc, _+_, _*_, _-_, _/_, _%_, _^_, _<_}
 use native.Mathlib.Omega.{arith}
-use lib.Arith.{digits-mod}
 use lib.ListN.{length, getD, take, length-append}
 use lib.Seq.{getD-take, length-take-le}
 use Rattle.laws.specs.Bytes.{Bytes}
@@ -12,6 +11,8 @@ use Rattle.laws.specs.Tabulate.{tabulate}
 use Rattle.laws.proofs.Bytes.{bytes-append, bytes-tabulate}
 use Rattle.laws.proofs.Finite.{all, equal-below, bounded-below}
 use Rattle.laws.proofs.Tabulate.{is-tabulate, getD-tabulate, length-tabulate}
+use Rattle.words.specs.Words.{wordOf, fourBytes}
+use Rattle.words.proofs.Words.{word-back, bytes-back}
 use Rattle.column.specs.Column.{generator, MultipleOf, hasRoots, parity}
 use Rattle.column.proofs.Parity.{parity-length, parity-bytes, parity-test, test-column}
 use Rattle.column.proofs.Multiple.{parity-multiple}
@@ -23,6 +24,10 @@ pub reordered-lt : (high : ℕ) → high < 256 → reordered high < 256
 unfolding all
 reordered-lt = bounded-below 256 256 reordered tt
 
+restored-lt : (paf0 : ℕ) → paf0 < 256 → restored paf0 < 256
+unfolding all
+restored-lt = bounded-below 256 256 restored tt
+
 pub restored-reordered : (high : ℕ) → high < 256 → restored (reordered high) ≡ high
 unfolding all
 restored-reordered = equal-below 256 (λ h. restored (reordered h)) (λ h. h) tt
@@ -33,13 +38,18 @@ reordered-restored = equal-below 256 (λ p. reordered (restored p)) (λ p. p) tt
 
 -- ---- the information bytes
 
-pub information-bytes : (aun flag : ℕ) → aun < 2 ^ 32 → flag < 256 → Bytes (information aun flag)
-information-bytes aun flag ha hf zero = reordered-lt (aun / 2 ^ 24) (omega arith)
-information-bytes aun flag ha hf (suc zero) = omega arith
-information-bytes aun flag ha hf (suc (suc zero)) = omega arith
-information-bytes aun flag ha hf (suc (suc (suc zero))) = omega arith
-information-bytes aun flag ha hf (suc (suc (suc (suc zero)))) = hf
-information-bytes aun flag ha hf (suc (suc (suc (suc (suc i))))) = omega arith
+pub information-bytes : (aun flag : ℕ) → flag < 256 → Bytes (information aun flag)
+information-bytes aun flag hf zero = reordered-lt (aun / 2 ^ 24 % 256) (omega arith)
+information-bytes aun flag hf (suc zero) = omega arith
+information-bytes aun flag hf (suc (suc zero)) = omega arith
+information-bytes aun flag hf (suc (suc (suc zero))) = omega arith
+information-bytes aun flag hf (suc (suc (suc (suc zero)))) = hf
+information-bytes aun flag hf (suc (suc (suc (suc (suc i))))) = omega arith
+
+-- high is PAF0
+pub information-is : (aun flag high : ℕ) (bytes : List ℕ) → bytes ≡ fourBytes aun → high ≡ reordered (getD bytes 0 0)
+    → high ∷ getD bytes 1 0 ∷ getD bytes 2 0 ∷ getD bytes 3 0 ∷ flag ∷ [] ≡ information aun flag
+information-is aun flag high bytes e h = rw (h, e)
 
 four : (p : List ℕ) → length p ≡ 4 → p ≡ getD p 0 0 ∷ getD p 1 0 ∷ getD p 2 0 ∷ getD p 3 0 ∷ []
 unfolding tabulate
@@ -85,34 +95,14 @@ inverted-back f size bytes =
     sym (is-tabulate 0 9 (λ x. invertedAt x (getD (tabulate 9 (λ x. invertedAt x (getD f x 0))) x 0)) f size
     (λ x h. sym (ap (invertedAt x) (getD-tabulate 9 (λ x. invertedAt x (getD f x 0)) x 0 h) ∙ inverted-twice (isInverted x) (getD f x 0) (bytes x))))
 
--- ---- a number and its four bytes
-
-number-back : (n : ℕ) → n / 2 ^ 24 * 2 ^ 24 + n / 2 ^ 16 % 256 * 2 ^ 16 + n / 2 ^ 8 % 256 * 2 ^ 8 + n % 256 ≡ n
-number-back n =
-    let b : n / 2 ^ 8 / 256 ≡ n / 2 ^ 16 = omega arith in
-    let a : n / 2 ^ 16 / 256 ≡ n / 2 ^ 24 = omega arith in
-    omega arith
-
-bytes-back : (a b c d n : ℕ) → b < 256 → c < 256 → d < 256 → n ≡ a * 2 ^ 24 + b * 2 ^ 16 + c * 2 ^ 8 + d
-    → (n / 2 ^ 24 ≡ a) × (n / 2 ^ 16 % 256 ≡ b) × (n / 2 ^ 8 % 256 ≡ c) × (n % 256 ≡ d)
-bytes-back a b c d n hb hc hd e =
-    let two : n / 2 ^ 16 ≡ a * 256 + b = omega arith in
-    let three : n / 2 ^ 8 ≡ (a * 256 + b) * 256 + c = omega arith in
-    let four : n ≡ ((a * 256 + b) * 256 + c) * 256 + d = omega arith in (
-      omega arith,
-      ap (λ (x : ℕ). x % 256) two ∙ digits-mod a hb,
-      ap (λ (x : ℕ). x % 256) three ∙ digits-mod (a * 256 + b) hc,
-      ap (λ (x : ℕ). x % 256) four ∙ digits-mod ((a * 256 + b) * 256 + c) hd,
-    )
-
 -- ---- what is read in a primary address field
 
 module _ (aun flag : ℕ) where
   pub aun-back : aun < 2 ^ 32 → aunIn (primaryField aun flag) ≡ aun
   unfolding primaryField
   aun-back h =
-      ap (λ (a : ℕ). a * 2 ^ 24 + aun / 2 ^ 16 % 256 * 2 ^ 16 + aun / 2 ^ 8 % 256 * 2 ^ 8 + aun % 256) (restored-reordered (aun / 2 ^ 24) (omega arith))
-      ∙ number-back aun
+      ap (λ (a : ℕ). wordOf a (aun / 2 ^ 16 % 256) (aun / 2 ^ 8 % 256) (aun % 256)) (restored-reordered (aun / 2 ^ 24 % 256) (omega arith))
+      ∙ word-back aun h
 
   pub flag-back : flagIn (primaryField aun flag) ≡ flag
   unfolding primaryField
@@ -126,20 +116,20 @@ module _ (aun flag : ℕ) where
   unfolding addressField
   length-field = length-inverted (primaryField aun flag)
 
-module _ (aun flag : ℕ) (ha : aun < 2 ^ 32) (hf : flag < 256) where
+module _ (aun flag : ℕ) (hf : flag < 256) where
   bytes-primary : Bytes (primaryField aun flag)
   unfolding primaryField
   bytes-primary =
       let i = information aun flag in
-      bytes-append i (parity 4 i) (information-bytes aun flag ha hf) (parity-bytes 4 i)
+      bytes-append i (parity 4 i) (information-bytes aun flag hf) (parity-bytes 4 i)
 
   pub primary-roots : hasRoots 4 (primaryField aun flag) ≡ true
   unfolding primaryField
-  primary-roots = parity-test 4 (information aun flag) (information-bytes aun flag ha hf)
+  primary-roots = parity-test 4 (information aun flag) (information-bytes aun flag hf)
 
   pub primary-multiple : MultipleOf (generator 4) (primaryField aun flag)
   unfolding primaryField
-  primary-multiple = parity-multiple 4 (information aun flag) (information-bytes aun flag ha hf)
+  primary-multiple = parity-multiple 4 (information aun flag) (information-bytes aun flag hf)
 
   pub bytes-field : Bytes (addressField aun flag)
   unfolding addressField
@@ -156,9 +146,10 @@ module _ (f : List ℕ) (size : length f ≡ 9) (bytes : Bytes f) where
   information-in : take 5 f ≡ information (aunIn f) (flagIn f)
   unfolding tabulate
   information-in =
-      let back = bytes-back (restored (getD f 0 0)) (getD f 1 0) (getD f 2 0) (getD f 3 0) (aunIn f) (bytes 1) (bytes 2) (bytes 3) refl in
+      let back = bytes-back (restored (getD f 0 0)) (getD f 1 0) (getD f 2 0) (getD f 3 0) (restored-lt (getD f 0 0) (bytes 0)) (bytes 1) (bytes 2) (bytes 3) in
       is-tabulate 0 5 (λ k. getD f k 0) (take 5 f) (length-take-le 5 f (omega arith)) (λ k h. getD-take 5 f k 0 h)
-      ∙ cc (ap reordered (back .0) ∙ reordered-restored (getD f 0 0) (bytes 0), back .1, back .2, back .3)
+      ∙ ap (λ (high : ℕ). high ∷ getD f 1 0 ∷ getD f 2 0 ∷ getD f 3 0 ∷ flagIn f ∷ []) (sym (reordered-restored (getD f 0 0) (bytes 0)))
+      ∙ sym (ap (λ (l : List ℕ). reordered (getD l 0 0) ∷ getD l 1 0 ∷ getD l 2 0 ∷ getD l 3 0 ∷ flagIn f ∷ []) back)
 
   pub primary-only : hasRoots 4 f ≡ true → f ≡ primaryField (aunIn f) (flagIn f)
   unfolding primaryField

@@ -48,7 +48,7 @@ module _ (psn : ℕ) (side : List ℕ) (accepted : judged psn ≡ Done) (bytes :
   getD-fields y h = getD-tabulate 16 (fieldOf psn side) y [] h
 
   bytes-fields : (y : ℕ) → y < 16 → Bytes (getD (addressFields psn side) y [])
-  bytes-fields y h = rw (getD-fields y h) (bytes-field (aunOf psn y) (getD side y 0) (aun-lt psn accepted y h) (bytes y))
+  bytes-fields y h = rw (getD-fields y h) (bytes-field (aunOf psn y) (getD side y 0) (bytes y))
 
   access-byte-lt : (row C : ℕ) → C < 24 → accessByte (addressFields psn side) side row C < 256
   access-byte-lt row C h =
@@ -121,7 +121,7 @@ module _ (psn : ℕ) (side : List ℕ) (accepted : judged psn ≡ Done) (bytes :
 
   primary-is-there : (y : ℕ) → y < 16 → primaryIn (bisBlock psn side) y ≡ primaryField (aunOf psn y) (getD side y 0)
   unfolding primaryIn
-  primary-is-there y h = ap partlyInverted (field-is y h) ∙ primary-back (aunOf psn y) (getD side y 0) (aun-lt psn accepted y h) (bytes y)
+  primary-is-there y h = ap partlyInverted (field-is y h) ∙ primary-back (aunOf psn y) (getD side y 0) (bytes y)
 
   pub written-fields : firstWrongField (bisBlock psn side) ≡ 16
   unfolding firstWrongField wrongField
@@ -130,7 +130,7 @@ module _ (psn : ℕ) (side : List ℕ) (accepted : judged psn ≡ Done) (bytes :
       (record {
         fails = λ y h.
             ap (λ (f : List ℕ). not (hasRoots 4 f)) (primary-is-there y h)
-            ∙ ap not (primary-roots (aunOf psn y) (getD side y 0) (aun-lt psn accepted y h) (bytes y));
+            ∙ ap not (primary-roots (aunOf psn y) (getD side y 0) (bytes y));
       })
 
   pub written-psn : IsPsnOf (bisBlock psn side) psn

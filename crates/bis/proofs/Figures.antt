@@ -7,7 +7,7 @@ use native.Mathlib.Omega.{arith}
 use lib.ListN.{getD}
 use Rattle.laws.proofs.Finite.{all, all₂, equal-below₂, bounded-below₂}
 use Rattle.bis.specs.AccessBlock.{rowOfAF, columnOfAF, controlAt}
-use Rattle.bis.specs.BisCluster.{unitOf, rowInUnit, bisRow, bisColumn, byteAt, wordAt}
+use Rattle.bis.specs.BisCluster.{unitOf, rowInUnit, bisRow, bisColumn, wordByteAt, codeWordAt}
 
 abbrev at : List ℕ → ℕ → ℕ
 at l i = getD l i 0
@@ -78,7 +78,7 @@ last-units =
     []
 
 abbrev mapped : List ℕ → List ℕ
-mapped l = let row = 31 * at l 0 + at l 1 in line (at l 0) (at l 1) (byteAt row) (wordAt row 0) (wordAt row 1) (wordAt row 2)
+mapped l = let row = 31 * at l 0 + at l 1 in line (at l 0) (at l 1) (wordByteAt row) (codeWordAt row 0) (codeWordAt row 1) (codeWordAt row 2)
 
 pub figure-34 : map mapped first-units ≡ first-units
 figure-34 = refl

@@ -52,31 +52,31 @@ module _ (N C : ℕ) (hN : N < 62) (hC : C < 24) where
   unfolding all all₂
   bis-row-lt = bounded-below₂ 62 24 496 Bis.bisRow tt N C hN hC
 
-  pub bis-byte-there : Bis.byteAt (Bis.bisRow N C) ≡ N
+  pub bis-byte-there : Bis.wordByteAt (Bis.bisRow N C) ≡ N
   unfolding all all₂
-  bis-byte-there = equal-below₂ 62 24 (λ n c. Bis.byteAt (Bis.bisRow n c)) (λ n c. n) tt N C hN hC
+  bis-byte-there = equal-below₂ 62 24 (λ n c. Bis.wordByteAt (Bis.bisRow n c)) (λ n c. n) tt N C hN hC
 
-  pub bis-word-there : Bis.wordAt (Bis.bisRow N C) (Bis.bisColumn N C) ≡ C
+  pub bis-word-there : Bis.codeWordAt (Bis.bisRow N C) (Bis.bisColumn N C) ≡ C
   unfolding all all₂
-  bis-word-there = equal-below₂ 62 24 (λ n c. Bis.wordAt (Bis.bisRow n c) (Bis.bisColumn n c)) (λ n c. c) tt N C hN hC
+  bis-word-there = equal-below₂ 62 24 (λ n c. Bis.codeWordAt (Bis.bisRow n c) (Bis.bisColumn n c)) (λ n c. c) tt N C hN hC
 
 pub bis-column-lt : (N C : ℕ) → Bis.bisColumn N C < 3
 bis-column-lt N C = omega arith
 
 module _ (row column : ℕ) (hr : row < 496) (hc : column < 3) where
-  pub bis-byte-lt : Bis.byteAt row < 62
+  pub bis-byte-lt : Bis.wordByteAt row < 62
   bis-byte-lt = omega arith
 
-  pub bis-word-lt : Bis.wordAt row column < 24
+  pub bis-word-lt : Bis.codeWordAt row column < 24
   bis-word-lt = omega arith
 
-  pub bis-row-back : Bis.bisRow (Bis.byteAt row) (Bis.wordAt row column) ≡ row
+  pub bis-row-back : Bis.bisRow (Bis.wordByteAt row) (Bis.codeWordAt row column) ≡ row
   unfolding all all₂
-  bis-row-back = equal-below₂ 496 3 (λ r c. Bis.bisRow (Bis.byteAt r) (Bis.wordAt r c)) (λ r c. r) tt row column hr hc
+  bis-row-back = equal-below₂ 496 3 (λ r c. Bis.bisRow (Bis.wordByteAt r) (Bis.codeWordAt r c)) (λ r c. r) tt row column hr hc
 
-  pub bis-column-back : Bis.bisColumn (Bis.byteAt row) (Bis.wordAt row column) ≡ column
+  pub bis-column-back : Bis.bisColumn (Bis.wordByteAt row) (Bis.codeWordAt row column) ≡ column
   unfolding all all₂
-  bis-column-back = equal-below₂ 496 3 (λ r c. Bis.bisColumn (Bis.byteAt r) (Bis.wordAt r c)) (λ r c. c) tt row column hr hc
+  bis-column-back = equal-below₂ 496 3 (λ r c. Bis.bisColumn (Bis.wordByteAt r) (Bis.codeWordAt r c)) (λ r c. c) tt row column hr hc
 
 -- ---- each byte stands where the formulas put it
 

@@ -32,8 +32,8 @@ pub field-back : (aun flag : ℕ) → aun < 2 ^ 32 → flag < 256
     × (aunIn (partlyInverted (addressField aun flag)) ≡ aun)
     × (flagIn (partlyInverted (addressField aun flag)) ≡ flag)
 field-back aun flag ha hf =
-    let back = primary-back aun flag ha hf in
-    (ap (hasRoots 4) back ∙ primary-roots aun flag ha hf, ap aunIn back ∙ aun-back aun flag ha, ap flagIn back ∙ flag-back aun flag)
+    let back = primary-back aun flag hf in
+    (ap (hasRoots 4) back ∙ primary-roots aun flag hf, ap aunIn back ∙ aun-back aun flag ha, ap flagIn back ∙ flag-back aun flag)
 
 pub field-determined : (field : List ℕ) → length field ≡ 9 → Bytes field → hasRoots 4 (partlyInverted field) ≡ true
     → field ≡ addressField (aunIn (partlyInverted field)) (flagIn (partlyInverted field))
@@ -41,7 +41,7 @@ field-determined = field-only
 
 -- ---- 13.9.2.2, 13.12: a primary address field and a BIS code word are multiples of their generators
 
-pub field-multiple : (aun flag : ℕ) → aun < 2 ^ 32 → flag < 256 → MultipleOf (generator 4) (primaryField aun flag)
+pub field-multiple : (aun flag : ℕ) → flag < 256 → MultipleOf (generator 4) (primaryField aun flag)
 field-multiple = primary-multiple
 
 pub word-multiple : (psn : ℕ) (side : List ℕ) → judged psn ≡ Done → Side side → (C : ℕ) → C < 24 → MultipleOf (generator 32) (getD (bisBlock psn side) C [])

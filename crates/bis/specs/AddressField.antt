@@ -4,6 +4,7 @@ use mathlib.Core.List.{List, [], _∷_, _++_}
 use Prim.Native.Nat.{ℕ, _+_, _*_, _-_, _/_, _%_, _^_}
 use lib.ListN.{getD}
 use Rattle.laws.specs.Tabulate.{tabulate}
+use Rattle.words.specs.Words.{wordOf}
 use Rattle.column.specs.Column.{parity}
 
 -- ---- the primary address field
@@ -14,7 +15,7 @@ reordered high = high / 16 * 16 + high % 2 * 8 + high / 2 % 8
 
 -- PAF0 to PAF4: the AUN's four bytes, high first, and the flag byte
 abbrev pub information : ℕ → ℕ → List ℕ
-information aun flag = reordered (aun / 2 ^ 24) ∷ aun / 2 ^ 16 % 256 ∷ aun / 2 ^ 8 % 256 ∷ aun % 256 ∷ flag ∷ []
+information aun flag = reordered (aun / 2 ^ 24 % 256) ∷ aun / 2 ^ 16 % 256 ∷ aun / 2 ^ 8 % 256 ∷ aun % 256 ∷ flag ∷ []
 
 -- with PAF5 to PAF8, the parity of a (9,5,5) code (formula 33)
 unfoldable pub primaryField : ℕ → ℕ → List ℕ
@@ -43,7 +44,7 @@ abbrev pub restored : ℕ → ℕ
 restored paf0 = paf0 / 16 * 16 + paf0 % 8 * 2 + paf0 / 8 % 2
 
 abbrev pub aunIn : List ℕ → ℕ
-aunIn primary = restored (getD primary 0 0) * 2 ^ 24 + getD primary 1 0 * 2 ^ 16 + getD primary 2 0 * 2 ^ 8 + getD primary 3 0
+aunIn primary = wordOf (restored (getD primary 0 0)) (getD primary 1 0) (getD primary 2 0) (getD primary 3 0)
 
 abbrev pub flagIn : List ℕ → ℕ
 flagIn primary = getD primary 4 0

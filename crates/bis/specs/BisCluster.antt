@@ -18,12 +18,12 @@ abbrev pub bisRow : ℕ → ℕ → ℕ
 bisRow N C = 31 * unitOf N C + rowInUnit N
 
 -- the same the other way (proofs/Mapping: word-place): byte and code word of what stands in a row and a column of the cluster
-abbrev pub byteAt : ℕ → ℕ
-byteAt row = 2 * (row % 31) + row / 31 / 8
+abbrev pub wordByteAt : ℕ → ℕ
+wordByteAt row = 2 * (row % 31) + row / 31 / 8
 
-abbrev pub wordAt : ℕ → ℕ → ℕ
-wordAt row column = 3 * ((row % 31 + 8 - row / 31 % 8) % 8) + (column + 2 * (row % 31)) % 3
+abbrev pub codeWordAt : ℕ → ℕ → ℕ
+codeWordAt row column = 3 * ((row % 31 + 8 - row / 31 % 8) % 8) + (column + 2 * (row % 31)) % 3
 
 -- the byte in a row and a column of the BIS cluster
 abbrev pub bisByte : List (List ℕ) → ℕ → ℕ → ℕ
-bisByte block row column = getD (getD block (wordAt row column) []) (byteAt row) 0
+bisByte block row column = getD (getD block (codeWordAt row column) []) (wordByteAt row) 0

@@ -7,6 +7,7 @@ use borrow.Author.Tests.{lt-ltb, le-ltb, eq-eqb, ne-eqb}
 use lib.Dec.{ltb}
 use lib.ListN.{length, getD}
 use Rattle.laws.proofs.Fill.{Upto, upto-all}
+use Rattle.words.specs.Words.{wordOf}
 use Rattle.column.specs.Column.{hasRoots}
 use Rattle.answer.specs.declared.Answer.the-variants.{Done}
 use Rattle.answer.specs.Answer.{isDone}
@@ -16,7 +17,7 @@ use Rattle.address.specs.declared.PsnAnswer.{PsnAnswer}
 use Rattle.address.specs.Judged.{judged}
 use Rattle.address.specs.Conversions.{aunOf, psnToAun, aunToPsn}
 use Rattle.address.proofs.Accepted.{aun-answered, answered-accepted}
-use Rattle.bis.specs.AddressField.{flagIn}
+use Rattle.bis.specs.AddressField.{restored, aunIn, flagIn}
 use Rattle.bis.specs.AccessBlock.{rowOfUC, columnOfUC}
 use Rattle.bis.specs.Reading.{wrongColumn, primaryIn, wrongField, aunAt, otherUnit, firstOtherUnit, foundIf, psnIn, sideByteIn, sideIn, sideOut}
 use Rattle.bis.specs.declared.PsnFound.the-variants.{Found, NotFound}
@@ -32,6 +33,12 @@ pub field-judged : (block : List (List ℕ)) (y : ℕ) {primary : List ℕ} {r b
     → wrongField block y ≡ b
 unfolding wrongField
 field-judged block y read found e = ap (λ (l : List ℕ). not (hasRoots 4 l)) (sym read) ∙ ap not (sym found) ∙ e
+
+-- n is the word of a primary address field's first bytes, the first restored
+pub aun-read : (block : List (List ℕ)) (y : ℕ) {primary : List ℕ} {high n : ℕ} → primary ≡ primaryIn block y → high ≡ restored (getD primary 0 0)
+    → n ≡ wordOf high (getD primary 1 0) (getD primary 2 0) (getD primary 3 0) → n ≡ aunAt block y
+aun-read block y {primary} read first e =
+    e ∙ ap (λ (h : ℕ). wordOf h (getD primary 1 0) (getD primary 2 0) (getD primary 3 0)) first ∙ ap aunIn read
 
 -- a is the AUN that is read, and unit what is answered of the PSN
 module _ (block : List (List ℕ)) (psn y : ℕ) {a : ℕ} {unit : AunAnswer} (read : a ≡ aunAt block y) (h : y < 16) (accepted : judged psn ≡ Done) (answered : unit ≡ psnToAun psn y) where

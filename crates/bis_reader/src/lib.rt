@@ -6,8 +6,9 @@ use address::Psn;
 use address_field::steps::partly_inverted;
 use bis::Block;
 use bis::PsnFound;
+use words::word;
 ghost use mathlib.Core.Path.{_≡_};
-ghost use Prim.Native.Nat.{_+_, _*_, _-_, _^_, _<_};
+ghost use Prim.Native.Nat.{_-_, _<_};
 ghost use Rattle.answer.specs.declared.Answer.the-variants.{Done};
 ghost use Rattle.address.specs.Judged.{judged};
 ghost use Rattle.bis.specs.AddressField.{restored};
@@ -69,20 +70,13 @@ fn restored(paf0: u8) -> u8
     paf0 / 16 * 16 + paf0 % 8 * 2 + paf0 / 8 % 2
 }
 
-// The number of four bytes, high first.
-fn number(a: u8, b: u8, c: u8, d: u8) -> u32
-    ensures { λ r. ⌜ r ≡ a * 2 ^ 24 + b * 2 ^ 16 + c * 2 ^ 8 + d ⌝ }
-{
-    a as u32 * 0x0100_0000 + b as u32 * 0x0001_0000 + c as u32 * 0x0000_0100 + d as u32
-}
-
 // The AUN of address unit y.
 fn aun_in(block: &Block, y: usize) -> Aun
     requires { ⌜ y < 16 ⌝ }
     ensures { λ r. ⌜ r .0 ≡ aunAt (now (block .entry)) y ⌝ }
 {
     let primary = primary_in(block, y);
-    Aun(number(restored(primary[0]), primary[1], primary[2], primary[3]))
+    Aun(word(restored(primary[0]), primary[1], primary[2], primary[3]))
 }
 
 // The lowest address unit whose AUN is not the PSN's, or 16.

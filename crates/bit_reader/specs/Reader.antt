@@ -8,12 +8,12 @@ use Rattle.bits.specs.declared.Step.{Step}
 use Rattle.bit_reader.specs.declared.ImageReader.{ImageReader}
 
 -- the bits of the reader's image
-abbrev pub bitsIn : ImageReader → List ℕ
-bitsIn r = bitsOf (now (r .image))
+abbrev pub readerBits : ImageReader → List ℕ
+readerBits r = bitsOf (now (r .image))
 
 -- the step from the reader's position
 abbrev pub stepOf : ImageReader → Step
-stepOf r = stepAt (bitsIn r) (r .position)
+stepOf r = stepAt (readerBits r) (r .position)
 
 -- the same image, at the position p
 abbrev pub placed : ImageReader → ℕ → ImageReader

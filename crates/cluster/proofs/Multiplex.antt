@@ -128,7 +128,7 @@ multiplexed-back work size = sym (is-tabulate 0 76880 (λ k. rowByte (ldcIn work
         let column = k % 155 / 39 in
         let hr : row < 496 = omega arith in
         let hc : column < 3 = omega arith in
-        getD-block-in work (Bis.byteAt row) (Bis.wordAt row column) (bis-byte-lt row column hr hc) (bis-word-lt row column hr hc)
+        getD-block-in work (Bis.wordByteAt row) (Bis.codeWordAt row column) (bis-byte-lt row column hr hc) (bis-word-lt row column hr hc)
         ∙ ap₂ (λ (r c : ℕ). getD work (bisIndex r c) 0) (bis-row-back row column hr hc) (bis-column-back row column hr hc)
         ∙ ap (λ (i : ℕ). getD work i 0) (index-of-bis k e)
 
@@ -162,6 +162,6 @@ bytes-multiplexed ldc block bytes is = bytes-tabulate 76880 (λ k. rowByte ldc b
         elim (ℕ-discrete (k % 155 % 39) 38) [
           | yes e ↦
               rw (eq-eqb (k % 155 % 39) 38 e)
-              (is .bytes (Bis.wordAt (k / 155) (k % 155 / 39)) (bis-word-lt (k / 155) (k % 155 / 39) (omega arith) (omega arith)) (Bis.byteAt (k / 155)))
+              (is .bytes (Bis.codeWordAt (k / 155) (k % 155 / 39)) (bis-word-lt (k / 155) (k % 155 / 39) (omega arith) (omega arith)) (Bis.wordByteAt (k / 155)))
           | no e ↦ rw (ne-eqb (k % 155 % 39) 38 e) (bytes (k / 155) (k % 155 - k % 155 / 39) (omega arith) (omega arith))
         ]

@@ -11,7 +11,7 @@ ghost use lib.ListN.{length, getD, take, drop};
 ghost use Rattle.laws.specs.Bytes.{Bytes};
 ghost use Rattle.laws.specs.Tabulate.{tabulate};
 ghost use Rattle.column.specs.Column.{remainder, parity, hasRoots, EndsIn};
-ghost use Rattle.remainders.specs.steps.Remainders.{divisor, leaves, AreRemainders, Padded, front, added};
+ghost use Rattle.remainders.specs.steps.Remainders.{divisor, leaves, AreRemainders, Padded, front, leavesAdded};
 
 fn entry(table: &Remainders, k: usize, b: usize, j: usize) -> u8
     requires { ⌜ AreRemainders (now table) × ((k < 8) × ((b < 256) × (j < 32))) ⌝ }
@@ -37,7 +37,7 @@ fn fronts(was: &Register, message: &[u8], at: usize) -> [usize; 8]
 // Byte j of what the eight leave, added to a byte.
 fn added(table: &Remainders, eight: [usize; 8], j: usize, byte: u8) -> u8
     requires { ⌜ AreRemainders (now table) × (Bytes eight × (j < 32)) ⌝ }
-    ensures { λ r. ⌜ r ≡ added eight j byte 8 ⌝ }
+    ensures { λ r. ⌜ r ≡ leavesAdded eight j byte 8 ⌝ }
 {
     let mut v = byte;
     let mut k = 0;

@@ -16,7 +16,7 @@ use Rattle.laws.proofs.Booleans.{beq-same}
 use Rattle.conversion.specs.declared.Row.{Row as CodeRow}
 use Rattle.conversion.specs.declared.When.{When as CodeWhen}
 use Rattle.conversion.specs.declared.When.the-variants.{Always, AfterOne, AfterZero, Before010, AtEnd}
-use Rattle.conversion.specs.steps.Rows.{IsRow, Sized, codedWhen, coded, whenNumber, whenAt, packed}
+use Rattle.conversion.specs.steps.Rows.{IsRow, Sized, codedWhen, coded, whenNumber, whenAt, packedRow}
 
 pub row-sized : (k : ℕ) → k < 16 → Sized k (length (rowAt k .pairs))
 unfolding all
@@ -132,7 +132,7 @@ module _ (a w d m v : ℕ) (e : v ≡ 0x800000 * a + 0x100000 * w + 0x1000 * d +
   part-groups = omega arith
 
 -- a number's parts are the row that was packed
-module _ (k v : ℕ) (h : k < 16) (e : v ≡ packed (coded (rowAt k))) where
+module _ (k v : ℕ) (h : k < 16) (e : v ≡ packedRow (coded (rowAt k))) where
   below-256 : number (dataBits (rowAt k .pairs)) < 256
   unfolding all number
   below-256 = bounded-below 16 256 (λ k. number (dataBits (rowAt k .pairs))) tt k h

@@ -18,7 +18,7 @@ use Rattle.modulation.proofs.Bits.{bits-append, length-bits}
 use Rattle.modulation.proofs.Fronts.{bits-groups}
 use Rattle.modulation.proofs.Size.{size}
 use Rattle.modulation.proofs.Words.{Word, word-at, modulate-none, nextBit, inFront}
-use Rattle.conversion.specs.steps.Few.{fewPairs, fittingRow, Fitting, Given}
+use Rattle.conversion.specs.steps.Few.{fewPairs, fittingRow, Fitting, BitsGiven}
 use Rattle.conversion.specs.steps.Rows.{Sized}
 use Rattle.conversion.proofs.FewPairs.{few-size, few-rest}
 
@@ -135,7 +135,7 @@ module _ {before : Bool} {n p : ℕ} where
           ends = ends-step k t (modulate b (fewPairs left rest)) f step et (m .ends);
         }
 
-    pub modulating-all : n ≤ 6 → left ≤ 0 → Given (modulate before (fewPairs n p)) value t
+    pub modulating-all : n ≤ 6 → left ≤ 0 → BitsGiven (modulate before (fewPairs n p)) value t
     modulating-all h end =
         let over = no-words b left rest end in
         record {

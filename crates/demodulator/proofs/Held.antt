@@ -12,7 +12,7 @@ use Rattle.laws.proofs.Finite.{all, all-at, all₂, all₂-at, all₃, all₃-a
 use Rattle.modulation.specs.Modulation.{Three, threeNumber}
 use Rattle.laws.proofs.Booleans.{implies, given}
 use Rattle.modulation.proofs.Fronts.{three-below}
-use Rattle.automaton.specs.Automaton.{reads, ends, next, added, ending, stateAfter, numberAfter}
+use Rattle.automaton.specs.Automaton.{transitions, ends, next, valueAdded, ending, stateAfter, numberAfter}
 use Rattle.automaton.specs.steps.Table.{After, limit}
 use Rattle.demodulator.specs.steps.Held.{Held, NextWord, LastWord}
 use Rattle.automaton.proofs.Entries.{entry-state, limit-pos, number-limit, number-shift, state-small}
@@ -21,13 +21,13 @@ use Rattle.automaton.proofs.Entries.{entry-state, limit-pos, number-limit, numb
 abbrev Aligned : ℕ → ℕ → Type 0
 Aligned s a = a % 32 % limit s ≡ 0
 
-step-test : (s g r : ℕ) → s < 18 → g < 8 → r < 32 → T (implies (eqb (r % limit s) 0) (eqb ((4 * r + added s g) % 32 % limit (next s g)) 0))
-unfolding all all₂ all₃ reads
-step-test = all₃-at 18 8 32 (λ s g r. implies (eqb (r % limit s) 0) (eqb ((4 * r + added s g) % 32 % limit (next s g)) 0)) tt
+step-test : (s g r : ℕ) → s < 18 → g < 8 → r < 32 → T (implies (eqb (r % limit s) 0) (eqb ((4 * r + valueAdded s g) % 32 % limit (next s g)) 0))
+unfolding all all₂ all₃ transitions
+step-test = all₃-at 18 8 32 (λ s g r. implies (eqb (r % limit s) 0) (eqb ((4 * r + valueAdded s g) % 32 % limit (next s g)) 0)) tt
 
-aligned-step : (s g a : ℕ) → s < 18 → g < 8 → Aligned s a → Aligned (next s g) (4 * a + added s g)
+aligned-step : (s g a : ℕ) → s < 18 → g < 8 → Aligned s a → Aligned (next s g) (4 * a + valueAdded s g)
 aligned-step s g a hs hg h =
-    let low : (4 * a + added s g) % 32 ≡ (4 * (a % 32) + added s g) % 32 = cut a (added s g) in
+    let low : (4 * a + valueAdded s g) % 32 ≡ (4 * (a % 32) + valueAdded s g) % 32 = cut a (valueAdded s g) in
     ap (λ (x : ℕ). x % limit (next s g)) low
     ∙ eqb→eq _ 0 (given (eqb (a % 32 % limit s) 0) _ (step-test s g (a % 32) hs hg (omega arith)) (eq-eqb (a % 32 % limit s) 0 h))
   where
@@ -38,7 +38,7 @@ aligned : (s a : ℕ) (gs : List Three) → s < 18 → Aligned s a → Aligned (
 unfolding stateAfter numberAfter
 aligned s a [] hs h = h
 aligned s a (g ∷ gs) hs h =
-    aligned (next s (threeNumber g)) (4 * a + added s (threeNumber g)) gs (entry-state s (threeNumber g) hs (three-below g)) (aligned-step s (threeNumber g) a hs (three-below g) h)
+    aligned (next s (threeNumber g)) (4 * a + valueAdded s (threeNumber g)) gs (entry-state s (threeNumber g) hs (three-below g)) (aligned-step s (threeNumber g) a hs (three-below g) h)
 
 aligned-zero : (s : ℕ) → s < 18 → Aligned s 0
 unfolding all

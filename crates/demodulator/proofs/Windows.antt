@@ -13,19 +13,19 @@ use Rattle.modulation.specs.Modulation.{Three, threeNumber}
 use Rattle.modulation.specs.Bits.{three}
 use Rattle.modulation.proofs.Fronts.{three-injective}
 use Rattle.modulation.specs.Groups.{groupsAt}
-use Rattle.automaton.specs.steps.Table.{group, twoGroups, threeGroups}
+use Rattle.automaton.specs.steps.Table.{groupNumbered, twoGroups, threeGroups}
 
 -- ---- groups by number
 
-group-three : (x y z : ℕ) → x < 2 → y < 2 → z < 2 → group (4 * x + 2 * y + z) ≡ three x y z
+group-three : (x y z : ℕ) → x < 2 → y < 2 → z < 2 → groupNumbered (4 * x + 2 * y + z) ≡ three x y z
 unfolding all all₂ all₃
 group-three x y z hx hy hz =
-    three-injective (group (4 * x + 2 * y + z)) (three x y z)
-    (eqb→eq _ _ (all₃-at 2 2 2 (λ x y z. eqb (threeNumber (group (4 * x + 2 * y + z))) (threeNumber (three x y z))) tt x y z hx hy hz))
+    three-injective (groupNumbered (4 * x + 2 * y + z)) (three x y z)
+    (eqb→eq _ _ (all₃-at 2 2 2 (λ x y z. eqb (threeNumber (groupNumbered (4 * x + 2 * y + z))) (threeNumber (three x y z))) tt x y z hx hy hz))
 
 module _ (b : List ℕ) (h : Bits b) where
-  group-here : (p g : ℕ) → g ≡ threeAt b p → group g ≡ three (getD b p 0) (getD b (p + 1) 0) (getD b (p + 2) 0)
-  group-here p g e = ap group e ∙ group-three (getD b p 0) (getD b (p + 1) 0) (getD b (p + 2) 0) (h p) (h (p + 1)) (h (p + 2))
+  group-here : (p g : ℕ) → g ≡ threeAt b p → groupNumbered g ≡ three (getD b p 0) (getD b (p + 1) 0) (getD b (p + 2) 0)
+  group-here p g e = ap groupNumbered e ∙ group-three (getD b p 0) (getD b (p + 1) 0) (getD b (p + 2) 0) (h p) (h (p + 1)) (h (p + 2))
 
   three-below-8 : (p : ℕ) → threeAt b p < 8
   three-below-8 p = omega (arith, h p, h (p + 1), h (p + 2))

@@ -1,43 +1,21 @@
 -- The error-detection code is the remainder of I(x), and its four bytes are the only ones that make the bits a multiple of G(x). Assumes nothing.
 use mathlib.Core.Path.{_≡_, refl, sym, ap, subst, _∙_}
-use mathlib.Core.List.{List, [], _∷_, _++_}
-use Prim.Native.Nat.{ℕ, _+_, _*_, _/_, _%_, _^_, _<_}
-use native.Mathlib.Nat.{zero-mul, mod-lt, mod-eq-of-lt, zero-lt-suc}
+use mathlib.Core.List.{List, _++_}
+use Prim.Native.Nat.{ℕ, _+_, _*_, _^_, _<_}
+use native.Mathlib.Nat.{zero-mul}
 use native.Mathlib.Omega.{arith}
 use lib.Bits.{bitXor, xor-self, xor-shifted}
 use lib.ListN.{length}
-use lib.Pow.{split, shr-shr, shr-mod}
 use Rattle.laws.specs.Bytes.{Bytes}
-use Rattle.laws.proofs.Bytes.{bytes-none, bytes-cons}
 use Rattle.bits.specs.Bits.{bitsOf, number}
 use Rattle.bits.proofs.Bits.{length-bits, bits-bits}
 use Rattle.bits.proofs.Number.{number-lt}
-use Rattle.edc.specs.Edc.{MultipleOfG, remainder, edcOf, fourBytes, edcBytes}
+use Rattle.edc.specs.Edc.{MultipleOfG, remainderByG, edcOf, edcBytes}
+use Rattle.words.specs.Words.{fourBytes}
+use Rattle.words.proofs.Words.{number-of-four, bytes-word}
 use Rattle.laws.proofs.Xor.{xor-equal}
 use Rattle.edc.proofs.Division.{Leaves, leaves-self, leaves-add, leaves-one, leaves-zero, multiple-leaves, leaves-bits}
-use Rattle.bits.proofs.Concat.{number-bytes, number-byte, bytes-equal}
-
--- ---- four bytes
-
-module _ (a b c d : ℕ) (ha : a < 256) (hb : b < 256) (hc : c < 256) (hd : d < 256) where
-  pub number-four : number (bitsOf (a ∷ b ∷ c ∷ d ∷ [])) ≡ a * 2 ^ 24 + b * 2 ^ 16 + c * 2 ^ 8 + d
-  number-four =
-      let byte : (x : ℕ) → x < 256 → number (bitsOf (x ∷ [])) ≡ x = λ x h. number-byte x ∙ mod-eq-of-lt h in
-      omega (arith, number-bytes (a ∷ []) (b ∷ c ∷ d ∷ []), number-bytes (b ∷ []) (c ∷ d ∷ []), number-bytes (c ∷ []) (d ∷ []), byte a ha, byte b hb, byte c hc, byte d hd)
-
-  bytes-four : Bytes (a ∷ b ∷ c ∷ d ∷ [])
-  bytes-four = bytes-cons a (b ∷ c ∷ d ∷ []) ha (bytes-cons b (c ∷ d ∷ []) hb (bytes-cons c (d ∷ []) hc (bytes-cons d [] hd bytes-none)))
-
-byte : (v : ℕ) → v % 256 < 256
-byte v = mod-lt v (zero-lt-suc 255)
-
-pub number-of-four : (v : ℕ) → v < 2 ^ 32 → number (bitsOf (fourBytes v)) ≡ v
-number-of-four v h =
-    let low : v / 2 ^ 8 * 2 ^ 8 + v % 256 ≡ v = split v 8 in
-    let second : v / 2 ^ 16 * 2 ^ 8 + v / 2 ^ 8 % 256 ≡ v / 2 ^ 8 = ap (λ (x : ℕ). x * 2 ^ 8 + v / 2 ^ 8 % 256) (sym (shr-shr v 8 8)) ∙ split (v / 2 ^ 8) 8 in
-    let third : v / 2 ^ 24 * 2 ^ 8 + v / 2 ^ 16 % 256 ≡ v / 2 ^ 16 = ap (λ (x : ℕ). x * 2 ^ 8 + v / 2 ^ 16 % 256) (sym (shr-shr v 16 8)) ∙ split (v / 2 ^ 16) 8 in
-    let high : v / 2 ^ 24 % 256 ≡ v / 2 ^ 24 = shr-mod 8 24 h in
-    number-four (v / 2 ^ 24 % 256) (v / 2 ^ 16 % 256) (v / 2 ^ 8 % 256) (v % 256) (byte (v / 2 ^ 24)) (byte (v / 2 ^ 16)) (byte (v / 2 ^ 8)) (byte v) ∙ omega arith
+use Rattle.bits.proofs.Concat.{number-bytes, bytes-equal}
 
 -- ---- the remainder
 
@@ -46,8 +24,8 @@ pub edc-leaves : (l : List ℕ) → Leaves (number (bitsOf l) * 2 ^ 32) (edcOf l
 unfolding edcOf
 edc-leaves l =
     let bits : List ℕ = bitsOf (l ++ fourBytes 0) in
-    let whole : 0 * 2 ^ length bits + number bits ≡ number (bitsOf l) * 2 ^ 32 = omega (arith, zero-mul (2 ^ length bits), number-bytes l (fourBytes 0), number-four 0 0 0 0 (omega arith) (omega arith) (omega arith) (omega arith)) in
-    subst (λ (n : ℕ). Leaves n (remainder 0 bits)) whole (leaves-bits bits (bits-bits (l ++ fourBytes 0)) (leaves-self 0 (omega arith)))
+    let whole : 0 * 2 ^ length bits + number bits ≡ number (bitsOf l) * 2 ^ 32 = omega (arith, zero-mul (2 ^ length bits), number-bytes l (fourBytes 0), number-of-four 0 (omega arith)) in
+    subst (λ (n : ℕ). Leaves n (remainderByG 0 bits)) whole (leaves-bits bits (bits-bits (l ++ fourBytes 0)) (leaves-self 0 (omega arith)))
 
 pub edc-lt : (l : List ℕ) → edcOf l < 2 ^ 32
 edc-lt l = edc-leaves l .low
@@ -64,9 +42,7 @@ length-edc l = refl
 
 pub bytes-edc : (l : List ℕ) → Bytes (edcBytes l)
 unfolding edcBytes
-bytes-edc l =
-    let v : ℕ = edcOf l in
-    bytes-four (v / 2 ^ 24 % 256) (v / 2 ^ 16 % 256) (v / 2 ^ 8 % 256) (v % 256) (byte (v / 2 ^ 24)) (byte (v / 2 ^ 16)) (byte (v / 2 ^ 8)) (byte v)
+bytes-edc l = bytes-word (edcOf l)
 
 -- ---- four bytes behind others
 

@@ -10,7 +10,7 @@ use lib.Bits.{bitXor, xor-comm, xor-self, xor-zero-r, xor-lt, xor-block, xor-shi
 use lib.ListN.{length}
 use Rattle.laws.proofs.Xor.{xor-assoc, xor-cancel, xor-left, xor-equal, xor-scaled}
 use Rattle.bits.specs.Bits.{Bits, number}
-use Rattle.edc.specs.Edc.{generator, timesG, MultipleOfG, divided, remainder}
+use Rattle.edc.specs.Edc.{polynomialG, timesG, MultipleOfG, divided, remainderByG}
 use Rattle.edc.proofs.Polynomial.{times-zero, times-one, times-add, times-scaled, times-low}
 
 -- r is the remainder of p(x)
@@ -59,10 +59,10 @@ abbrev pub tail : ℕ
 tail = 2 ^ 31 + 2 ^ 4 + 1
 
 -- what has a degree of 32 loses x^32 with G(x)
-pub taken-off : (d : ℕ) → 2 ^ 32 ≤ d → d < 2 ^ 33 → bitXor d generator ≡ bitXor (d - 2 ^ 32) tail
+pub taken-off : (d : ℕ) → 2 ^ 32 ≤ d → d < 2 ^ 33 → bitXor d polynomialG ≡ bitXor (d - 2 ^ 32) tail
 taken-off d h k =
     let split : d ≡ 1 * 2 ^ 32 + (d - 2 ^ 32) = omega arith in
-    ap (λ (x : ℕ). bitXor x generator) split ∙ xor-block 32 1 1 (d - 2 ^ 32) tail (omega arith) (omega arith) ∙ zero-add (bitXor (d - 2 ^ 32) tail)
+    ap (λ (x : ℕ). bitXor x polynomialG) split ∙ xor-block 32 1 1 (d - 2 ^ 32) tail (omega arith) (omega arith) ∙ zero-add (bitXor (d - 2 ^ 32) tail)
 
 module _ (p r b : ℕ) (hb : b < 2) (l : Leaves p r) where
   -- before G(x) is taken off
@@ -74,16 +74,16 @@ module _ (p r b : ℕ) (hb : b < 2) (l : Leaves p r) where
       ∙ xor-assoc (timesG (l .quotient) * 2) (r * 2) b
       ∙ ap₂ bitXor (sym (times-scaled (l .quotient) 1)) (xor-shifted r 1 b hb)
 
-  reduced : 2 ^ 32 ≤ r * 2 + b → Leaves (p * 2 + b) (bitXor (r * 2 + b) generator)
+  reduced : 2 ^ 32 ≤ r * 2 + b → Leaves (p * 2 + b) (bitXor (r * 2 + b) polynomialG)
   reduced h =
       record {
         low = omega (arith, taken-off (r * 2 + b) h (omega (arith, l .low)), xor-lt 32 (r * 2 + b - 2 ^ 32) tail (omega (arith, l .low)) (omega arith));
         quotient = bitXor (l .quotient * 2) 1;
         whole =
             doubled
-            ∙ sym (ap (λ (x : ℕ). bitXor x (bitXor (r * 2 + b) generator)) (times-add (l .quotient * 2) 1 ∙ ap (bitXor (timesG (l .quotient * 2))) times-one)
-            ∙ xor-assoc (timesG (l .quotient * 2)) generator (bitXor (r * 2 + b) generator)
-            ∙ ap (bitXor (timesG (l .quotient * 2))) (xor-comm generator (bitXor (r * 2 + b) generator) ∙ xor-cancel (r * 2 + b) generator));
+            ∙ sym (ap (λ (x : ℕ). bitXor x (bitXor (r * 2 + b) polynomialG)) (times-add (l .quotient * 2) 1 ∙ ap (bitXor (timesG (l .quotient * 2))) times-one)
+            ∙ xor-assoc (timesG (l .quotient * 2)) polynomialG (bitXor (r * 2 + b) polynomialG)
+            ∙ ap (bitXor (timesG (l .quotient * 2))) (xor-comm polynomialG (bitXor (r * 2 + b) polynomialG) ∙ xor-cancel (r * 2 + b) polynomialG));
       }
 
   pub leaves-more : Leaves (p * 2 + b) (divided r b)
@@ -95,10 +95,10 @@ module _ (p r b : ℕ) (hb : b < 2) (l : Leaves p r) where
       ]
 
 -- the remainder of p(x), then bits
-pub leaves-bits : (b : List ℕ) {p r : ℕ} → Bits b → Leaves p r → Leaves (p * 2 ^ length b + number b) (remainder r b)
-unfolding remainder number
+pub leaves-bits : (b : List ℕ) {p r : ℕ} → Bits b → Leaves p r → Leaves (p * 2 ^ length b + number b) (remainderByG r b)
+unfolding remainderByG number
 leaves-bits [] {p} {r} bits l = subst (λ (n : ℕ). Leaves n r) (omega arith) l
 leaves-bits (x ∷ xs) {p} {r} bits l =
     let c : ℕ = 2 ^ length xs in
     let shifted : (p * 2 + x) * c + number xs ≡ p * 2 ^ suc (length xs) + (x * c + number xs) = rw (pow-suc 2 (length xs), mul-comm c 2, ← mul-assoc p 2 c, add-mul (p * 2) x c) (omega arith) in
-    subst (λ (n : ℕ). Leaves n (remainder (divided r x) xs)) shifted (leaves-bits xs (λ i. bits (suc i)) (leaves-more p r x (bits 0) l))
+    subst (λ (n : ℕ). Leaves n (remainderByG (divided r x) xs)) shifted (leaves-bits xs (λ i. bits (suc i)) (leaves-more p r x (bits 0) l))

@@ -9,32 +9,24 @@ use lib.ListN.{length, getD, take, drop, length-drop}
 use lib.Seq.{length-take-le, take-add, take-suc, take-all, drop-cons}
 use Rattle.laws.specs.Tabulate.{tabulate}
 use Rattle.bits.specs.Bits.{bitsOf, number}
-use Rattle.edc.specs.Edc.{edcOf, fourBytes}
+use Rattle.edc.specs.Edc.{edcOf}
+use Rattle.words.specs.Words.{wordAt, fourBytes}
+use Rattle.words.proofs.Words.{word-at-number}
+use Rattle.laws.specs.Bytes.{Bytes}
 use Rattle.edc.proofs.Division.{leaves-self, leaves-one}
 use Rattle.edc.proofs.Detection.{edc-leaves}
 use Rattle.edc.proofs.Register.{edc-four-more, edc-byte-more}
-
--- four bytes of a list, one by one
-pub four-at : (l : List ℕ) (at : ℕ) → at + 4 ≤ length l → getD l at 0 ∷ getD l (at + 1) 0 ∷ getD l (at + 2) 0 ∷ getD l (at + 3) 0 ∷ [] ≡ take 4 (drop at l)
-four-at l at h =
-    let one : suc at ≡ at + 1 = omega arith in
-    let two : suc (suc at) ≡ at + 2 = omega arith in
-    let three : suc (suc (suc at)) ≡ at + 3 = omega arith in
-    sym (rw (drop-cons l at 0 (omega arith), drop-cons l (suc at) 0 (omega arith), drop-cons l (suc (suc at)) 0 (omega arith), drop-cons l (suc (suc (suc at))) 0 (omega arith), three, two, one))
-
-pub word-at : (l : List ℕ) (at r : ℕ) → at + 4 ≤ length l → r ≡ number (bitsOf (getD l at 0 ∷ getD l (at + 1) 0 ∷ getD l (at + 2) 0 ∷ getD l (at + 3) 0 ∷ [])) → r ≡ number (bitsOf (take 4 (drop at l)))
-word-at l at r h e = e ∙ ap (λ (x : List ℕ). number (bitsOf x)) (four-at l at h)
 
 pub none-passed : 0 ≡ edcOf []
 unfolding bitsOf number tabulate
 none-passed = leaves-one (leaves-self 0 (omega arith)) (edc-leaves [])
 
-pub four-passed : (l : List ℕ) (k reg w next : ℕ) → k < length l / 4 → reg ≡ edcOf (take (4 * k) l) → w ≡ number (bitsOf (take 4 (drop (4 * k) l)))
+pub four-passed : (l : List ℕ) (k reg w next : ℕ) → Bytes l → k < length l / 4 → reg ≡ edcOf (take (4 * k) l) → w ≡ wordAt l (4 * k)
     → next ≡ edcOf (fourBytes (bitXor reg w)) → next ≡ edcOf (take (4 * (k + 1)) l)
-four-passed l k reg w next h er ew en =
+four-passed l k reg w next bytes h er ew en =
     let next-four : 4 * (k + 1) ≡ 4 * k + 4 = omega arith in
     let size : length (take 4 (drop (4 * k) l)) ≡ 4 = length-take-le 4 (drop (4 * k) l) (omega (arith, length-drop (4 * k) l)) in
-    rw (next-four, take-add (4 * k) 4 l, edc-four-more (take (4 * k) l) (take 4 (drop (4 * k) l)) size, ← er, ← ew) en
+    rw (next-four, take-add (4 * k) 4 l, edc-four-more (take (4 * k) l) (take 4 (drop (4 * k) l)) size, ← er, ← word-at-number l (4 * k) bytes (omega arith), ← ew) en
 
 pub words-passed : (l : List ℕ) (k reg : ℕ) → k ≤ length l / 4 → length l / 4 ≤ k → reg ≡ edcOf (take (4 * k) l) → reg ≡ edcOf (take (4 * (length l / 4)) l)
 words-passed l k reg h g e = let end : k ≡ length l / 4 = omega arith in e ∙ ap (λ (n : ℕ). edcOf (take (4 * n) l)) end

@@ -9,10 +9,12 @@ use lib.ListN.{length}
 use lib.Pow.{pow-pos}
 use Rattle.laws.proofs.Xor.{xor-assoc, xor-left, xor-twice, xor-scaled, raised}
 use Rattle.bits.specs.Bits.{bitsOf, number}
-use Rattle.edc.specs.Edc.{edcOf, fourBytes}
+use Rattle.edc.specs.Edc.{edcOf}
+use Rattle.words.specs.Words.{fourBytes}
+use Rattle.words.proofs.Words.{number-of-four}
 use Rattle.edc.proofs.Division.{Leaves, leaves-self, leaves-add, leaves-one, leaves-multiple, multiple-leaves, multiple-scaled}
 use Rattle.bits.proofs.Concat.{number-bytes, number-byte}
-use Rattle.edc.proofs.Detection.{edc-leaves, edc-lt, number-of-four, four-lt, number-behind}
+use Rattle.edc.proofs.Detection.{edc-leaves, edc-lt, four-lt, number-behind}
 
 -- four bytes that make w
 pub four-leaves : (w : ℕ) → w < 2 ^ 32 → Leaves (w * 2 ^ 32) (edcOf (fourBytes w))

@@ -3,14 +3,15 @@
 use mathlib.Core.Path.{_≡_}
 use mathlib.Core.Bool.{cond}
 use mathlib.Core.List.{List, [], _∷_, _++_}
-use Prim.Native.Nat.{ℕ, _+_, _*_, _/_, _%_, _^_}
+use Prim.Native.Nat.{ℕ, _+_, _*_, _^_}
 use lib.Bits.{bitXor}
 use lib.Dec.{leb}
 use Rattle.bits.specs.Bits.{bitsOf}
+use Rattle.words.specs.Words.{fourBytes}
 
 -- G(x)
-abbrev pub generator : ℕ
-generator = 2 ^ 32 + 2 ^ 31 + 2 ^ 4 + 1
+abbrev pub polynomialG : ℕ
+polynomialG = 2 ^ 32 + 2 ^ 31 + 2 ^ 4 + 1
 
 -- q(x) G(x)
 unfoldable pub timesG : ℕ → ℕ
@@ -23,20 +24,16 @@ pub record MultipleOfG (p : ℕ) : Type 0 where
 
 -- a step of the division by G(x): r is the remainder of the bits before, b the next bit
 unfoldable pub divided : ℕ → ℕ → ℕ
-divided r b = cond (leb (2 ^ 32) (r * 2 + b)) (bitXor (r * 2 + b) generator) (r * 2 + b)
+divided r b = cond (leb (2 ^ 32) (r * 2 + b)) (bitXor (r * 2 + b) polynomialG) (r * 2 + b)
 
 -- the remainder of bits, the first highest, behind bits with the remainder r
-unfoldable pub remainder : ℕ → List ℕ → ℕ
-remainder r [] = r
-remainder r (b ∷ bs) = remainder (divided r b) bs
-
--- a number of 32 bits as four bytes, the highest first
-abbrev pub fourBytes : ℕ → List ℕ
-fourBytes v = v / 2 ^ 24 % 256 ∷ v / 2 ^ 16 % 256 ∷ v / 2 ^ 8 % 256 ∷ v % 256 ∷ []
+unfoldable pub remainderByG : ℕ → List ℕ → ℕ
+remainderByG r [] = r
+remainderByG r (b ∷ bs) = remainderByG (divided r b) bs
 
 -- I(x): the bits of the bytes, with zeros where those of the code will stand
 unfoldable pub edcOf : List ℕ → ℕ
-edcOf bytes = remainder 0 (bitsOf (bytes ++ fourBytes 0))
+edcOf bytes = remainderByG 0 (bitsOf (bytes ++ fourBytes 0))
 
 unfoldable pub edcBytes : List ℕ → List ℕ
 edcBytes bytes = fourBytes (edcOf bytes)

@@ -1,12 +1,11 @@
 // 13.3: the error-detection code.
-pub mod steps;
-
-use steps::word;
+use words::steps::word_at;
 ghost use mathlib.Core.Path.{_≡_};
 ghost use Prim.Native.Nat.{_*_, _/_, _^_, _<_};
 ghost use lib.Bits.{bitXor};
 ghost use lib.ListN.{length, take};
-ghost use Rattle.edc.specs.Edc.{edcOf, fourBytes};
+ghost use Rattle.edc.specs.Edc.{edcOf};
+ghost use Rattle.words.specs.Words.{fourBytes};
 
 fn wide(byte: u8) -> u32
     ensures { λ r. ⌜ (r ≡ byte) × (r < 256) ⌝ }
@@ -41,7 +40,7 @@ fn words_edc(bytes: &[u8]) -> u32
 {
     let mut reg: u32 = 0;
     for k in 0..bytes.len() / 4 {
-        reg = word_edc(reg ^ word(bytes, 4 * k));
+        reg = word_edc(reg ^ word_at(bytes, 4 * k));
     }
     reg
 }

@@ -10,10 +10,10 @@ use lib.ListN.{length, take}
 use lib.Seq.{take-all}
 use Rattle.laws.specs.Zeros.{zeros}
 use Rattle.laws.proofs.Zeros.{length-zeros}
-use Rattle.laws.proofs.Tabulate.{length-tabulate}
 use Rattle.answer.specs.declared.Answer.{Answer}
 use Rattle.answer.specs.Answer.{isDone}
-use Rattle.notation.specs.Words.{wordCount, wordAt, wordsOf, wordsRead}
+use Rattle.notation.specs.Words.{wordCount, wordsOf, wordsRead}
+use Rattle.notation.proofs.Words.{length-words}
 use Rattle.writer.specs.Outcome as writer
 use Rattle.texts.specs.declared.Text.{Text}
 use Rattle.texts.specs.Text.{textOf}
@@ -32,8 +32,7 @@ words-encoded psn user side words image image' work work' a keep t hk ho hd ht =
 
 -- the first words of those that were read: all, or none
 front : (dc words : List ℕ) → length words ≡ 496 → (t : Bool) → take (cond t 496 0) (cond t (cond (eqb (length words) 496) (wordsOf dc) words) words) ≡ cond t (wordsOf dc) []
-unfolding wordsOf
-front dc words size true = rw (eq-eqb (length words) 496 size) (take-all 496 (wordsOf dc) (omega (arith, length-tabulate 496 (wordAt dc))))
+front dc words size true = rw (eq-eqb (length words) 496 size) (take-all 496 (wordsOf dc) (omega (arith, length-words dc)))
 front dc words size false = refl
 
 pub encode-words : (psn : ℕ) (user side dc image words words' : List ℕ) (n : ℕ) (r : Encoded) → words ≡ zeros 496 → words' ≡ wordsRead dc words → n ≡ wordCount (length dc)

@@ -9,7 +9,7 @@ ghost use Prim.Native.Nat.{_+_, _*_, _%_, _^_, _<_, _≤_};
 ghost use lib.ListN.{length};
 ghost use Rattle.modulation.specs.Modulation.{twoNumber, rowAt, starts, startsWith010, allowed, fits, modulateFrom, modulate};
 ghost use Rattle.conversion.specs.steps.Rows.{packedRows};
-ghost use Rattle.conversion.specs.steps.Few.{fewPairs, standingRow, Fitting, Given};
+ghost use Rattle.conversion.specs.steps.Few.{fewPairs, standingRow, Fitting, BitsGiven};
 
 // The last `count` pairs.
 fn last_pairs(count: usize, pairs: u32) -> u32
@@ -106,7 +106,7 @@ fn fitting_row(rows: &PackedRows, count: usize, pairs: u32, before: bool) -> usi
 // At most six pairs modulated after the bit before, as if the frame ended there.
 pub fn modulate(rows: &PackedRows, count: usize, pairs: u32, before: bool) -> Few
     requires { ⌜ (now rows ≡ packedRows) × ((count ≤ 6) × (pairs < 2 ^ (2 * count))) ⌝ }
-    ensures { λ r. ⌜ Given (modulate before (fewPairs count pairs)) (r .value) (r .terminated) ⌝ }
+    ensures { λ r. ⌜ BitsGiven (modulate before (fewPairs count pairs)) (r .value) (r .terminated) ⌝ }
 {
     let mut value = 0;
     let mut terminated = false;

@@ -1,29 +1,29 @@
 -- The tally's answer, case by case of its definition. Assumes nothing.
-use mathlib.Core.Bool.{Bool, true, false, _&&_, cond}
-use mathlib.Core.List.{List}
+use mathlib.Core.Bool.{Bool, true, false, cond}
+use mathlib.Core.List.{List, _∷_, _++_}
 use mathlib.Core.Path.{_≡_, refl, ap, ap₂, _∙_}
-use Prim.Native.Nat.{ℕ, zero, suc, _-_, _^_, _<_, _≤_}
+use Prim.Native.Nat.{ℕ, suc, _-_, _^_, _<_, _≤_}
 use native.Mathlib.Omega.{arith}
 use borrow.Author.Tests.{eq-eqb, ne-eqb, lt-ltb, le-ltb}
 use lib.Dec.{eqb, ltb}
 use lib.ListN.{length, getD, take, drop, length-drop}
 use lib.Seq.{take-all}
 use Rattle.laws.specs.Bytes.{Bytes}
+use Rattle.laws.proofs.Booleans.{and-false}
+use Rattle.laws.proofs.Bytes.{bytes-cons, bytes-append}
+use Rattle.words.specs.Words.{fourBytes}
+use Rattle.words.proofs.Words.{word-back, bytes-word}
 use Rattle.frame_sync.specs.Sync.{fs}
 use Rattle.frame.specs.Frame.{frame}
 use Rattle.frame.proofs.Frame.{length-frame}
 use Rattle.gaps.specs.declared.Tally.{Tally}
 use Rattle.gaps.specs.Gaps.{gapCounts, gapAt, howMany}
-use Rattle.frame_gaps.specs.Tally.{tallyDc, accepted, refusal, tallyFrame, tallied, inputOf}
+use Rattle.frame_gaps.specs.Tally.{tallyDc, isTallyInput, refusal, tallyFrame, tallied, inputOf}
 use Rattle.frame_gaps.proofs.FrameCounted.{bits-frame}
 use Rattle.gaps.proofs.Neighbours.{counts-often}
 
-and-false : (a b : Bool) → b ≡ false → (a && b) ≡ false
-and-false true b e = e
-and-false false b e = refl
-
 module _ (input : List ℕ) {a : Tally} (r : a ≡ refusal) where
-  refused : accepted input ≡ false → a ≡ tallied input
+  refused : isTallyInput input ≡ false → a ≡ tallied input
   unfolding tallied
   refused e = r ∙ rw e
 
@@ -61,7 +61,7 @@ tallied-counts input {dc} {c} size hash number e small counts =
 -- ---- what is tallied
 
 -- of an accepted input: of each length from 1 to 8, how many places of the frame's 1,932 bits begin such a gap
-pub tallied-often : (input : List ℕ) → accepted input ≡ true → (k : ℕ) → k < 8 → getD (tallied input .counts) k 0 ≡ howMany 1932 (gapAt (tallyFrame input) (suc k))
+pub tallied-often : (input : List ℕ) → isTallyInput input ≡ true → (k : ℕ) → k < 8 → getD (tallied input .counts) k 0 ≡ howMany 1932 (gapAt (tallyFrame input) (suc k))
 unfolding tallied
 tallied-often input e k h =
     ap (λ (t : Bool). getD (cond t (record { accepted = true; counts = gapCounts (tallyFrame input) }) refusal .counts) k 0) e
@@ -75,9 +75,9 @@ module _ (hash : Bool) (number : ℕ) (row : List ℕ) (dc : ℕ) (size : length
   same-hash false = (refl, refl)
 
   same-dc : tallyDc (inputOf hash number row dc) ≡ dc
-  same-dc = omega arith
+  same-dc = word-back dc (omega arith)
 
-  given : accepted (inputOf hash number row dc) ≡ true
+  given : isTallyInput (inputOf hash number row dc) ≡ true
   given =
       rw (
         eq-eqb (length (inputOf hash number row dc)) 161 (omega arith),
@@ -94,14 +94,9 @@ module _ (hash : Bool) (number : ℕ) (row : List ℕ) (dc : ℕ) (size : length
 
   -- and they are bytes
   pub bytes-input : Bytes row → Bytes (inputOf hash number row dc)
-  bytes-input rest zero = bit hash
+  bytes-input rest =
+      bytes-cons (cond hash 1 0) (number ∷ (fourBytes dc ++ row)) (bit hash) (bytes-cons number (fourBytes dc ++ row) (omega arith) (bytes-append (fourBytes dc) row (bytes-word dc) rest))
     where
       bit : (t : Bool) → cond t 1 0 < 256
       bit true = omega arith
       bit false = omega arith
-  bytes-input rest (suc zero) = omega arith
-  bytes-input rest (suc (suc zero)) = omega arith
-  bytes-input rest (suc (suc (suc zero))) = omega arith
-  bytes-input rest (suc (suc (suc (suc zero)))) = omega arith
-  bytes-input rest (suc (suc (suc (suc (suc zero))))) = omega arith
-  bytes-input rest (suc (suc (suc (suc (suc (suc i)))))) = rest i

@@ -1,13 +1,14 @@
 // How often each gap length occurs in a frame: the answer of the tally program (document 01).
 use frame::State;
 use gaps::Tally;
+use words::steps::word_at;
 ghost use mathlib.Core.Path.{_≡_};
 ghost use Prim.Native.Nat.{_<_};
 ghost use lib.ListN.{length};
 ghost use Rattle.gaps.specs.Gaps.{gapCounts};
 ghost use Rattle.frame_sync.specs.Sync.{fs};
 ghost use Rattle.frame.specs.Frame.{frame};
-ghost use Rattle.frame_gaps.specs.Tally.{tallyDc, refusal, tallied};
+ghost use Rattle.frame_gaps.specs.Tally.{refusal, tallied};
 ghost use Rattle.sizes.specs.Sizes.{rowSize};
 
 // Room for a frame.
@@ -38,20 +39,6 @@ fn refused() -> Tally
     }
 }
 
-fn wide(x: u8) -> u32
-    ensures { λ r. ⌜ (r ≡ x) × (r < 256) ⌝ }
-{
-    x as u32
-}
-
-// The dc word of the input, four bytes from 2 on.
-fn dc_in(input: &[u8]) -> u32
-    requires { ⌜ length (now input) ≡ 161 ⌝ }
-    ensures { λ r. ⌜ r ≡ tallyDc (now (input .entry)) ⌝ }
-{
-    ((wide(input[2]) * 256 + wide(input[3])) * 256 + wide(input[4])) * 256 + wide(input[5])
-}
-
 // The tally's answer to its input: # (0 or 1), sync number, dc word in four bytes, 155 frame bytes.
 pub fn tally_of(input: &[u8]) -> Tally
     ensures { λ r. ⌜ r ≡ tallied (now (input .entry)) ⌝ }
@@ -67,7 +54,7 @@ pub fn tally_of(input: &[u8]) -> Tally
     if 6 < number {
         return refused();
     }
-    let dc = dc_in(input);
+    let dc = word_at(input, 2);
     if 0x0fff_ffff < dc {
         return refused();
     }

@@ -22,7 +22,7 @@ pub record Input : Type 0 where
   pub dc : List ℕ
 
 -- 496 dc words, one for each frame, none above 0FFFFFFFh
-pub record Words (dc : List ℕ) : Type 0 where
+pub record DcWords (dc : List ℕ) : Type 0 where
   pub size : length dc ≡ frameCount
   pub small : (n : ℕ) → n < frameCount → getD dc n 0 ≤ 0x0FFF_FFFF
 
@@ -31,7 +31,7 @@ pub record IsAccepted (input : Input) : Type 0 where
   pub user : User (input .user)
   pub psn : judged (input .psn) ≡ Done
   pub side : Side (input .side)
-  pub dc : Words (input .dc)
+  pub dc : DcWords (input .dc)
 
 -- its ECC cluster
 abbrev pub cluster : Input → List ℕ

@@ -10,12 +10,12 @@ pub record Origin : Type 0 where
   pub byte : ℕ
 
 -- first step: each even column is multiplexed with the next odd one, the even one's byte first
-abbrev pub multiplexed : ℕ → ℕ → Origin
-multiplexed row column = record { word = 2 * column + row % 2; byte = row / 2 }
+abbrev pub columnsMultiplexed : ℕ → ℕ → Origin
+columnsMultiplexed row column = record { word = 2 * column + row % 2; byte = row / 2 }
 
 -- second step: row by row a cyclic shift to the left by mod (3 k, 152), k = div (row, 2)
 abbrev pub shifted : ℕ → ℕ → Origin
-shifted row column = multiplexed row ((column + 3 * (row / 2) % 152) % 152)
+shifted row column = columnsMultiplexed row ((column + 3 * (row / 2) % 152) % 152)
 
 -- the byte in a row and a column of the LDC cluster
 abbrev pub ldcByte : (ℕ → List ℕ) → ℕ → ℕ → ℕ

@@ -27,7 +27,7 @@ use Rattle.ldc.proofs.CodeWords.{length-frame-in}
 use Rattle.ldc.proofs.Interleaving.{place-column-lt}
 use Rattle.cluster.specs.Multiplex.{ldcIndex, wordIndex, ldcIn}
 use Rattle.cluster.specs.Reading.{wrongWord, dataFrameIn, wrongSector, userByteIn}
-use Rattle.ldc_words.specs.steps.Eighth.{RunOf, BytesTaken, BytesPut, WordsTaken, WordsPut, LdcPut, wordAt, frameAt, informationOf, completed, completedWords, framesOf, wrongOf, wrongFrame, userOf}
+use Rattle.ldc_words.specs.steps.Eighth.{RunOf, BytesTaken, BytesPut, WordsTaken, WordsPut, LdcPut, eighthWord, eighthFrame, informationOf, completed, completedWords, framesOf, wrongOf, wrongFrame, userOf}
 use Rattle.cluster.proofs.Places.{word-index-lt, word-index-inj}
 
 -- ---- a run of 19 columns
@@ -247,30 +247,30 @@ completed-turn frames words part j x m i size hj hx hm hi made u = rw hm (upto-p
         ap (λ (l : List ℕ). getD l k 0) is ∙ ap₂ (λ (w i : ℕ). getD (completed (take 216 (drop (216 * w) frames))) i 0) word place
 
 -- data frame f, of x = 2,052 bytes, copied and scrambled
-pub frame-made : (stream frames part bytes : List ℕ) (f x : ℕ) → x ≡ 2052 → part ≡ take x (drop (2052 * f) frames) → bytes ≡ scrambled stream part → bytes ≡ scrambled stream (frameAt frames f)
+pub frame-made : (stream frames part bytes : List ℕ) (f x : ℕ) → x ≡ 2052 → part ≡ take x (drop (2052 * f) frames) → bytes ≡ scrambled stream part → bytes ≡ scrambled stream (eighthFrame frames f)
 frame-made stream frames part bytes f x size copied made = made ∙ ap (scrambled stream) (copied ∙ ap (λ (y : ℕ). take y (drop (2052 * f) frames)) size)
 
 -- its user bytes, copied to their part of m = 2,048 bytes
-pub user-turn : (stream frames bytes part user : List ℕ) (f m i : ℕ) → f < 4 → m ≡ 2048 → i ≡ 2048 * (f + 1) → bytes ≡ scrambled stream (frameAt frames f) → part ≡ tabulate 2048 (λ k. getD bytes k 0)
-    → Upto 0 (λ k. getD (scrambled stream (frameAt frames (k / 2048))) (k % 2048) 0) 8192 (2048 * f) user
-    → Upto 0 (λ k. getD (scrambled stream (frameAt frames (k / 2048))) (k % 2048) 0) 8192 i (take (2048 * f) user ++ (part ++ drop m (drop (2048 * f) user)))
+pub user-turn : (stream frames bytes part user : List ℕ) (f m i : ℕ) → f < 4 → m ≡ 2048 → i ≡ 2048 * (f + 1) → bytes ≡ scrambled stream (eighthFrame frames f) → part ≡ tabulate 2048 (λ k. getD bytes k 0)
+    → Upto 0 (λ k. getD (scrambled stream (eighthFrame frames (k / 2048))) (k % 2048) 0) 8192 (2048 * f) user
+    → Upto 0 (λ k. getD (scrambled stream (eighthFrame frames (k / 2048))) (k % 2048) 0) 8192 i (take (2048 * f) user ++ (part ++ drop m (drop (2048 * f) user)))
 user-turn stream frames bytes part user f m i hf hm hi made copied u = rw hm (upto-part 2048 part (omega arith) (omega arith) (ap (length {A = ℕ}) copied ∙ length-tabulate 2048 (λ k. getD bytes k 0)) byte u)
   where
-    byte : (k : ℕ) → k < 2048 → getD part k 0 ≡ getD (scrambled stream (frameAt frames ((2048 * f + k) / 2048))) ((2048 * f + k) % 2048) 0
+    byte : (k : ℕ) → k < 2048 → getD part k 0 ≡ getD (scrambled stream (eighthFrame frames ((2048 * f + k) / 2048))) ((2048 * f + k) % 2048) 0
     byte k h =
         let number : f ≡ (2048 * f + k) / 2048 = omega arith in
         let place : k ≡ (2048 * f + k) % 2048 = omega arith in
         ap (λ (l : List ℕ). getD l k 0) copied
         ∙ getD-tabulate 2048 (λ k. getD bytes k 0) k 0 h
         ∙ ap (λ (l : List ℕ). getD l k 0) made
-        ∙ ap₂ (λ (g i : ℕ). getD (scrambled stream (frameAt frames g)) i 0) number place
+        ∙ ap₂ (λ (g i : ℕ). getD (scrambled stream (eighthFrame frames g)) i 0) number place
 
 module _ (work words : List ℕ) (e : ℕ) (he : e < 8) where
   -- code word j as it is read
-  pub word-at : WordsTaken work e 248 words → (j : ℕ) → j < 38 → wordAt words j ≡ wordIn (ldcIn work) (38 * e + j)
+  pub word-at : WordsTaken work e 248 words → (j : ℕ) → j < 38 → eighthWord words j ≡ wordIn (ldcIn work) (38 * e + j)
   unfolding wordIn
   word-at w j hj =
-      is-tabulate 0 248 (λ N. getD work (wordIndex (38 * e + j) N) 0) (wordAt words j) (length-part words (248 * j) 248 (omega (arith, w .size)))
+      is-tabulate 0 248 (λ N. getD work (wordIndex (38 * e + j) N) 0) (eighthWord words j) (length-part words (248 * j) 248 (omega (arith, w .size)))
       (λ N hN. getD-part words (248 * j) 248 N hN ∙ w .bytes j N hj hN)
 
   -- the data frames as they are read
@@ -296,12 +296,12 @@ module _ (frames : ℕ → List ℕ) (e : ℕ) where
   getD-frames p h = getD-tabulate 8208 (λ p. dataByte frames (8208 * e + p)) p 0 h
 
   -- data frame f of the eighth
-  pub frame-at : (f : ℕ) → f < 4 → length (frames (4 * e + f)) ≡ 2052 → frameAt (framesOf frames e) f ≡ frames (4 * e + f)
+  pub frame-at : (f : ℕ) → f < 4 → length (frames (4 * e + f)) ≡ 2052 → eighthFrame (framesOf frames e) f ≡ frames (4 * e + f)
   frame-at f hf size =
-      ext-getD 0 (frameAt (framesOf frames e) f) (frames (4 * e + f)) (length-part (framesOf frames e) (2052 * f) 2052 (omega (arith, length-frames)) ∙ sym size)
+      ext-getD 0 (eighthFrame (framesOf frames e) f) (frames (4 * e + f)) (length-part (framesOf frames e) (2052 * f) 2052 (omega (arith, length-frames)) ∙ sym size)
       (λ k h. byte k (omega (arith, length-part (framesOf frames e) (2052 * f) 2052 (omega (arith, length-frames)))))
     where
-      byte : (k : ℕ) → k < 2052 → getD (frameAt (framesOf frames e) f) k 0 ≡ getD (frames (4 * e + f)) k 0
+      byte : (k : ℕ) → k < 2052 → getD (eighthFrame (framesOf frames e) f) k 0 ≡ getD (frames (4 * e + f)) k 0
       byte k h =
           let number : (8208 * e + (2052 * f + k)) / 2052 ≡ 4 * e + f = omega arith in
           let place : (8208 * e + (2052 * f + k)) % 2052 ≡ k = omega arith in
@@ -359,7 +359,7 @@ pub word-judged : (words : List ℕ) (j x : ℕ) (r t : Bool) → x ≡ 248 → 
 unfolding wrongOf
 word-judged words j x r t size judged is = ap not (sym (judged ∙ ap (λ (y : ℕ). hasRoots 32 (take y (drop (248 * j) words))) size) ∙ is)
 
-pub frame-judged : (stream frames bytes : List ℕ) (f : ℕ) (r t : Bool) → bytes ≡ scrambled stream (frameAt frames f) → r ≡ edcRight bytes → r ≡ t → wrongFrame stream frames f ≡ not t
+pub frame-judged : (stream frames bytes : List ℕ) (f : ℕ) (r t : Bool) → bytes ≡ scrambled stream (eighthFrame frames f) → r ≡ edcRight bytes → r ≡ t → wrongFrame stream frames f ≡ not t
 unfolding wrongFrame
 frame-judged stream frames bytes f r t made judged is = ap not (sym (judged ∙ ap edcRight made) ∙ is)
 
@@ -368,9 +368,9 @@ unfolding wrongOf wrongWord
 words-judged work words e r he w h = h ∙ first-ext 38 (wrongOf words) (λ j. wrongWord work (38 * e + j)) (λ j hj. ap (λ (l : List ℕ). not (hasRoots 32 l)) (word-at work words e he w j hj))
 
 module _ (stream work four : List ℕ) (e : ℕ) (taken : four ≡ framesOf (frameIn (ldcIn work)) e) where
-  data-frame-at : (f : ℕ) → f < 4 → scrambled stream (frameAt four f) ≡ dataFrameIn stream work (4 * e + f)
+  data-frame-at : (f : ℕ) → f < 4 → scrambled stream (eighthFrame four f) ≡ dataFrameIn stream work (4 * e + f)
   unfolding dataFrameIn
-  data-frame-at f hf = ap (λ (l : List ℕ). scrambled stream (frameAt l f)) taken ∙ ap (scrambled stream) (frame-at (frameIn (ldcIn work)) e f hf (length-frame-in (ldcIn work) (4 * e + f)))
+  data-frame-at f hf = ap (λ (l : List ℕ). scrambled stream (eighthFrame l f)) taken ∙ ap (scrambled stream) (frame-at (frameIn (ldcIn work)) e f hf (length-frame-in (ldcIn work) (4 * e + f)))
 
   pub frames-judged : (r : ℕ) → r ≡ first 4 (wrongFrame stream four) → r ≡ first 4 (λ f. wrongSector stream work (4 * e + f))
   unfolding wrongFrame wrongSector
@@ -381,7 +381,7 @@ module _ (stream work four : List ℕ) (e : ℕ) (taken : four ≡ framesOf (fra
   user-byte-at k h =
       let number : 4 * e + k / 2048 ≡ (8192 * e + k) / 2048 = omega arith in
       let place : k % 2048 ≡ (8192 * e + k) % 2048 = omega arith in
-      getD-tabulate 8192 (λ k. getD (scrambled stream (frameAt four (k / 2048))) (k % 2048) 0) k 0 h
+      getD-tabulate 8192 (λ k. getD (scrambled stream (eighthFrame four (k / 2048))) (k % 2048) 0) k 0 h
       ∙ ap (λ (l : List ℕ). getD l (k % 2048) 0) (data-frame-at (k / 2048) (omega arith))
       ∙ ap₂ (λ (F i : ℕ). getD (dataFrameIn stream work F) i 0) number place
 
@@ -391,4 +391,4 @@ module _ (stream work four : List ℕ) (e : ℕ) (taken : four ≡ framesOf (fra
   users-turn part user m i he hm hi made u = rw hm (upto-part 8192 part (omega arith) (omega arith) (ap (length {A = ℕ}) made ∙ length-user) (λ k h. ap (λ (l : List ℕ). getD l k 0) made ∙ user-byte-at k h) u)
     where
       length-user : length (userOf stream four) ≡ 8192
-      length-user = unfold userOf in length-tabulate 8192 (λ k. getD (scrambled stream (frameAt four (k / 2048))) (k % 2048) 0)
+      length-user = unfold userOf in length-tabulate 8192 (λ k. getD (scrambled stream (eighthFrame four (k / 2048))) (k % 2048) 0)

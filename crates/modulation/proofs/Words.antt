@@ -9,7 +9,7 @@ use native.Mathlib.Omega.{arith}
 use lib.Dec.{T, eqb, eqb→eq, leb, leb→le, ltb, ltb→lt}
 use lib.ListN.{length, getD, drop, length-append}
 use Rattle.laws.proofs.Finite.{all, all-at}
-use Rattle.modulation.specs.Modulation.{Two, d00, d01, d10, d11, twoNumber, Row, rows, noRow, rowAt, starts, fits, choose, Rest, behind, Modulated, terminates, lastBit, modulateFrom, modulate}
+use Rattle.modulation.specs.Modulation.{Two, d00, d01, d10, d11, twoNumber, Row, rows, noRow, rowAt, starts, fits, choose, Rest, restBehind, Modulated, terminates, lastBit, modulateFrom, modulate}
 use Rattle.modulation.proofs.Fronts.{two-injective, starts-split}
 use Rattle.laws.proofs.Booleans.{and-left}
 
@@ -119,7 +119,7 @@ pub record Word (b : Bool) (ds : List Two) : Type 0 where
   pub rest : List Two
   pub first : First (λ r. fits r b ds (modulateFrom (tail ds))) rows row
   pub split : ds ≡ row .pairs ++ rest
-  pub behind-is : behind row (modulateFrom (tail ds)) ≡ modulate (nextBit row) rest
+  pub behind-is : restBehind row (modulateFrom (tail ds)) ≡ modulate (nextBit row) rest
   pub gives : modulate b ds ≡ inFront row (modulate (nextBit row) rest)
 
 module _ (b : Bool) (d : Two) (ds : List Two) where

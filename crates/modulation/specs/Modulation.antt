@@ -110,15 +110,15 @@ abbrev pub Rest : Type 0
 Rest = (k : ℕ) (b : Bool) → Modulated
 
 -- what follows the word that is row r
-abbrev pub behind : Row → Rest → Modulated
-behind r rest = rest (length (r .pairs) - 1) (lastBit false (r .groups))
+abbrev pub restBehind : Row → Rest → Modulated
+restBehind r rest = rest (length (r .pairs) - 1) (lastBit false (r .groups))
 
 -- the row's condition holds after the bit b, at the pairs ds that are left of the frame
 abbrev pub allowed : Row → When → Bool → List Two → Rest → Bool
 allowed r always b ds rest = true
 allowed r after-one b ds rest = b
 allowed r after-zero b ds rest = not b
-allowed r before-010 b ds rest = startsWith010 (behind r rest .groups)
+allowed r before-010 b ds rest = startsWith010 (restBehind r rest .groups)
 allowed r at-end b ds rest = eqb (length (r .pairs)) (length ds)
 
 abbrev pub fits : Row → Bool → List Two → Rest → Bool
@@ -144,7 +144,7 @@ terminates before-010 = false
 terminates at-end = true
 
 abbrev pub word : Row → Rest → Modulated
-word r rest = record { groups = r .groups ++ behind r rest .groups; terminated = terminates (r .when) || behind r rest .terminated }
+word r rest = record { groups = r .groups ++ restBehind r rest .groups; terminated = terminates (r .when) || restBehind r rest .terminated }
 
 -- the pairs that are left of a frame, of which the first k belong to the word before; b is the bit before
 unfoldable pub modulateFrom : List Two → ℕ → Bool → Modulated

@@ -19,8 +19,8 @@ use Rattle.modulation.proofs.Bits.{bits-append, length-bits}
 use Rattle.modulation.proofs.Fronts.{bits-groups}
 use Rattle.modulation.specs.Machine.{waiting, stop, put}
 use Rattle.modulation.proofs.Machine.{machine-is}
-use Rattle.conversion.specs.steps.Few.{fewPairs, Given}
-use Rattle.modulator.specs.steps.Table.{waitOf, bitOf, waits, WaitingNumber, stepEntry, stopEntry}
+use Rattle.conversion.specs.steps.Few.{fewPairs, BitsGiven}
+use Rattle.modulator.specs.steps.Table.{waitOf, stateBit, waits, WaitingNumber, stepEntry, stopEntry}
 use Rattle.conversion.proofs.FewPairs.{few-back}
 use Rattle.modulator.proofs.Runs.{step-moves}
 use Rattle.modulator.proofs.Holding.{stop-sized}
@@ -63,32 +63,32 @@ next-is s d hs hd = (equal-below₂ 20 4 nextAt (λ s d. stepEntry s d % 32) tt 
 
 -- ---- the entries
 
-pub step-made : (s d v t k : ℕ) → s < 20 → d < 4 → v ≡ number (bits (modulate (bitOf s) (waiting (waitOf s) ++ (twoOf d ∷ [])) .groups)) → t ≡ stepEntry s d % 32 → k ≡ 3 * waits t
+pub step-made : (s d v t k : ℕ) → s < 20 → d < 4 → v ≡ number (bits (modulate (stateBit s) (waiting (waitOf s) ++ (twoOf d ∷ [])) .groups)) → t ≡ stepEntry s d % 32 → k ≡ 3 * waits t
     → v / 2 ^ k * 2 ^ k * 32 + t ≡ stepEntry s d
 step-made s d v t k hs hd ev et ek =
     let m = step-moves s d hs hd in
     let u : ℕ = stepEntry s d % 32 in
     let o = bits (m .out) in
-    let g = bits (stop (waitOf u) (bitOf u) .groups) in
-    let given : modulate (bitOf s) (waiting (waitOf s) ++ (twoOf d ∷ [])) ≡ put (m .out) (stop (waitOf u) (bitOf u)) = sym (machine-is (twoOf d ∷ []) (waitOf s) (bitOf s)) ∙ m .gives [] in
-    let size : length g ≡ 3 * waits u = length-bits (stop (waitOf u) (bitOf u) .groups) ∙ ap (λ (j : ℕ). 3 * j) (stop-sized u (m .below)) in
+    let g = bits (stop (waitOf u) (stateBit u) .groups) in
+    let given : modulate (stateBit s) (waiting (waitOf s) ++ (twoOf d ∷ [])) ≡ put (m .out) (stop (waitOf u) (stateBit u)) = sym (machine-is (twoOf d ∷ []) (waitOf s) (stateBit s)) ∙ m .gives [] in
+    let size : length g ≡ 3 * waits u = length-bits (stop (waitOf u) (stateBit u) .groups) ∙ ap (λ (j : ℕ). 3 * j) (stop-sized u (m .below)) in
     let value : v ≡ number o * 2 ^ (3 * waits u) + number g =
     ev
     ∙ ap (λ (f : Modulated). number (bits (f .groups))) given
-    ∙ ap number (bits-append (m .out) (stop (waitOf u) (bitOf u) .groups))
+    ∙ ap number (bits-append (m .out) (stop (waitOf u) (stateBit u) .groups))
     ∙ number-append o g
     ∙ ap (λ (j : ℕ). number o * 2 ^ j + number g) size in
-    let small : number g < 2 ^ (3 * waits u) = subst (λ (j : ℕ). number g < 2 ^ j) size (number-lt g (bits-groups (stop (waitOf u) (bitOf u) .groups))) in
+    let small : number g < 2 ^ (3 * waits u) = subst (λ (j : ℕ). number g < 2 ^ j) size (number-lt g (bits-groups (stop (waitOf u) (stateBit u) .groups))) in
     let place : k ≡ 3 * waits u = ek ∙ ap (λ (j : ℕ). 3 * waits j) et in
     let clear : v / 2 ^ k * 2 ^ k ≡ stepEntry s d / 32 =
     ap (λ (j : ℕ). v / 2 ^ j * 2 ^ j) place ∙ ap (λ (x : ℕ). x * 2 ^ (3 * waits u)) (ap (λ (x : ℕ). x / 2 ^ (3 * waits u)) value ∙ high (number o) (3 * waits u) small) ∙ sym (m .valued) in
     ap₂ (λ (a b : ℕ). a * 32 + b) clear et ∙ omega arith
 
-pub stop-made : (s v : ℕ) (b : Bool) → v ≡ number (bits (modulate (bitOf s) (waiting (waitOf s)) .groups)) → b ≡ modulate (bitOf s) (waiting (waitOf s)) .terminated
+pub stop-made : (s v : ℕ) (b : Bool) → v ≡ number (bits (modulate (stateBit s) (waiting (waitOf s)) .groups)) → b ≡ modulate (stateBit s) (waiting (waitOf s)) .terminated
     → 2 * v + cond b 1 0 ≡ stopEntry s
 unfolding stopEntry
 stop-made s v b ev eb =
-    let given : modulate (bitOf s) (waiting (waitOf s)) ≡ stop (waitOf s) (bitOf s) = sym (machine-is [] (waitOf s) (bitOf s) ∙ ap (modulate (bitOf s)) (append-nil (waiting (waitOf s)))) in
+    let given : modulate (stateBit s) (waiting (waitOf s)) ≡ stop (waitOf s) (stateBit s) = sym (machine-is [] (waitOf s) (stateBit s) ∙ ap (modulate (stateBit s)) (append-nil (waiting (waitOf s)))) in
     ap₂ (λ (x : ℕ) (c : Bool). 2 * x + cond c 1 0) (ev ∙ ap (λ (f : Modulated). number (bits (f .groups))) given) (eb ∙ ap (λ (f : Modulated). f .terminated) given)
 
 -- ---- as the code has it
@@ -124,17 +124,17 @@ module _ (s n v : ℕ) (en : n ≡ waits s) (w : WaitingNumber s v) where
         let whole : 2 ^ (2 * (n + 1)) ≡ 2 ^ (2 * n) * 4 = ap (λ (k : ℕ). 2 ^ k) two ∙ pow-add 2 (2 * n) 2 in
         omega (arith, wait-small)
 
-    pub step-coded : {x t j r : ℕ} {b : Bool} → Given (modulate (bitOf s) (fewPairs (n + 1) (4 * v + d))) x b → t ≡ stepEntry s d % 32 → j ≡ waits t → r ≡ x / 2 ^ (3 * j) * 2 ^ (3 * j)
+    pub step-coded : {x t j r : ℕ} {b : Bool} → BitsGiven (modulate (stateBit s) (fewPairs (n + 1) (4 * v + d))) x b → t ≡ stepEntry s d % 32 → j ≡ waits t → r ≡ x / 2 ^ (3 * j) * 2 ^ (3 * j)
         → r * 32 + t ≡ stepEntry s d
     step-coded {x} {t} {j} {r} g et ej er =
         ap (λ (y : ℕ). y * 32 + t) er
-        ∙ step-made s d x t (3 * j) hs hd (g .value-is ∙ ap (λ (ds : List Two). number (bits (modulate (bitOf s) ds .groups))) few-more) et (ap (λ (k : ℕ). 3 * k) ej)
+        ∙ step-made s d x t (3 * j) hs hd (g .value-is ∙ ap (λ (ds : List Two). number (bits (modulate (stateBit s) ds .groups))) few-more) et (ap (λ (k : ℕ). 3 * k) ej)
 
   -- the end
-  module _ {x : ℕ} {b : Bool} (g : Given (modulate (bitOf s) (fewPairs n v)) x b) where
+  module _ {x : ℕ} {b : Bool} (g : BitsGiven (modulate (stateBit s) (fewPairs n v)) x b) where
     stop-coded : 2 * x + cond b 1 0 ≡ stopEntry s
     stop-coded =
-        stop-made s x b (g .value-is ∙ ap (λ (ds : List Two). number (bits (modulate (bitOf s) ds .groups))) few-wait) (g .ends ∙ ap (λ (ds : List Two). modulate (bitOf s) ds .terminated) few-wait)
+        stop-made s x b (g .value-is ∙ ap (λ (ds : List Two). number (bits (modulate (stateBit s) ds .groups))) few-wait) (g .ends ∙ ap (λ (ds : List Two). modulate (stateBit s) ds .terminated) few-wait)
 
     pub stop-one : b ≡ true → 2 * x + 1 ≡ stopEntry s
     stop-one e = ap (λ (c : Bool). 2 * x + cond c 1 0) (sym e) ∙ stop-coded

@@ -19,7 +19,7 @@ use Rattle.modulation.specs.Bits.{bits}
 use Rattle.modulation.proofs.Bits.{bits-append, length-bits}
 use Rattle.modulation.proofs.Fronts.{bits-groups}
 use Rattle.modulation.specs.Machine.{stop, put}
-use Rattle.modulator.specs.steps.Table.{waitOf, bitOf, waits, stopEntry, nibbleEntry, lastEntry}
+use Rattle.modulator.specs.steps.Table.{waitOf, stateBit, waits, stopEntry, nibbleEntry, lastEntry}
 use Rattle.modulation.specs.Pairs.{nibblePairs}
 use Rattle.modulator.proofs.Runs.{shifted, from, Moves, moves-on, nibble-moves}
 
@@ -87,9 +87,9 @@ pub few-wait : (s : ℕ) → s < 20 → waits s < 6
 unfolding all waits
 few-wait s h = bounded-below 20 6 waits tt s h
 
-pub stop-sized : (s : ℕ) → s < 20 → length (stop (waitOf s) (bitOf s) .groups) ≡ waits s
+pub stop-sized : (s : ℕ) → s < 20 → length (stop (waitOf s) (stateBit s) .groups) ≡ waits s
 unfolding all waits
-stop-sized s h = equal-below 20 (λ s. length (stop (waitOf s) (bitOf s) .groups)) waits tt s h
+stop-sized s h = equal-below 20 (λ s. length (stop (waitOf s) (stateBit s) .groups)) waits tt s h
 
 end-half : (n : ℕ) (b : Bool) → (2 * n + cond b 1 0) / 2 ≡ n
 end-half n true = omega arith
@@ -158,7 +158,7 @@ module _ {pre : List ℕ} {s : ℕ} {ds : List Two} {done : List ℕ} {lag acc t
 
   -- the frame ends
   abbrev end : Modulated
-  end = stop (waitOf t) (bitOf t)
+  end = stop (waitOf t) (stateBit t)
 
   all-given : from s ds ≡ put (h .moves .out) end
   all-given = ap (from s) (sym (append-nil ds)) ∙ h .moves .gives []

@@ -15,7 +15,7 @@ use Rattle.modulation.specs.Bits.{bits}
 use Rattle.modulation.specs.Pairs.{twoOf, nibblePairs, bytePairs}
 use Rattle.modulation.proofs.Bits.{bits-append, length-bits}
 use Rattle.modulation.specs.Machine.{Wait, w, w00, w0000, w000000, w000010, w11, w1101, w110111, w11011100, w1101110000, waiting, Step, step, put, machine}
-use Rattle.modulator.specs.steps.Table.{waitOf, bitOf, stateNumber, waits, stepEntry, joined, nibbleEntry, byteEntry}
+use Rattle.modulator.specs.steps.Table.{waitOf, stateBit, stateNumber, waits, stepEntry, joined, nibbleEntry, byteEntry}
 
 -- ---- numbers with groups behind them
 
@@ -37,7 +37,7 @@ shifted a o k n u acc v e ea ev =
 
 -- what the pairs ds give from state s on
 abbrev pub from : ℕ → List Two → Modulated
-from s ds = machine ds (waitOf s) (bitOf s)
+from s ds = machine ds (waitOf s) (stateBit s)
 
 -- from state s the pairs ds lead to t and decide groups; v is their number, with a group to come for each pair that waits in t
 pub record Moves (s : ℕ) (ds : List Two) (v t : ℕ) : Type 0 where
@@ -84,7 +84,7 @@ state-lt w110111 b = elim b [ true ↦ omega arith | false ↦ omega arith ]
 state-lt w11011100 b = elim b [ true ↦ omega arith | false ↦ omega arith ]
 state-lt w1101110000 b = elim b [ true ↦ omega arith | false ↦ omega arith ]
 
-state-back : (a : Wait) (b : Bool) → (waitOf (stateNumber a b) ≡ a) × (bitOf (stateNumber a b) ≡ b)
+state-back : (a : Wait) (b : Bool) → (waitOf (stateNumber a b) ≡ a) × (stateBit (stateNumber a b) ≡ b)
 state-back w b = elim b [ true ↦ (refl, refl) | false ↦ (refl, refl) ]
 state-back w00 b = elim b [ true ↦ (refl, refl) | false ↦ (refl, refl) ]
 state-back w0000 b = elim b [ true ↦ (refl, refl) | false ↦ (refl, refl) ]
@@ -100,15 +100,15 @@ from-state : (a : Wait) (b : Bool) (rest : List Two) → machine rest a b ≡ fr
 from-state a b rest = sym (ap₂ (machine rest) (state-back a b .0) (state-back a b .1))
 
 step-sized : (s d : ℕ) → s < 20 → d < 4
-    → length (step (waitOf s) (bitOf s) (twoOf d) .out) + length (waiting (step (waitOf s) (bitOf s) (twoOf d) .to)) ≡ length (waiting (waitOf s)) + 1
+    → length (step (waitOf s) (stateBit s) (twoOf d) .out) + length (waiting (step (waitOf s) (stateBit s) (twoOf d) .to)) ≡ length (waiting (waitOf s)) + 1
 unfolding all all₂
 step-sized s d hs hd =
-    equal-below₂ 20 4 (λ s d. length (step (waitOf s) (bitOf s) (twoOf d) .out) + length (waiting (step (waitOf s) (bitOf s) (twoOf d) .to)))
+    equal-below₂ 20 4 (λ s d. length (step (waitOf s) (stateBit s) (twoOf d) .out) + length (waiting (step (waitOf s) (stateBit s) (twoOf d) .to)))
     (λ s d. length (waiting (waitOf s)) + 1) tt s d hs hd
 
 module _ (s d : ℕ) (hs : s < 20) (hd : d < 4) where
   abbrev st : Step
-  st = step (waitOf s) (bitOf s) (twoOf d)
+  st = step (waitOf s) (stateBit s) (twoOf d)
 
   abbrev to : ℕ
   to = stateNumber (st .to) (st .bit)

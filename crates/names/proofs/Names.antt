@@ -11,7 +11,7 @@ use lib.Dec.{eqb}
 use lib.ListN.{length, getD, set, take, drop}
 use lib.Seq.{ext-getD, sets, sets-eq, length-sets, length-take-le}
 use Rattle.io.specs.Counts.{Counts}
-use Rattle.names.specs.Names.{isDash, ending, partAdded, partLength}
+use Rattle.names.specs.Names.{isDash, partEnding, partAdded, partLength}
 
 module _ (name : List ℕ) where
   pub another-length : (length name ≡ 1 → ⊥) → false ≡ isDash name
@@ -49,7 +49,7 @@ module _ (a b : List ℕ) where
 abbrev pub stored : List ℕ → ℕ → List ℕ
 stored before n = set (set (set (set (set before n 46) (n + 1) 112) (n + 2) 97) (n + 3) 114) (n + 4) 116
 
-stored-is : (before : List ℕ) (n : ℕ) → stored before n ≡ sets before n ending
+stored-is : (before : List ℕ) (n : ℕ) → stored before n ≡ sets before n partEnding
 stored-is before n =
     let e1 : n + 1 ≡ suc n = omega arith in
     let e2 : n + 2 ≡ suc (suc n) = omega arith in
@@ -65,8 +65,8 @@ module _ (before : List ℕ) (n : ℕ) where
   pub added : n + 5 ≤ length before → Counts (n + 5) (stored before n) × ((stored before n ≡ partAdded before n) × (n + 5 ≡ partLength before n))
   unfolding partAdded partLength
   added h =
-      let is : stored before n ≡ take n before ++ ending ++ drop (n + 5) before = stored-is before n ∙ sets-eq ending before n h in
-      let size : length (stored before n) ≡ length before = ap length (stored-is before n) ∙ length-sets before n ending in
+      let is : stored before n ≡ take n before ++ partEnding ++ drop (n + 5) before = stored-is before n ∙ sets-eq partEnding before n h in
+      let size : length (stored before n) ≡ length before = ap length (stored-is before n) ∙ length-sets before n partEnding in
       let fits : n + 5 ≤ length (stored before n) = omega arith in
       let room = le-leb (n + 5) (length before) h in
       ((fits, sym (length-take-le (n + 5) (stored before n) fits)), (rw room is, rw room))

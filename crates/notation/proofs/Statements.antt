@@ -16,54 +16,48 @@ use Rattle.laws.proofs.Tabulate.{is-tabulate, getD-tabulate}
 use Rattle.notation.specs.declared.PsnText.the-variants.{Number, NoNumber}
 use Rattle.notation.specs.Psn.{digitOf, valueTo, noDigit, psnOf}
 use Rattle.notation.proofs.Digits.{a-digit, eight-digits}
-use Rattle.notation.specs.Words.{wordAt, wordsOf, byteOf, byteAt, bytesOf}
+use Rattle.words.specs.Words.{wordAt, fourBytes}
+use Rattle.words.proofs.Words.{word-back, byte-of-word}
+use Rattle.notation.specs.Words.{wordsOf, dcByte, bytesOf}
 
 -- ---- dc words
 
 module _ (words : List ℕ) (size : length words ≡ 496) (small : (n : ℕ) → getD words n 0 < 4294967296) where
-  byte : (n j : ℕ) → n < 496 → j < 4 → getD (bytesOf words) (4 * n + j) 0 ≡ byteOf (getD words n 0) j
-  unfolding bytesOf byteAt
+  byte : (n j : ℕ) → n < 496 → j < 4 → getD (bytesOf words) (4 * n + j) 0 ≡ getD (fourBytes (getD words n 0)) j 0
+  unfolding bytesOf dcByte
   byte n j h l =
       let q : (4 * n + j) / 4 ≡ n = omega arith in
       let r : (4 * n + j) % 4 ≡ j = omega arith in
-      getD-tabulate 1984 (byteAt words) (4 * n + j) 0 (omega arith) ∙ ap₂ (λ (m i : ℕ). byteOf (getD words m 0) i) q r
+      getD-tabulate 1984 (dcByte words) (4 * n + j) 0 (omega arith) ∙ ap₂ (λ (m i : ℕ). getD (fourBytes (getD words m 0)) i 0) q r
 
-  word : (n : ℕ) → n < 496 → getD words n 0 ≡ wordAt (bytesOf words) n
-  unfolding wordAt byteOf
+  word : (n : ℕ) → n < 496 → getD words n 0 ≡ wordAt (bytesOf words) (4 * n)
   word n h =
-      let w = small n in
       let start : 4 * n + 0 ≡ 4 * n = omega arith in
-      let b0 = ap (λ (k : ℕ). getD (bytesOf words) k 0) (sym start) ∙ byte n 0 h (omega arith) in
-      let b1 = byte n 1 h (omega arith) in
-      let b2 = byte n 2 h (omega arith) in
-      let b3 = byte n 3 h (omega arith) in
-      omega arith
+      let first = ap (λ (k : ℕ). getD (bytesOf words) k 0) (sym start) ∙ byte n 0 h (omega arith) in
+      rw (first, byte n 1 h (omega arith), byte n 2 h (omega arith), byte n 3 h (omega arith)) (sym (word-back (getD words n 0) (small n)))
 
   -- written as bytes and read back
   pub words-back : wordsOf (bytesOf words) ≡ words
   unfolding wordsOf
-  words-back = sym (is-tabulate 0 496 (wordAt (bytesOf words)) words size word)
+  words-back = sym (is-tabulate 0 496 (λ n. wordAt (bytesOf words) (4 * n)) words size word)
 
 module _ (bytes : List ℕ) (size : length bytes ≡ 1984) (small : Bytes bytes) where
-  word-read : (k : ℕ) → k < 1984 → getD (wordsOf bytes) (k / 4) 0 ≡ wordAt bytes (k / 4)
+  word-read : (k : ℕ) → k < 1984 → getD (wordsOf bytes) (k / 4) 0 ≡ wordAt bytes (4 * (k / 4))
   unfolding wordsOf
-  word-read k h = getD-tabulate 496 (wordAt bytes) (k / 4) 0 (omega arith)
+  word-read k h = getD-tabulate 496 (λ n. wordAt bytes (4 * n)) (k / 4) 0 (omega arith)
 
-  four : (k n m : ℕ) → k ≡ m → (getD bytes k 0 ≡ getD bytes m 0) × (getD bytes (4 * n) 0 < 256) × (getD bytes (4 * n + 1) 0 < 256) × (getD bytes (4 * n + 2) 0 < 256) × (getD bytes (4 * n + 3) 0 < 256)
-  four k n m e = (ap (λ (i : ℕ). getD bytes i 0) e, small (4 * n), small (4 * n + 1), small (4 * n + 2), small (4 * n + 3))
-
-  at : (k j n : ℕ) → j < 4 → k ≡ 4 * n + j → getD bytes k 0 ≡ byteOf (wordAt bytes n) j
-  unfolding wordAt byteOf
-  at k zero n l e = let known = four k n (4 * n) (omega arith) in omega arith
-  at k (suc zero) n l e = let known = four k n (4 * n + 1) (omega arith) in omega arith
-  at k (suc (suc zero)) n l e = let known = four k n (4 * n + 2) (omega arith) in omega arith
-  at k (suc (suc (suc zero))) n l e = let known = four k n (4 * n + 3) (omega arith) in omega arith
-  at k (suc (suc (suc (suc j)))) n l e = absurd (omega arith)
+  at : (k : ℕ) → k < 1984 → getD bytes k 0 ≡ dcByte (wordsOf bytes) k
+  unfolding dcByte
+  at k h =
+      let place : k ≡ 4 * (k / 4) + k % 4 = omega arith in
+      ap (λ (i : ℕ). getD bytes i 0) place
+      ∙ sym (byte-of-word bytes (4 * (k / 4)) (k % 4) small (omega arith))
+      ∙ ap (λ (w : ℕ). getD (fourBytes w) (k % 4) 0) (sym (word-read k h))
 
   -- read as words and written back
   pub bytes-back : bytesOf (wordsOf bytes) ≡ bytes
-  unfolding bytesOf byteAt
-  bytes-back = sym (is-tabulate 0 1984 (byteAt (wordsOf bytes)) bytes size (λ k h. at k (k % 4) (k / 4) (omega arith) (omega arith) ∙ ap (λ (w : ℕ). byteOf w (k % 4)) (sym (word-read k h))))
+  unfolding bytesOf
+  bytes-back = sym (is-tabulate 0 1984 (dcByte (wordsOf bytes)) bytes size at)
 
 -- ---- PSNs: what is printed is read
 

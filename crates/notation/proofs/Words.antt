@@ -1,12 +1,14 @@
 -- dc words read from bytes and written as bytes: as the code has them. Assumes nothing.
-use mathlib.Core.Path.{_≡_, refl, sym, ap, _∙_}
+use mathlib.Core.Path.{_≡_, ap, _∙_}
 use mathlib.Core.List.{List}
-use Prim.Native.Nat.{ℕ, zero, suc, _/_, _%_, _≤_}
+use Prim.Native.Nat.{ℕ, _*_, _/_, _%_, _≤_}
 use native.Mathlib.Omega.{arith}
 use borrow.Author.Tests.{eq-eqb, ne-eqb}
-use lib.ListN.{length}
+use lib.ListN.{length, getD}
 use Rattle.laws.proofs.Fill.{Upto, upto-all}
-use Rattle.notation.specs.Words.{wordCount, wordAt, wordsOf, byteOf, byteAt, bytesOf, wordsRead, bytesRead}
+use Rattle.laws.proofs.Tabulate.{length-tabulate}
+use Rattle.notation.specs.Words.{wordCount, wordsOf, dcByte, bytesOf, wordsRead, bytesRead}
+use Rattle.words.specs.Words.{wordAt, fourBytes}
 
 -- ---- how many
 
@@ -18,6 +20,10 @@ count-none bytes n e h = (omega arith, h ∙ rw (ne-eqb bytes 1984 e))
 
 -- ---- which
 
+pub length-words : (bytes : List ℕ) → length (wordsOf bytes) ≡ 496
+unfolding wordsOf
+length-words bytes = length-tabulate 496 (λ n. wordAt bytes (4 * n))
+
 module _ (bytes before : List ℕ) where
   pub words-other-bytes : (length bytes ≡ 1984 → ⊥) → before ≡ wordsRead bytes before
   unfolding wordsRead
@@ -27,9 +33,13 @@ module _ (bytes before : List ℕ) where
   unfolding wordsRead
   words-other-length e h = rw (eq-eqb (length bytes) 1984 e, ne-eqb (length before) 496 h)
 
-  pub words-read : (after : List ℕ) (n : ℕ) → length bytes ≡ 1984 → length before ≡ 496 → 496 ≤ n → Upto 0 (wordAt bytes) 496 n after → after ≡ wordsRead bytes before
+  pub words-read : (after : List ℕ) (n : ℕ) → length bytes ≡ 1984 → length before ≡ 496 → 496 ≤ n → Upto 0 (λ n. wordAt bytes (4 * n)) 496 n after → after ≡ wordsRead bytes before
   unfolding wordsRead wordsOf
   words-read after n e h all u = upto-all all u ∙ rw (eq-eqb (length bytes) 1984 e, eq-eqb (length before) 496 h)
+
+pub byte-written : (words : List ℕ) (k : ℕ) {four : List ℕ} → four ≡ fourBytes (getD words (k / 4) 0) → getD four (k % 4) 0 ≡ dcByte words k
+unfolding dcByte
+byte-written words k e = ap (λ (l : List ℕ). getD l (k % 4) 0) e
 
 module _ (words before : List ℕ) where
   pub bytes-other-words : (length words ≡ 496 → ⊥) → before ≡ bytesRead words before
@@ -40,28 +50,6 @@ module _ (words before : List ℕ) where
   unfolding bytesRead
   bytes-other-length e h = rw (eq-eqb (length words) 496 e, ne-eqb (length before) 1984 h)
 
-  pub bytes-read : (after : List ℕ) (n : ℕ) → length words ≡ 496 → length before ≡ 1984 → 1984 ≤ n → Upto 0 (byteAt words) 1984 n after → after ≡ bytesRead words before
+  pub bytes-read : (after : List ℕ) (n : ℕ) → length words ≡ 496 → length before ≡ 1984 → 1984 ≤ n → Upto 0 (dcByte words) 1984 n after → after ≡ bytesRead words before
   unfolding bytesRead bytesOf
   bytes-read after n e h all u = upto-all all u ∙ rw (eq-eqb (length words) 496 e, eq-eqb (length before) 1984 h)
-
--- ---- a byte of a word
-
-module _ (w : ℕ) where
-  pub byte-0 : (j : ℕ) → j ≡ 0 → w / 16777216 ≡ byteOf w j
-  unfolding byteOf
-  byte-0 j e = ap (byteOf w) (sym e)
-
-  pub byte-1 : (j : ℕ) → j ≡ 1 → w / 65536 % 256 ≡ byteOf w j
-  unfolding byteOf
-  byte-1 j e = ap (byteOf w) (sym e)
-
-  pub byte-2 : (j : ℕ) → j ≡ 2 → w / 256 % 256 ≡ byteOf w j
-  unfolding byteOf
-  byte-2 j e = ap (byteOf w) (sym e)
-
-  pub byte-3 : (j : ℕ) → 3 ≤ j → w % 256 ≡ byteOf w j
-  unfolding byteOf
-  byte-3 zero h = absurd (omega arith)
-  byte-3 (suc zero) h = absurd (omega arith)
-  byte-3 (suc (suc zero)) h = absurd (omega arith)
-  byte-3 (suc (suc (suc j))) h = refl

@@ -1,11 +1,12 @@
 // How the programs' arguments and files write a PSN and the dc words.
 use address::Psn;
+use words::steps::word_at;
+use words::word_bytes;
 ghost use mathlib.Core.Path.{_≡_};
-ghost use Prim.Native.Nat.{_<_, _≤_};
-ghost use lib.ListN.{length};
+ghost use Prim.Native.Nat.{_≤_};
 ghost use Rattle.sizes.specs.Sizes.{frameCount};
 ghost use Rattle.notation.specs.Psn.{digitOf, psnOf};
-ghost use Rattle.notation.specs.Words.{wordCount, wordFrom, wordAt, byteOf, wordsRead, bytesRead};
+ghost use Rattle.notation.specs.Words.{wordCount, wordsRead, bytesRead};
 
 // A PSN, or a text that is not eight hexadecimal digits. Document 01 has no number for it.
 pub enum PsnText {
@@ -45,21 +46,6 @@ pub fn psn_of(text: &[u8]) -> PsnText
     PsnText::Number(Psn(value))
 }
 
-// Four bytes, the highest first.
-fn word(a: u8, b: u8, c: u8, d: u8) -> u32
-    ensures { λ r. ⌜ r ≡ wordFrom a b c d ⌝ }
-{
-    ((a as u32 * 256 + b as u32) * 256 + c as u32) * 256 + d as u32
-}
-
-fn word_at(bytes: &[u8], n: usize) -> u32
-    requires { ⌜ (length (now bytes) ≡ 1984) × (n < frameCount) ⌝ }
-    ensures { λ r. ⌜ r ≡ wordAt (now (bytes .entry)) n ⌝ }
-{
-    let at = 4 * n;
-    word(bytes[at], bytes[at + 1], bytes[at + 2], bytes[at + 3])
-}
-
 // How many dc words so many bytes hold: 496 are 1,984 bytes, and no other number holds any.
 pub fn word_count(bytes: usize) -> usize
     ensures { λ r. ⌜ (r ≤ frameCount) × (r ≡ wordCount bytes) ⌝ }
@@ -82,21 +68,8 @@ pub fn words_of(bytes: &[u8], words: &mut [u32])
     }
     let mut n = 0;
     while n < sizes::FRAMES {
-        words[n] = word_at(bytes, n);
+        words[n] = word_at(bytes, 4 * n);
         n += 1;
-    }
-}
-
-// Byte j of a word.
-fn byte_of(word: u32, j: usize) -> u8
-    requires { ⌜ j < 4 ⌝ }
-    ensures { λ r. ⌜ r ≡ byteOf word j ⌝ }
-{
-    match j {
-        0 => (word / 16777216) as u8,
-        1 => (word / 65536 % 256) as u8,
-        2 => (word / 256 % 256) as u8,
-        _ => (word % 256) as u8,
     }
 }
 
@@ -112,7 +85,8 @@ pub fn bytes_of(words: &[u32], bytes: &mut [u8])
     }
     let mut k = 0;
     while k < 1984 {
-        bytes[k] = byte_of(words[k / 4], k % 4);
+        let four = word_bytes(words[k / 4]);
+        bytes[k] = four[k % 4];
         k += 1;
     }
 }

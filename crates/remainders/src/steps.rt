@@ -10,7 +10,7 @@ ghost use Rattle.laws.specs.Tabulate.{tabulate};
 ghost use Rattle.field.specs.Field.{sum};
 ghost use Rattle.field.specs.Tables.{AreTables};
 ghost use Rattle.column.specs.Column.{remainder};
-ghost use Rattle.remainders.specs.steps.Remainders.{divisor, AreRemainders, FirstTable, Padded, Row, Filled};
+ghost use Rattle.remainders.specs.steps.Remainders.{divisor, AreRemainders, FirstTable, Padded, EntriesFrom, FilledTo};
 
 pub fn zeros() -> Register
     ensures { λ r. ⌜ r ≡ tabulate 40 (λ _. 0) ⌝ }
@@ -48,8 +48,8 @@ pub fn pushed_byte(table: &Remainders, was: Register, byte: u8) -> Register
 
 // The next row of the table.
 fn put_row(table: &mut Remainders, at: usize, row: &[u8])
-    requires { ⌜ Filled at (now table) × ((at + 32 ≤ 65536) × Row at (now row)) ⌝ }
-    ensures { λ _. ⌜ Filled (at + 32) (now (table .exit)) ⌝ }
+    requires { ⌜ FilledTo at (now table) × ((at + 32 ≤ 65536) × EntriesFrom at (now row)) ⌝ }
+    ensures { λ _. ⌜ FilledTo (at + 32) (now (table .exit)) ⌝ }
 {
     let mut j = 0;
     while j < 32 {
@@ -61,7 +61,7 @@ fn put_row(table: &mut Remainders, at: usize, row: &[u8])
 // What byte b leaves: it goes into a register of zeros.
 fn first_row(powers: &[u8; 256], logs: &[u8; 256], generator: &[u8; 32], b: u8) -> [u8; 32]
     requires { ⌜ AreTables (now powers) (now logs) × (now generator ≡ divisor) ⌝ }
-    ensures { λ r. ⌜ (length r ≡ 32) × Row (32 * b) r ⌝ }
+    ensures { λ r. ⌜ (length r ≡ 32) × EntriesFrom (32 * b) r ⌝ }
 {
     let mut row = parity::steps::no_parity();
     parity::steps::push(powers, logs, generator, &mut row, b);
@@ -78,7 +78,7 @@ fn byte(b: usize) -> u8
 // The rows with no zeros behind the byte, by the field's tables.
 fn fill_first(table: &mut Remainders)
     requires { ⌜ length (now table) ≡ 65536 ⌝ }
-    ensures { λ _. ⌜ Filled 8192 (now (table .exit)) ⌝ }
+    ensures { λ _. ⌜ FilledTo 8192 (now (table .exit)) ⌝ }
 {
     let powers = field::powers();
     let logs = field::logs();
@@ -93,8 +93,8 @@ fn fill_first(table: &mut Remainders)
 
 // A row of the table, as a register.
 fn row_at(table: &Remainders, at: usize) -> Register
-    requires { ⌜ (at + 32 ≤ 65536) × Filled (at + 32) (now table) ⌝ }
-    ensures { λ r. ⌜ Padded r × Row at r ⌝ }
+    requires { ⌜ (at + 32 ≤ 65536) × FilledTo (at + 32) (now table) ⌝ }
+    ensures { λ r. ⌜ Padded r × EntriesFrom at r ⌝ }
 {
     let mut row = zeros();
     let mut j = 0;
@@ -107,8 +107,8 @@ fn row_at(table: &Remainders, at: usize) -> Register
 
 // The row of byte b with k + 1 zeros behind it: one zero more goes in.
 fn next_row(table: &Remainders, k: usize, b: usize) -> Register
-    requires { ⌜ Filled (8192 * k + 32 * b + 8192) (now table) × ((k < 7) × (b < 256)) ⌝ }
-    ensures { λ r. ⌜ Padded r × Row (8192 * k + 32 * b + 8192) r ⌝ }
+    requires { ⌜ FilledTo (8192 * k + 32 * b + 8192) (now table) × ((k < 7) × (b < 256)) ⌝ }
+    ensures { λ r. ⌜ Padded r × EntriesFrom (8192 * k + 32 * b + 8192) r ⌝ }
 {
     let row = row_at(table, 8192 * k + 32 * b);
     pushed_byte(table, row, 0)
@@ -116,8 +116,8 @@ fn next_row(table: &Remainders, k: usize, b: usize) -> Register
 
 // The rows with k + 1 zeros.
 fn fill_next(table: &mut Remainders, k: usize)
-    requires { ⌜ Filled (8192 * k + 8192) (now table) × (k < 7) ⌝ }
-    ensures { λ _. ⌜ Filled (8192 * k + 16384) (now (table .exit)) ⌝ }
+    requires { ⌜ FilledTo (8192 * k + 8192) (now table) × (k < 7) ⌝ }
+    ensures { λ _. ⌜ FilledTo (8192 * k + 16384) (now (table .exit)) ⌝ }
 {
     let mut b = 0;
     while b < 256 {

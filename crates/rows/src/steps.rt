@@ -1,4 +1,4 @@
-// The rows, packed to numbers that are lent.
+// The rows, packedRow to numbers that are lent.
 use conversion::PackedRows;
 use conversion::Row;
 use conversion::When;
@@ -9,7 +9,7 @@ ghost use lib.ListN.{length};
 ghost use Rattle.bits.specs.Bits.{number};
 ghost use Rattle.modulation.specs.Modulation.{rowAt, startsWith010, lastBit, terminates};
 ghost use Rattle.modulation.specs.Bits.{bits};
-ghost use Rattle.conversion.specs.steps.Rows.{coded, whenNumber, whenAt, packed, packedRows, IsRow, Sized};
+ghost use Rattle.conversion.specs.steps.Rows.{coded, whenNumber, whenAt, packedRow, packedRows, IsRow, Sized};
 
 // The rows in the order in which they are tried: the longest first, the terminating ones last.
 const ROWS: [Row; 16] = [
@@ -66,7 +66,7 @@ fn when_at(number: u32) -> When
 // Row k as a number: how many pairs it has, three bits for its condition, eight for its data bits, twelve for its modulation bits.
 fn packed_row(k: usize) -> u32
     requires { ⌜ k < 16 ⌝ }
-    ensures { λ r. ⌜ r ≡ packed (coded (rowAt k)) ⌝ }
+    ensures { λ r. ⌜ r ≡ packedRow (coded (rowAt k)) ⌝ }
 {
     let r = table_row(k);
     let when = r.3;

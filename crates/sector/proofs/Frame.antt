@@ -6,7 +6,7 @@ use Prim.Native.Nat.{ℕ, _+_, _<_}
 use native.Mathlib.Omega.{arith}
 use borrow.Author.Tests.{eq-eqb, eqb-true}
 use lib.ListN.{length, getD, take, drop, length-append, length-drop, take-append-drop, List·getD-append}
-use lib.Seq.{take-at, drop-at, getD-append-add}
+use lib.Seq.{take-at, drop-at}
 use Rattle.laws.specs.Bytes.{Bytes}
 use Rattle.laws.proofs.Bytes.{bytes-append, bytes-drop}
 use Rattle.bits.specs.Bits.{bitsOf, number}
@@ -31,10 +31,6 @@ bytes-frame user b = bytes-append user (edcBytes user) b (bytes-edc user)
 pub getD-user : (user : List ℕ) (k : ℕ) → k < length user → getD (dataFrame user) k 0 ≡ getD user k 0
 unfolding dataFrame
 getD-user user k h = List·getD-append user (edcBytes user) 0 k h
-
-pub getD-code : (user : List ℕ) (k : ℕ) → getD (dataFrame user) (length user + k) 0 ≡ getD (edcBytes user) k 0
-unfolding dataFrame
-getD-code user k = getD-append-add user (edcBytes user) k 0
 
 module _ (user : List ℕ) (size : length user ≡ 2048) where
   pub take-frame : take 2048 (dataFrame user) ≡ user

@@ -1,50 +1,27 @@
 -- What the code that writes and tests data frames keeps and answers. Assumes nothing.
-use mathlib.Core.Path.{_≡_, refl, sym, ap, subst, _∙_}
+use mathlib.Core.Path.{_≡_, refl}
 use mathlib.Core.Bool.{true, false}
-use mathlib.Core.List.{List}
-use Prim.Native.Nat.{ℕ, _+_, _/_, _%_, _^_, _<_, _≤_}
+use mathlib.Core.List.{List, [], _++_, append-nil}
+use Prim.Native.Nat.{ℕ}
 use native.Mathlib.Omega.{arith}
 use borrow.Author.Tests.{eq-eqb, ne-eqb}
 use lib.Dec.{eqb}
-use lib.ListN.{length, getD, set, take, drop, length-set, length-drop}
-use lib.Seq.{take-all}
-use Rattle.laws.specs.Tabulate.{tabulate}
-use Rattle.laws.proofs.Fill.{Upto, upto-more, upto-all}
-use Rattle.laws.proofs.Tabulate.{is-tabulate}
-use Rattle.bits.specs.Bits.{bitsOf, number}
+use lib.ListN.{length, take, drop, length-drop, drop-of-length-le}
+use lib.Seq.{take-all, take-at, drop-at}
+use Rattle.laws.specs.Bytes.{Bytes}
+use Rattle.words.specs.Words.{wordAt, fourBytes}
+use Rattle.words.proofs.Words.{word-at-number}
 use Rattle.edc.specs.Edc.{edcOf, edcBytes}
 use Rattle.scrambling.specs.Scrambling.{scrambled}
 use Rattle.sector.specs.DataFrame.{dataFrame, edcRight, framed, framedOf}
-use Rattle.sector.proofs.Frame.{frame-size, getD-user, getD-code}
 
--- the first k bytes of l are those of the data frame
-abbrev pub Written : List ℕ → ℕ → List ℕ → Type 0
-Written user k l = Upto 0 (λ j. getD (dataFrame user) j 0) 2052 k l
-
-frame-whole : (user : List ℕ) → length user ≡ 2048 → tabulate 2052 (λ j. getD (dataFrame user) j 0) ≡ dataFrame user
-frame-whole user size = sym (is-tabulate 0 2052 (λ j. getD (dataFrame user) j 0) (dataFrame user) (frame-size user size) (λ j h. refl))
-
-module _ (user l : List ℕ) (k : ℕ) (size : length user ≡ 2048) where
-  pub written-more : k < 2048 → Written user k l → Written user (k + 1) (set l k (getD user k 0))
-  written-more h a = upto-more (omega arith) (sym (getD-user user k (omega arith))) a
-
-  -- the four bytes of the code behind the user bytes
-  pub written-all : (code : ℕ) → k ≤ 2048 → 2048 ≤ k → Written user k l → code ≡ edcOf user
-      → set (set (set (set l 2048 (code / 2 ^ 24 % 256)) 2049 (code / 2 ^ 16 % 256)) 2050 (code / 2 ^ 8 % 256)) 2051 (code % 256) ≡ dataFrame user
-  unfolding edcBytes
-  written-all code h g a e =
-      let end : k ≡ 2048 = omega arith in
-      let a0 : Written user 2048 l = subst (λ (n : ℕ). Written user n l) end a in
-      let byte : (j v : ℕ) → v ≡ getD (edcBytes user) j 0 → v ≡ getD (dataFrame user) (2048 + j) 0 =
-      λ j v q. q ∙ sym (ap (λ (n : ℕ). getD (dataFrame user) (n + j) 0) (sym size) ∙ getD-code user j) in
-      let a1 = upto-more {i = 2048} (omega arith) (byte 0 (code / 2 ^ 24 % 256) (ap (λ (x : ℕ). x / 2 ^ 24 % 256) e)) a0 in
-      let a2 = upto-more {i = 2049} (omega arith) (byte 1 (code / 2 ^ 16 % 256) (ap (λ (x : ℕ). x / 2 ^ 16 % 256) e)) a1 in
-      let a3 = upto-more {i = 2050} (omega arith) (byte 2 (code / 2 ^ 8 % 256) (ap (λ (x : ℕ). x / 2 ^ 8 % 256) e)) a2 in
-      let a4 = upto-more {i = 2051} (omega arith) (byte 3 (code % 256) (ap (λ (x : ℕ). x % 256) e)) a3 in
-      upto-all (omega arith) a4 ∙ frame-whole user size
-
-pub written-length : (l entry : List ℕ) (a b c d : ℕ) → length l ≡ 2052 → length entry ≡ 2052 → length (set (set (set (set l 2048 a) 2049 b) 2050 c) 2051 d) ≡ length entry
-written-length l entry a b c d h g = simp length-set (h ∙ sym g)
+-- user bytes put in front of l, and the code behind them
+pub both-parts : (user l front code back : List ℕ) (word : ℕ) → length user ≡ 2048 → length l ≡ 2052 → front ≡ user → word ≡ edcOf user → code ≡ fourBytes word → back ≡ code
+    → take 2048 (front ++ drop 2048 l) ++ (back ++ drop 4 (drop 2048 (front ++ drop 2048 l))) ≡ dataFrame user
+unfolding dataFrame edcBytes
+both-parts user l front code back word size whole ef ew ec eb =
+    let none : drop 4 (drop 2048 l) ≡ [] = drop-of-length-le (drop 2048 l) {i = 4} (omega (arith, length-drop 2048 l)) in
+    rw (ef, take-at user (drop 2048 l) 2048 size, drop-at user (drop 2048 l) 2048 size, none, append-nil back, eb, ec, ew)
 
 -- ---- the answers
 
@@ -68,8 +45,8 @@ pub other-length : (frame : List ℕ) → (length frame ≡ 2052 → ⊥) → fa
 unfolding edcRight
 other-length frame h = rw (ne-eqb (length frame) 2052 h)
 
-pub compared : (frame : List ℕ) (v code : ℕ) → length frame ≡ 2052 → v ≡ number (bitsOf (take 4 (drop 2048 frame))) → code ≡ edcOf (take 2048 frame) → eqb v code ≡ edcRight frame
+pub compared : (frame : List ℕ) (v code : ℕ) → Bytes frame → length frame ≡ 2052 → v ≡ wordAt frame 2048 → code ≡ edcOf (take 2048 frame) → eqb v code ≡ edcRight frame
 unfolding edcRight
-compared frame v code h e f =
+compared frame v code bytes h e f =
     let four : take 4 (drop 2048 frame) ≡ drop 2048 frame = take-all 4 (drop 2048 frame) (omega (arith, length-drop 2048 frame)) in
-    rw (eq-eqb (length frame) 2052 h, ← f, ← four, ← e)
+    rw (eq-eqb (length frame) 2052 h, ← f, ← four, ← word-at-number frame 2048 bytes (omega arith), ← e)

@@ -1,9 +1,10 @@
 // 13.2 to 13.4: data frames of sectors.
 use edc::edc;
-use edc::steps::word;
 use scrambling::scramble;
+use slices::steps::copy_bytes;
+use words::steps::word_at;
+use words::word_bytes;
 ghost use mathlib.Core.Path.{_≡_};
-ghost use Prim.Native.Nat.{_%_};
 ghost use lib.ListN.{length};
 ghost use Rattle.sector.specs.DataFrame.{dataFrame, edcRight, framed, framedOf};
 
@@ -12,14 +13,9 @@ fn fill_frame(user: &[u8], frame: &mut [u8])
     requires { ⌜ (length (now user) ≡ 2048) × (length (now frame) ≡ 2052) ⌝ }
     ensures { λ _. ⌜ now (frame .exit) ≡ dataFrame (now (user .entry)) ⌝ }
 {
-    for k in 0..2048usize {
-        frame[k] = user[k];
-    }
-    let code = edc(user);
-    frame[2048] = ((code >> 24) % 256) as u8;
-    frame[2049] = ((code >> 16) % 256) as u8;
-    frame[2050] = ((code >> 8) % 256) as u8;
-    frame[2051] = (code % 256) as u8;
+    copy_bytes(user, &mut frame[0..2048]);
+    let code = word_bytes(edc(user));
+    copy_bytes(&code, &mut frame[2048..2052]);
 }
 
 // The scrambled data frame of a sector's 2,048 user bytes, in a frame of 2,052; false, and the frame as it was, at other lengths.
@@ -44,5 +40,5 @@ pub fn edc_right(frame: &[u8]) -> bool
     if frame.len() != 2052 {
         return false;
     }
-    word(frame, 2048) == edc(&frame[0..2048])
+    word_at(frame, 2048) == edc(&frame[0..2048])
 }

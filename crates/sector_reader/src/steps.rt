@@ -7,7 +7,7 @@ ghost use Rattle.scrambling.specs.Scrambling.{scrambled};
 ghost use Rattle.ldc.specs.Places.{frameIn};
 ghost use Rattle.cluster.specs.Multiplex.{ldcIn};
 ghost use Rattle.cluster.specs.Reading.{firstWrongSector};
-ghost use Rattle.ldc_words.specs.steps.Eighth.{frameAt, framesOf, wrongFrame};
+ghost use Rattle.ldc_words.specs.steps.Eighth.{eighthFrame, framesOf, wrongFrame};
 ghost use Rattle.sizes.specs.Sizes.{workSize};
 
 // Data frames 4 e to 4 e + 3 of a cluster, as they stand there.
@@ -29,7 +29,7 @@ fn zero_frame() -> [u8; 2052]
 // Data frame f of four, with the scrambling undone.
 pub fn data_frame(frames: &[u8], stream: &[u8], f: usize) -> [u8; 2052]
     requires { ⌜ (length (now frames) ≡ 8208) × (f < 4) ⌝ }
-    ensures { λ r. ⌜ r ≡ scrambled (now (stream .entry)) (frameAt (now (frames .entry)) f) ⌝ }
+    ensures { λ r. ⌜ r ≡ scrambled (now (stream .entry)) (eighthFrame (now (frames .entry)) f) ⌝ }
 {
     let mut bytes = zero_frame();
     let from = 2052 * f;

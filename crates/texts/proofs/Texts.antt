@@ -9,16 +9,16 @@ use lib.ListN.{length, set, getD, drop, length-append}
 use lib.Seq.{drop-cons, drop-length}
 use Rattle.texts.specs.declared.Text.{Text}
 use Rattle.laws.specs.Zeros.{zeros}
-use Rattle.texts.specs.Text.{textOf, blankText, pushed, added}
+use Rattle.texts.specs.Text.{textOf, blankText, byteAdded, added}
 
 -- ---- one byte
 
-pub push-none : (text : Text) (b : ℕ) → 256 ≤ text .size → text ≡ pushed text b
-unfolding pushed
+pub push-none : (text : Text) (b : ℕ) → 256 ≤ text .size → text ≡ byteAdded text b
+unfolding byteAdded
 push-none text b h = simp (le-ltb _ _ h)
 
-pub push-one : (text : Text) (b : ℕ) → text .size < 256 → record { bytes = set (text .bytes) (text .size) b; size = text .size + 1 } ≡ pushed text b
-unfolding pushed
+pub push-one : (text : Text) (b : ℕ) → text .size < 256 → record { bytes = set (text .bytes) (text .size) b; size = text .size + 1 } ≡ byteAdded text b
+unfolding byteAdded
 push-one text b h = simp (lt-ltb _ _ h)
 
 -- ---- several
@@ -26,7 +26,7 @@ push-one text b h = simp (lt-ltb _ _ h)
 pub added-more : (text : Text) (a b : List ℕ) → added (added text a) b ≡ added text (a ++ b)
 unfolding added
 added-more text [] b = refl
-added-more text (x ∷ a) b = added-more (pushed text x) a b
+added-more text (x ∷ a) b = added-more (byteAdded text x) a b
 
 -- two pieces, and three
 pub added-two : (text : Text) (a b : List ℕ) (t u : Text) → t ≡ added text a → u ≡ added t b → u ≡ added text (a ++ b)
@@ -43,7 +43,7 @@ pub record Behind (text : Text) (more : List ℕ) (done : Text) (i : ℕ) : Type
 pub behind-none : (text : Text) (more : List ℕ) → Behind text more text 0
 behind-none text more = record { within = omega arith; rest = refl }
 
-pub behind-more : {text : Text} {more : List ℕ} {done next : Text} {i : ℕ} → Behind text more done i → i < length more → next ≡ pushed done (getD more i 0)
+pub behind-more : {text : Text} {more : List ℕ} {done next : Text} {i : ℕ} → Behind text more done i → i < length more → next ≡ byteAdded done (getD more i 0)
     → Behind text more next (i + 1)
 unfolding added
 behind-more {text} {more} {done} {next} {i} b h e = record {
@@ -65,8 +65,8 @@ set-behind [] b n = refl
 set-behind (x ∷ a) b n = ap (λ (l : List ℕ). x ∷ l) (set-behind a b n)
 
 -- a byte behind a text
-pushed-text : (a : List ℕ) (b : ℕ) → length a < 256 → pushed (textOf a) b ≡ textOf (a ++ (b ∷ []))
-unfolding pushed textOf
+pushed-text : (a : List ℕ) (b : ℕ) → length a < 256 → byteAdded (textOf a) b ≡ textOf (a ++ (b ∷ []))
+unfolding byteAdded textOf
 pushed-text a b h =
     let size : length (a ++ (b ∷ [])) ≡ length a + 1 = length-append a (b ∷ []) in
     let room : 256 - length a ≡ suc (256 - (length a + 1)) = omega arith in

@@ -24,9 +24,9 @@ unfoldable pub blankText : Text
 blankText = record { bytes = zeros 256; size = 0 }
 
 -- a byte more; one for which there is no room is left out
-unfoldable pub pushed : Text → ℕ → Text
-pushed text b = cond (ltb (text .size) 256) (record { bytes = set (text .bytes) (text .size) b; size = text .size + 1 }) text
+unfoldable pub byteAdded : Text → ℕ → Text
+byteAdded text b = cond (ltb (text .size) 256) (record { bytes = set (text .bytes) (text .size) b; size = text .size + 1 }) text
 
 unfoldable pub added : Text → List ℕ → Text
 added text [] = text
-added text (b ∷ more) = added (pushed text b) more
+added text (b ∷ more) = added (byteAdded text b) more

@@ -3,7 +3,7 @@ ghost use mathlib.Core.Path.{_≡_};
 ghost use mathlib.Core.Bool.{cond};
 ghost use Prim.Native.Nat.{_-_, _<_};
 ghost use lib.Dec.{eqb};
-ghost use Rattle.texts.specs.Text.{blankText, pushed, added};
+ghost use Rattle.texts.specs.Text.{blankText, byteAdded, added};
 ghost use Rattle.texts.specs.Numbers.{decimal, hexadecimal};
 ghost use Rattle.texts.specs.Pieces.{shown, piece, PieceBehind};
 
@@ -24,7 +24,7 @@ pub fn blank() -> Text
 
 // A byte more, where there is room.
 fn push(text: Text, byte: u8) -> Text
-    ensures { λ r. ⌜ r ≡ pushed text byte ⌝ }
+    ensures { λ r. ⌜ r ≡ byteAdded text byte ⌝ }
 {
     let size = text.size;
     if 256 <= size {

@@ -9,16 +9,16 @@ use lib.ListN.{length, getD}
 use Rattle.laws.specs.Tabulate.{tabulate}
 use Rattle.modulation.specs.Modulation.{Three}
 use Rattle.modulation.specs.Bits.{three}
-use Rattle.automaton.specs.Automaton.{reads, stateAfter, numberAfter}
+use Rattle.automaton.specs.Automaton.{transitions, stateAfter, numberAfter}
 
-abbrev pub group : ℕ → Three
-group g = three (g / 4 % 2) (g / 2 % 2) (g % 2)
+abbrev pub groupNumbered : ℕ → Three
+groupNumbered g = three (g / 4 % 2) (g / 2 % 2) (g % 2)
 
 abbrev pub twoGroups : ℕ → List Three
-twoGroups v = group (v / 8) ∷ group (v % 8) ∷ []
+twoGroups v = groupNumbered (v / 8) ∷ groupNumbered (v % 8) ∷ []
 
 abbrev pub threeGroups : ℕ → List Three
-threeGroups v = group (v / 64) ∷ group (v / 8 % 8) ∷ group (v % 8) ∷ []
+threeGroups v = groupNumbered (v / 64) ∷ groupNumbered (v / 8 % 8) ∷ groupNumbered (v % 8) ∷ []
 
 -- from state s, with no data bits before
 unfoldable pub readFrom : ℕ → List Three → ℕ
@@ -26,7 +26,7 @@ readFrom s gs = 32 * numberAfter s 0 gs + stateAfter s gs
 
 -- such a number with group g read
 abbrev pub more : ℕ → ℕ → ℕ
-more a g = a / 32 * 128 + getD reads (8 * (a % 32) + g) 0
+more a g = a / 32 * 128 + getD transitions (8 * (a % 32) + g) 0
 
 -- two groups v from state s stand at 18 v + s, and behind these three groups likewise
 unfoldable pub tableEntry : ℕ → ℕ

@@ -1,6 +1,6 @@
 // The automaton's steps and ends, as the definition has them. A constant is copied where it is read.
 ghost use mathlib.Core.Path.{_≡_};
-ghost use Rattle.automaton.specs.Automaton.{reads, ends};
+ghost use Rattle.automaton.specs.Automaton.{transitions, ends};
 
 // State s at group g, at place 8 s + g: 32 times what is added, and the next state.
 const READS: [u16; 144] = [
@@ -191,7 +191,7 @@ const ENDS: [u16; 36] = [
 ];
 
 pub fn reads() -> [u16; 144]
-    ensures { λ r. ⌜ r ≡ reads ⌝ }
+    ensures { λ r. ⌜ r ≡ transitions ⌝ }
 {
     READS
 }

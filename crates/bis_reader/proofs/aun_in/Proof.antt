@@ -1,4 +1,5 @@
--- `aun_in` meets its contract, from what its steps ensure.
+-- `aun_in` meets its contract, from what its steps ensure (Judging).
+use Rattle.bis_reader.proofs.Judging.{aun-read}
 use borrow.Author.Needs.{needs}
 use Rattle.bis_reader.proofs.aun_in.Statement.{statement}
 use Rattle.bis_reader.proofs.aun_in.Tie as tie
@@ -12,20 +13,20 @@ array-read-restored c = search needs
 restored-requires : tie.Need-restored-requires
 restored-requires c κs = search needs
 
-array-read-number : tie.Need-array-read-number
-array-read-number c = search needs
+array-read-word : tie.Need-array-read-word
+array-read-word c = search needs
 
-array-read-number-2 : tie.Need-array-read-number-2
-array-read-number-2 c = search needs
+array-read-word-2 : tie.Need-array-read-word-2
+array-read-word-2 c = search needs
 
-array-read-number-3 : tie.Need-array-read-number-3
-array-read-number-3 c = search needs
+array-read-word-3 : tie.Need-array-read-word-3
+array-read-word-3 c = search needs
 
-number-requires : tie.Need-number-requires
-number-requires c κs = search needs
+word-requires : tie.Need-word-requires
+word-requires c κs = search needs
 
 returns : tie.Need-returns
-returns c = cc
+returns c = aun-read _ _ (c .before .before .primary-in .ensures) (c .before .restored .ensures) (c .word .ensures)
 
 pub aun-in-spec : {M : Type 1} → statement M
 aun-in-spec =
@@ -34,8 +35,8 @@ aun-in-spec =
     primary-in-requires
     array-read-restored
     restored-requires
-    array-read-number
-    array-read-number-2
-    array-read-number-3
-    number-requires
+    array-read-word
+    array-read-word-2
+    array-read-word-3
+    word-requires
     returns)

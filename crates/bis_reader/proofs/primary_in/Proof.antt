@@ -1,4 +1,6 @@
 -- `primary_in` meets its contract, from what its two steps ensure.
+use mathlib.Core.Path.{ap, _∙_}
+use Rattle.bis.specs.AddressField.{partlyInverted}
 use Rattle.bis.specs.Reading.{primaryIn}
 use borrow.Author.Needs.{needs}
 use Rattle.bis_reader.proofs.primary_in.Statement.{statement}
@@ -12,7 +14,7 @@ partly-inverted-requires c κs = search needs
 
 returns : tie.Need-returns
 unfolding primaryIn
-returns c = cc
+returns c = c .partly-inverted .ensures ∙ ap partlyInverted (c .before .field-in .ensures)
 
 pub primary-in-spec : {M : Type 1} → statement M
 primary-in-spec = tie.close (tie.spec field-in-requires partly-inverted-requires returns)

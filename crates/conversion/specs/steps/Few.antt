@@ -28,7 +28,7 @@ pub record Fitting (before : Bool) (n p k : ℕ) : Type 0 where
   pub within : length (rowAt k .pairs) ≤ n
 
 -- the modulation bits as a number, and whether a terminating row ended them
-pub record Given (m : Modulated) (value : ℕ) (terminated : Bool) : Type 0 where
+pub record BitsGiven (m : Modulated) (value : ℕ) (terminated : Bool) : Type 0 where
   pub value-is : value ≡ number (bits (m .groups))
   pub small : value < 262144
   pub ends : terminated ≡ m .terminated

@@ -37,12 +37,12 @@ whenAt (suc (suc (suc zero))) = Before010
 whenAt (suc (suc (suc (suc n)))) = AtEnd
 
 -- a row as a number: how many pairs, three bits for the condition, eight for the data bits, twelve for the modulation bits
-abbrev pub packed : CodeRow → ℕ
-packed r = 0x800000 * r .0 + 0x100000 * whenNumber (r .3) + 0x1000 * r .1 + r .2
+abbrev pub packedRow : CodeRow → ℕ
+packedRow r = 0x800000 * r .0 + 0x100000 * whenNumber (r .3) + 0x1000 * r .1 + r .2
 
 -- the rows as they are lent
 unfoldable pub packedRows : List ℕ
-packedRows = tabulate 16 (λ k. packed (coded (rowAt k)))
+packedRows = tabulate 16 (λ k. packedRow (coded (rowAt k)))
 
 -- r is row k
 pub record IsRow (k : ℕ) (r : CodeRow) : Type 0 where

@@ -4,6 +4,7 @@ use mathlib.Core.Path.{_≡_}
 use lib.ListN.{length, take}
 use native.Mathlib.Omega.{arith}
 use borrow.Author.Needs.{needs}
+use Rattle.laws.specs.Bytes.{Bytes}
 use Rattle.edc.specs.Edc.{edcOf}
 use Rattle.edc.proofs.Loops.{words-passed, none-passed, four-passed}
 use Rattle.edc.proofs.words_edc.Statement.{statement}
@@ -18,11 +19,11 @@ abbrev μ-loop : tie.MeasureT-loop
 loop-holds : tie.Need-loop-holds Inv-loop μ-loop
 loop-holds c = (omega arith, none-passed)
 
-mul-word : tie.Need-mul-word Inv-loop μ-loop
-mul-word c = search needs
+mul-word-at : tie.Need-mul-word-at Inv-loop μ-loop
+mul-word-at c = search needs
 
-word-requires : tie.Need-word-requires Inv-loop μ-loop
-word-requires c κs = search needs
+word-at-requires : tie.Need-word-at-requires Inv-loop μ-loop
+word-at-requires c κs = search needs
 
 word-edc-requires : tie.Need-word-edc-requires Inv-loop μ-loop
 word-edc-requires c κs = search needs
@@ -34,7 +35,10 @@ loop-less : tie.Need-loop-less Inv-loop μ-loop
 loop-less c = search needs
 
 loop-again : tie.Need-loop-again Inv-loop μ-loop
-loop-again c = (omega arith, search (four-passed))
+loop-again c =
+    let known = c .before .before .before .before in
+    let bytes : Bytes (known .before .args .bytes .now) = λ k. known .shared-slice-known .given k .fits in
+    (omega arith, search (four-passed, bytes))
 
 returns : tie.Need-returns Inv-loop μ-loop
 returns c = search (words-passed)
@@ -46,8 +50,8 @@ words-edc-spec =
     Inv-loop
     μ-loop
     loop-holds
-    mul-word
-    word-requires
+    mul-word-at
+    word-at-requires
     word-edc-requires
     add-k
     loop-less

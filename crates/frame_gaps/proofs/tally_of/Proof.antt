@@ -28,8 +28,8 @@ refused-requires-3 c κs = search needs
 returns-3 : tie.Need-returns-3
 returns-3 c = search (refused-number)
 
-dc-in-requires : tie.Need-dc-in-requires
-dc-in-requires c κs = search needs
+word-at-requires : tie.Need-word-at-requires
+word-at-requires c κs = search needs
 
 refused-requires-4 : tie.Need-refused-requires-4
 refused-requires-4 c κs = search needs
@@ -67,7 +67,7 @@ tally-of-spec =
     shared-slice-read-number
     refused-requires-3
     returns-3
-    dc-in-requires
+    word-at-requires
     refused-requires-4
     returns-4
     sub-frame-counts

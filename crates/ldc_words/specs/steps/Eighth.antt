@@ -48,11 +48,11 @@ pub record LdcPut (frames : ℕ → List ℕ) (count : ℕ) (before after : List
 -- ---- code words and data frames of an eighth, one behind the other
 
 -- code word j of 38, and data frame f of four
-abbrev pub wordAt : List ℕ → ℕ → List ℕ
-wordAt words j = take 248 (drop (248 * j) words)
+abbrev pub eighthWord : List ℕ → ℕ → List ℕ
+eighthWord words j = take 248 (drop (248 * j) words)
 
-abbrev pub frameAt : List ℕ → ℕ → List ℕ
-frameAt frames f = take 2052 (drop (2052 * f) frames)
+abbrev pub eighthFrame : List ℕ → ℕ → List ℕ
+eighthFrame frames f = take 2052 (drop (2052 * f) frames)
 
 -- the information bytes of the code words, 216 of each
 unfoldable pub informationOf : List ℕ → List ℕ
@@ -72,11 +72,11 @@ framesOf frames e = tabulate 8208 (λ p. dataByte frames (8208 * e + p))
 -- ---- what is judged of them
 
 unfoldable pub wrongOf : List ℕ → ℕ → Bool
-wrongOf words j = not (hasRoots 32 (wordAt words j))
+wrongOf words j = not (hasRoots 32 (eighthWord words j))
 
 unfoldable pub wrongFrame : List ℕ → List ℕ → ℕ → Bool
-wrongFrame stream frames f = not (edcRight (scrambled stream (frameAt frames f)))
+wrongFrame stream frames f = not (edcRight (scrambled stream (eighthFrame frames f)))
 
 -- their user bytes, 2,048 of each data frame
 unfoldable pub userOf : List ℕ → List ℕ → List ℕ
-userOf stream frames = tabulate 8192 (λ k. getD (scrambled stream (frameAt frames (k / 2048))) (k % 2048) 0)
+userOf stream frames = tabulate 8192 (λ k. getD (scrambled stream (eighthFrame frames (k / 2048))) (k % 2048) 0)

@@ -4,14 +4,14 @@ use native.Mathlib.Omega.{arith}
 use mathlib.Core.Path.{_≡_}
 use lib.ListN.{length}
 use Rattle.laws.proofs.Fill.{Upto, upto-none, upto-more}
-use Rattle.notation.specs.Words.{byteAt}
-use Rattle.notation.proofs.Words.{bytes-other-words, bytes-other-length, bytes-read}
+use Rattle.notation.specs.Words.{dcByte}
+use Rattle.notation.proofs.Words.{bytes-other-words, bytes-other-length, byte-written, bytes-read}
 use borrow.Author.Needs.{needs}
 use Rattle.notation.proofs.bytes_of.Statement.{statement}
 use Rattle.notation.proofs.bytes_of.Tie as tie
 
 abbrev Inv-loop : tie.InvT-loop
-Inv-loop words bytes₀ k₀ bytes k = (length words ≡ 496) × Upto 0 (byteAt words) 1984 k bytes
+Inv-loop words bytes₀ k₀ bytes k = (length words ≡ 496) × Upto 0 (dcByte words) 1984 k bytes
 
 abbrev μ-loop : tie.MeasureT-loop
 μ-loop words bytes₀ k₀ bytes k = 1984 - k
@@ -25,14 +25,17 @@ returns-2 c = search (bytes-other-length)
 loop-holds : tie.Need-loop-holds Inv-loop μ-loop
 loop-holds c = (omega arith, upto-none (omega arith))
 
-mul-byte-of : tie.Need-mul-byte-of Inv-loop μ-loop
-mul-byte-of c = search needs
+mul-word-bytes : tie.Need-mul-word-bytes Inv-loop μ-loop
+mul-word-bytes c = search needs
 
-shared-slice-read-byte-of : tie.Need-shared-slice-read-byte-of Inv-loop μ-loop
-shared-slice-read-byte-of c = search needs
+shared-slice-read-word-bytes : tie.Need-shared-slice-read-word-bytes Inv-loop μ-loop
+shared-slice-read-word-bytes c = search needs
 
-byte-of-requires : tie.Need-byte-of-requires Inv-loop μ-loop
-byte-of-requires c κs = search needs
+word-bytes-requires : tie.Need-word-bytes-requires Inv-loop μ-loop
+word-bytes-requires c κs = search needs
+
+array-read-bytes : tie.Need-array-read-bytes Inv-loop μ-loop
+array-read-bytes c = search needs
 
 slice-write-bytes : tie.Need-slice-write-bytes Inv-loop μ-loop
 slice-write-bytes c = search needs
@@ -44,8 +47,7 @@ loop-less : tie.Need-loop-less Inv-loop μ-loop
 loop-less c = search needs
 
 loop-again : tie.Need-loop-again Inv-loop μ-loop
-unfolding byteAt
-loop-again c = (omega arith, search (upto-more))
+loop-again c = (omega arith, search (upto-more, byte-written))
 
 same-length : tie.Need-same-length Inv-loop μ-loop
 same-length c = search needs
@@ -62,9 +64,10 @@ bytes-of-spec =
     returns
     returns-2
     loop-holds
-    mul-byte-of
-    shared-slice-read-byte-of
-    byte-of-requires
+    mul-word-bytes
+    shared-slice-read-word-bytes
+    word-bytes-requires
+    array-read-bytes
     slice-write-bytes
     add-k
     loop-less

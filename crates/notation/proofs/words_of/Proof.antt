@@ -1,17 +1,17 @@
 -- `words_of` meets its contract: filled from the front (Words).
-use Prim.Native.Nat.{_-_}
+use Prim.Native.Nat.{_*_, _-_}
 use native.Mathlib.Omega.{arith}
 use mathlib.Core.Path.{_≡_}
 use lib.ListN.{length}
 use Rattle.laws.proofs.Fill.{Upto, upto-none, upto-more}
-use Rattle.notation.specs.Words.{wordAt}
+use Rattle.words.specs.Words.{wordAt}
 use Rattle.notation.proofs.Words.{words-other-bytes, words-other-length, words-read}
 use borrow.Author.Needs.{needs}
 use Rattle.notation.proofs.words_of.Statement.{statement}
 use Rattle.notation.proofs.words_of.Tie as tie
 
 abbrev Inv-loop : tie.InvT-loop
-Inv-loop bytes words₀ n₀ words n = (length bytes ≡ 1984) × Upto 0 (wordAt bytes) 496 n words
+Inv-loop bytes words₀ n₀ words n = (length bytes ≡ 1984) × Upto 0 (λ n. wordAt bytes (4 * n)) 496 n words
 
 abbrev μ-loop : tie.MeasureT-loop
 μ-loop bytes words₀ n₀ words n = 496 - n
@@ -24,6 +24,9 @@ returns-2 c = search (words-other-length)
 
 loop-holds : tie.Need-loop-holds Inv-loop μ-loop
 loop-holds c = (omega arith, upto-none (omega arith))
+
+mul-word-at : tie.Need-mul-word-at Inv-loop μ-loop
+mul-word-at c = search needs
 
 word-at-requires : tie.Need-word-at-requires Inv-loop μ-loop
 word-at-requires c κs = search needs
@@ -58,6 +61,7 @@ words-of-spec =
     returns
     returns-2
     loop-holds
+    mul-word-at
     word-at-requires
     mul-words
     slice-write-words

@@ -31,9 +31,9 @@ unfoldable pub front : List ℕ → List ℕ → ℕ → ℕ → ℕ
 front was message at k = sum (getD message (at + k) 0) (getD was k 0)
 
 -- byte j of what the last n of eight bytes leave, added to a byte
-unfoldable pub added : List ℕ → ℕ → ℕ → ℕ → ℕ
-added eight j byte zero = byte
-added eight j byte (suc n) = sum (added eight j byte n) (getD (leaves n (getD eight (7 - n) 0)) j 0)
+unfoldable pub leavesAdded : List ℕ → ℕ → ℕ → ℕ → ℕ
+leavesAdded eight j byte zero = byte
+leavesAdded eight j byte (suc n) = sum (leavesAdded eight j byte n) (getD (leaves n (getD eight (7 - n) 0)) j 0)
 
 -- ---- the table, as it is filled
 
@@ -42,15 +42,15 @@ pub record FirstTable (table : List ℕ) : Type 0 where
   pub at : (b j : ℕ) → b < 256 → j < 32 → getD table (32 * b + j) 0 ≡ getD (leaves 0 b) j 0
 
 -- the entry at m
-unfoldable pub entryAt : ℕ → ℕ
-entryAt m = getD (leaves (m / 8192) (m % 8192 / 32)) (m % 32) 0
+unfoldable pub remainderAt : ℕ → ℕ
+remainderAt m = getD (leaves (m / 8192) (m % 8192 / 32)) (m % 32) 0
 
 -- the 32 entries from `at` on
-pub record Row (at : ℕ) (row : List ℕ) : Type 0 where
+pub record EntriesFrom (at : ℕ) (row : List ℕ) : Type 0 where
   pub size : 32 ≤ length row
-  pub byte : (j : ℕ) → j < 32 → getD row j 0 ≡ entryAt (at + j)
+  pub byte : (j : ℕ) → j < 32 → getD row j 0 ≡ remainderAt (at + j)
 
 -- the entries below m are right
-pub record Filled (m : ℕ) (table : List ℕ) : Type 0 where
+pub record FilledTo (m : ℕ) (table : List ℕ) : Type 0 where
   pub size : length table ≡ 65536
-  pub below : (k : ℕ) → k < m → getD table k 0 ≡ entryAt k
+  pub below : (k : ℕ) → k < m → getD table k 0 ≡ remainderAt k

@@ -1,4 +1,5 @@
 -- `edc_right` meets its contract: another length, and 2,052 bytes (Writing).
+use Rattle.laws.specs.Bytes.{Bytes}
 use Rattle.sector.proofs.Writing.{other-length, compared}
 use borrow.Author.Needs.{needs}
 use Rattle.sector.proofs.edc_right.Statement.{statement}
@@ -7,8 +8,8 @@ use Rattle.sector.proofs.edc_right.Tie as tie
 returns : tie.Need-returns
 returns c = search (other-length)
 
-word-requires : tie.Need-word-requires
-word-requires c κs = search needs
+word-at-requires : tie.Need-word-at-requires
+word-at-requires c κs = search needs
 
 sub-edc : tie.Need-sub-edc
 sub-edc c = search needs
@@ -23,9 +24,12 @@ edc-requires : tie.Need-edc-requires
 edc-requires c κs = search needs
 
 returns-2 : tie.Need-returns-2
-returns-2 c = search (compared)
+returns-2 c =
+    let known = c .before .before .before .before in
+    let bytes : Bytes (known .before .args .frame .now) = λ k. known .shared-slice-known .given k .fits in
+    search (compared, bytes)
 
 pub edc-right-spec : {M : Type 1} → statement M
 edc-right-spec =
     tie.close
-    (tie.spec returns word-requires sub-edc part-edc-start part-edc-end edc-requires returns-2)
+    (tie.spec returns word-at-requires sub-edc part-edc-start part-edc-end edc-requires returns-2)

@@ -1,89 +1,62 @@
--- `fill_frame` meets its contract: the bytes passed are those of the data frame, then come the four of the code (Writing).
-use Prim.Native.Nat.{_≤_, _-_}
-use native.Mathlib.Omega.{arith}
+-- `fill_frame` meets its contract: the user bytes, then the four bytes of the code (Writing).
 use borrow.Author.Needs.{needs}
-use Rattle.laws.proofs.Fill.{upto-none}
-use Rattle.sector.proofs.Writing.{Written, written-more, written-all, written-length}
+use Rattle.sector.proofs.Writing.{both-parts}
 use Rattle.sector.proofs.fill_frame.Statement.{statement}
 use Rattle.sector.proofs.fill_frame.Tie as tie
 
-abbrev Inv-loop : tie.InvT-loop
-Inv-loop user frame₀ k₀ frame k = (k ≤ 2048) × Written user k frame
+sub-copy-bytes : tie.Need-sub-copy-bytes
+sub-copy-bytes c = search needs
 
-abbrev μ-loop : tie.MeasureT-loop
-μ-loop user frame₀ k₀ frame k = 2048 - k
+part-copy-bytes-start : tie.Need-part-copy-bytes-start
+part-copy-bytes-start c = search needs
 
-loop-holds : tie.Need-loop-holds Inv-loop μ-loop
-loop-holds c = (omega arith, search (upto-none))
+part-copy-bytes-end : tie.Need-part-copy-bytes-end
+part-copy-bytes-end c = search needs
 
-shared-slice-read-frame : tie.Need-shared-slice-read-frame Inv-loop μ-loop
-shared-slice-read-frame c = search needs
+copy-bytes-requires : tie.Need-copy-bytes-requires
+copy-bytes-requires c κs = search needs
 
-slice-write-frame : tie.Need-slice-write-frame Inv-loop μ-loop
-slice-write-frame c = search needs
-
-add-k : tie.Need-add-k Inv-loop μ-loop
-add-k c = search needs
-
-loop-less : tie.Need-loop-less Inv-loop μ-loop
-loop-less c = search needs
-
-loop-again : tie.Need-loop-again Inv-loop μ-loop
-loop-again c = (omega arith, search (written-more))
-
-edc-requires : tie.Need-edc-requires Inv-loop μ-loop
+edc-requires : tie.Need-edc-requires
 edc-requires c κs = search needs
 
-cast-frame : tie.Need-cast-frame Inv-loop μ-loop
-cast-frame c = search needs
+word-bytes-requires : tie.Need-word-bytes-requires
+word-bytes-requires c κs = search needs
 
-slice-write-frame-2 : tie.Need-slice-write-frame-2 Inv-loop μ-loop
-slice-write-frame-2 c = search needs
+slice-aggregate-copy-bytes : tie.Need-slice-aggregate-copy-bytes
+slice-aggregate-copy-bytes c = search needs
 
-cast-frame-2 : tie.Need-cast-frame-2 Inv-loop μ-loop
-cast-frame-2 c = search needs
+sub-copy-bytes-2 : tie.Need-sub-copy-bytes-2
+sub-copy-bytes-2 c = search needs
 
-slice-write-frame-3 : tie.Need-slice-write-frame-3 Inv-loop μ-loop
-slice-write-frame-3 c = search needs
+part-copy-bytes-start-2 : tie.Need-part-copy-bytes-start-2
+part-copy-bytes-start-2 c = search needs
 
-cast-frame-3 : tie.Need-cast-frame-3 Inv-loop μ-loop
-cast-frame-3 c = search needs
+part-copy-bytes-end-2 : tie.Need-part-copy-bytes-end-2
+part-copy-bytes-end-2 c = search needs
 
-slice-write-frame-4 : tie.Need-slice-write-frame-4 Inv-loop μ-loop
-slice-write-frame-4 c = search needs
+copy-bytes-requires-2 : tie.Need-copy-bytes-requires-2
+copy-bytes-requires-2 c κs = search needs
 
-cast-frame-4 : tie.Need-cast-frame-4 Inv-loop μ-loop
-cast-frame-4 c = search needs
+same-length : tie.Need-same-length
+same-length c = search needs
 
-slice-write-frame-5 : tie.Need-slice-write-frame-5 Inv-loop μ-loop
-slice-write-frame-5 c = search needs
-
-same-length : tie.Need-same-length Inv-loop μ-loop
-same-length c = search (written-length)
-
-returns : tie.Need-returns Inv-loop μ-loop
-returns c = search (written-all)
+returns : tie.Need-returns
+returns c = search (both-parts)
 
 pub fill-frame-spec : {M : Type 1} → statement M
 fill-frame-spec =
     tie.close
     (tie.spec
-    Inv-loop
-    μ-loop
-    loop-holds
-    shared-slice-read-frame
-    slice-write-frame
-    add-k
-    loop-less
-    loop-again
+    sub-copy-bytes
+    part-copy-bytes-start
+    part-copy-bytes-end
+    copy-bytes-requires
     edc-requires
-    cast-frame
-    slice-write-frame-2
-    cast-frame-2
-    slice-write-frame-3
-    cast-frame-3
-    slice-write-frame-4
-    cast-frame-4
-    slice-write-frame-5
+    word-bytes-requires
+    slice-aggregate-copy-bytes
+    sub-copy-bytes-2
+    part-copy-bytes-start-2
+    part-copy-bytes-end-2
+    copy-bytes-requires-2
     same-length
     returns)

@@ -4,14 +4,14 @@ use Prim.Native.Nat.{_-_, _≤_}
 use native.Mathlib.Omega.{arith}
 use borrow.Author.Needs.{needs}
 use Rattle.laws.proofs.Fill.{Upto, upto-more, upto-all}
-use Rattle.automaton.specs.Automaton.{reads}
+use Rattle.automaton.specs.Automaton.{transitions}
 use Rattle.automaton.specs.steps.Table.{tableEntry, table}
 use Rattle.automaton.proofs.Entries.{twos-all, twos-upto}
 use Rattle.automaton.proofs.steps.fill_table.Statement.{statement}
 use Rattle.automaton.proofs.steps.fill_table.Tie as tie
 
 abbrev Inv-loop : tie.InvT-loop
-Inv-loop made₀ ones k₀ made k = (ones ≡ reads) × ((1152 ≤ k) × Upto 0 tableEntry 10368 k made)
+Inv-loop made₀ ones k₀ made k = (ones ≡ transitions) × ((1152 ≤ k) × Upto 0 tableEntry 10368 k made)
 
 abbrev μ-loop : tie.MeasureT-loop
 μ-loop made₀ ones k₀ made k = 10368 - k

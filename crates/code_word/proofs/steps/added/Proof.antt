@@ -2,20 +2,20 @@
 use mathlib.Core.Path.{_≡_, refl, ap, _∙_}
 use Prim.Native.Nat.{_-_, _≤_}
 use native.Mathlib.Omega.{arith}
-use Rattle.remainders.specs.steps.Remainders.{added}
+use Rattle.remainders.specs.steps.Remainders.{leavesAdded}
 use Rattle.remainders.proofs.Eight.{added-more}
 use borrow.Author.Needs.{needs}
 use Rattle.code_word.proofs.steps.added.Statement.{statement}
 use Rattle.code_word.proofs.steps.added.Tie as tie
 
 abbrev Inv-loop : tie.InvT-loop
-Inv-loop table j byte eight v₀ k₀ v k = (k ≤ 8) × (v ≡ added eight j byte k)
+Inv-loop table j byte eight v₀ k₀ v k = (k ≤ 8) × (v ≡ leavesAdded eight j byte k)
 
 abbrev μ-loop : tie.MeasureT-loop
 μ-loop table j byte eight v₀ k₀ v k = 8 - k
 
 loop-holds : tie.Need-loop-holds Inv-loop μ-loop
-unfolding added
+unfolding leavesAdded
 loop-holds c = (search needs, refl)
 
 sub-entry : tie.Need-sub-entry Inv-loop μ-loop
@@ -49,7 +49,7 @@ returns c =
     let held = c .before .loop in
     let start = c .before .before in
     let all : held .k ≡ 8 = omega arith in
-    held .inv .1 ∙ ap (added (start .args .t2) (start .args .j) (start .args .byte)) all
+    held .inv .1 ∙ ap (leavesAdded (start .args .t2) (start .args .j) (start .args .byte)) all
 
 pub added-spec : {M : Type 1} → statement M
 added-spec =

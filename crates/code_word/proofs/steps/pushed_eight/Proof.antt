@@ -2,14 +2,14 @@
 use Prim.Native.Nat.{_+_, _-_}
 use lib.ListN.{getD}
 use native.Mathlib.Omega.{arith}
-use Rattle.remainders.specs.steps.Remainders.{added}
+use Rattle.remainders.specs.steps.Remainders.{leavesAdded}
 use Rattle.remainders.proofs.Eight.{Filling, filling-none, padded-zeros, filling-more, eight-in}
 use borrow.Author.Needs.{needs}
 use Rattle.code_word.proofs.steps.pushed_eight.Statement.{statement}
 use Rattle.code_word.proofs.steps.pushed_eight.Tie as tie
 
 abbrev Inv-loop : tie.InvT-loop
-Inv-loop table message at was eight next₀ j₀ next j = Filling (λ k. added eight k (getD was (k + 8) 0) 8) j next
+Inv-loop table message at was eight next₀ j₀ next j = Filling (λ k. leavesAdded eight k (getD was (k + 8) 0) 8) j next
 
 abbrev μ-loop : tie.MeasureT-loop
 μ-loop table message at was eight next₀ j₀ next j = 32 - j

@@ -1,14 +1,14 @@
 -- `fill_first` meets its contract: a row a turn. Assumes nothing.
 use Prim.Native.Nat.{_*_, _-_, _≤_}
 use native.Mathlib.Omega.{arith}
-use Rattle.remainders.specs.steps.Remainders.{Filled}
+use Rattle.remainders.specs.steps.Remainders.{FilledTo}
 use Rattle.remainders.proofs.Table.{filled-less, filled-none, row-is}
 use borrow.Author.Needs.{needs}
 use Rattle.remainders.proofs.steps.fill_first.Statement.{statement}
 use Rattle.remainders.proofs.steps.fill_first.Tie as tie
 
 abbrev Inv-loop : tie.InvT-loop
-Inv-loop table₀ powers logs generator b₀ table b = (b ≤ 256) × Filled (32 * b) table
+Inv-loop table₀ powers logs generator b₀ table b = (b ≤ 256) × FilledTo (32 * b) table
 
 abbrev μ-loop : tie.MeasureT-loop
 μ-loop table₀ powers logs generator b₀ table b = 256 - b

@@ -1,14 +1,14 @@
 -- `fill_next` meets its contract: a row a turn. Assumes nothing.
 use Prim.Native.Nat.{_+_, _*_, _-_, _≤_}
 use native.Mathlib.Omega.{arith}
-use Rattle.remainders.specs.steps.Remainders.{Filled}
+use Rattle.remainders.specs.steps.Remainders.{FilledTo}
 use Rattle.remainders.proofs.Table.{filled-less}
 use borrow.Author.Needs.{needs}
 use Rattle.remainders.proofs.steps.fill_next.Statement.{statement}
 use Rattle.remainders.proofs.steps.fill_next.Tie as tie
 
 abbrev Inv-loop : tie.InvT-loop
-Inv-loop table₀ k b₀ table b = (b ≤ 256) × Filled (8192 * k + 32 * b + 8192) table
+Inv-loop table₀ k b₀ table b = (b ≤ 256) × FilledTo (8192 * k + 32 * b + 8192) table
 
 abbrev μ-loop : tie.MeasureT-loop
 μ-loop table₀ k b₀ table b = 256 - b

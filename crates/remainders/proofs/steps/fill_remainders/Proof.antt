@@ -1,14 +1,14 @@
 -- `fill_remainders` meets its contract: first the rows with no zeros, then a zero more a turn. Assumes nothing.
 use Prim.Native.Nat.{_+_, _*_, _-_, _≤_}
 use native.Mathlib.Omega.{arith}
-use Rattle.remainders.specs.steps.Remainders.{Filled}
+use Rattle.remainders.specs.steps.Remainders.{FilledTo}
 use Rattle.remainders.proofs.Table.{filled-less, filled-all}
 use borrow.Author.Needs.{needs}
 use Rattle.remainders.proofs.steps.fill_remainders.Statement.{statement}
 use Rattle.remainders.proofs.steps.fill_remainders.Tie as tie
 
 abbrev Inv-loop : tie.InvT-loop
-Inv-loop table₀ k₀ table k = (k ≤ 7) × Filled (8192 * k + 8192) table
+Inv-loop table₀ k₀ table k = (k ≤ 7) × FilledTo (8192 * k + 8192) table
 
 abbrev μ-loop : tie.MeasureT-loop
 μ-loop table₀ k₀ table k = 7 - k

@@ -2,14 +2,14 @@
 use mathlib.Core.Path.{refl}
 use Prim.Native.Nat.{_+_, _-_, _≤_}
 use native.Mathlib.Omega.{arith}
-use Rattle.remainders.specs.steps.Remainders.{Filled}
+use Rattle.remainders.specs.steps.Remainders.{FilledTo}
 use Rattle.remainders.proofs.Table.{put-more, filled-less}
 use borrow.Author.Needs.{needs}
 use Rattle.remainders.proofs.steps.put_row.Statement.{statement}
 use Rattle.remainders.proofs.steps.put_row.Tie as tie
 
 abbrev Inv-loop : tie.InvT-loop
-Inv-loop table₀ at row j₀ table j = (j ≤ 32) × Filled (at + j) table
+Inv-loop table₀ at row j₀ table j = (j ≤ 32) × FilledTo (at + j) table
 
 abbrev μ-loop : tie.MeasureT-loop
 μ-loop table₀ at row j₀ table j = 32 - j

@@ -1,15 +1,15 @@
--- `packed_rows` meets its contract: the rows are packed one by one. Assumes nothing.
+-- `packed_rows` meets its contract: the rows are packedRow one by one. Assumes nothing.
 use Prim.Native.Nat.{_-_}
 use borrow.Author.Needs.{needs}
 use mathlib.Core.Path.{refl}
 use Rattle.laws.proofs.Fill.{Upto, upto-none, upto-more, upto-all}
 use Rattle.modulation.specs.Modulation.{rowAt}
-use Rattle.conversion.specs.steps.Rows.{coded, packed, packedRows}
+use Rattle.conversion.specs.steps.Rows.{coded, packedRow, packedRows}
 use Rattle.rows.proofs.steps.packed_rows.Statement.{statement}
 use Rattle.rows.proofs.steps.packed_rows.Tie as tie
 
 abbrev Inv-loop : tie.InvT-loop
-Inv-loop rows₀ k₀ rows k = Upto 0 (λ k. packed (coded (rowAt k))) 16 k rows
+Inv-loop rows₀ k₀ rows k = Upto 0 (λ k. packedRow (coded (rowAt k))) 16 k rows
 
 abbrev μ-loop : tie.MeasureT-loop
 μ-loop rows₀ k₀ rows k = 16 - k

@@ -1,4 +1,4 @@
--- `row_at` meets its contract: a packed row's parts are the row (CodedRows). Assumes nothing.
+-- `row_at` meets its contract: a packedRow row's parts are the row (CodedRows). Assumes nothing.
 use mathlib.Core.List.{List}
 use mathlib.Core.Path.{_≡_, ap, _∙_}
 use Prim.Native.Nat.{ℕ, _<_}
@@ -7,14 +7,14 @@ use borrow.Author.Needs.{needs}
 use lib.ListN.{getD}
 use Rattle.modulation.specs.Modulation.{rowAt}
 use Rattle.laws.proofs.Tabulate.{getD-tabulate}
-use Rattle.conversion.specs.steps.Rows.{coded, packed, packedRows}
+use Rattle.conversion.specs.steps.Rows.{coded, packedRow, packedRows}
 use Rattle.conversion.proofs.CodedRows.{row-sized, unpacked-size, unpacked}
 use Rattle.rows.proofs.steps.row_at.Statement.{statement}
 use Rattle.rows.proofs.steps.row_at.Tie as tie
 
-packed-at : (rows : List ℕ) (k : ℕ) → rows ≡ packedRows → k < 16 → getD rows k 0 ≡ packed (coded (rowAt k))
+packed-at : (rows : List ℕ) (k : ℕ) → rows ≡ packedRows → k < 16 → getD rows k 0 ≡ packedRow (coded (rowAt k))
 unfolding packedRows
-packed-at rows k e h = ap (λ (l : List ℕ). getD l k 0) e ∙ getD-tabulate 16 (λ k. packed (coded (rowAt k))) k 0 h
+packed-at rows k e h = ap (λ (l : List ℕ). getD l k 0) e ∙ getD-tabulate 16 (λ k. packedRow (coded (rowAt k))) k 0 h
 
 mul-row : tie.Need-mul-row
 mul-row c = search needs

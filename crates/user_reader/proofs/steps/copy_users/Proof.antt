@@ -6,13 +6,13 @@ use borrow.Author.Needs.{needs}
 use lib.ListN.{getD}
 use Rattle.laws.proofs.Fill.{Upto, upto-none, upto-all}
 use Rattle.scrambling.specs.Scrambling.{scrambled}
-use Rattle.ldc_words.specs.steps.Eighth.{frameAt, userOf}
+use Rattle.ldc_words.specs.steps.Eighth.{eighthFrame, userOf}
 use Rattle.ldc_words.proofs.Eighth.{user-turn}
 use Rattle.user_reader.proofs.steps.copy_users.Statement.{statement}
 use Rattle.user_reader.proofs.steps.copy_users.Tie as tie
 
 abbrev Inv-loop : tie.InvT-loop
-Inv-loop frames stream user₀ f₀ user f = (f ≤ 4) × Upto 0 (λ k. getD (scrambled stream (frameAt frames (k / 2048))) (k % 2048) 0) 8192 (2048 * f) user
+Inv-loop frames stream user₀ f₀ user f = (f ≤ 4) × Upto 0 (λ k. getD (scrambled stream (eighthFrame frames (k / 2048))) (k % 2048) 0) 8192 (2048 * f) user
 
 abbrev μ-loop : tie.MeasureT-loop
 μ-loop frames stream user₀ f₀ user f = 4 - f

@@ -1,11 +1,7 @@
--- `word_at` meets its contract: four bytes.
-use Rattle.notation.specs.Words.{wordAt}
+-- `word_at` meets its contract, from what `word` ensures.
 use borrow.Author.Needs.{needs}
-use Rattle.notation.proofs.word_at.Statement.{statement}
-use Rattle.notation.proofs.word_at.Tie as tie
-
-mul-at : tie.Need-mul-at
-mul-at c = search needs
+use Rattle.words.proofs.steps.word_at.Statement.{statement}
+use Rattle.words.proofs.steps.word_at.Tie as tie
 
 shared-slice-read-word : tie.Need-shared-slice-read-word
 shared-slice-read-word c = search needs
@@ -32,14 +28,12 @@ word-requires : tie.Need-word-requires
 word-requires c κs = search needs
 
 returns : tie.Need-returns
-unfolding wordAt
 returns c = c .word .ensures
 
 pub word-at-spec : {M : Type 1} → statement M
 word-at-spec =
     tie.close
     (tie.spec
-    mul-at
     shared-slice-read-word
     add-word
     shared-slice-read-word-2

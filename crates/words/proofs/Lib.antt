@@ -1,0 +1,2 @@
+-- Laws of words and their bytes.
+pub mod Words
