@@ -64,16 +64,16 @@ fn psn_line(found: PsnFound) {
 
 fn side_line(block: Block) {
     let mut side = [0u8; 592];
-    bis_reader::side_data(block, &mut side);
+    side_reader::side_data(block, &mut side);
     lines::hex_line(b"side data: ", hash::of(&side), 16);
 }
 
 fn print_reading(block: Block) {
-    let column = bis_reader::first_wrong_column(block);
+    let column = bis_columns::first_wrong_column(block);
     lines::number_line(b"first wrong column: ", column as u64);
-    let unit = bis_reader::first_wrong_field(block);
+    let unit = bis_fields::first_wrong_field(block);
     lines::number_line(b"first wrong address field: ", unit as u64);
-    psn_line(bis_reader::psn_in(block));
+    psn_line(bis_psn::psn_in(block));
     side_line(block);
 }
 

@@ -83,7 +83,7 @@ fn place_in(field: [u8; 9], byte: u8) -> usize {
 // The address field that is wrong in a block with one byte changed, and the place of that byte in it. In the cluster drawn by 2 the nine bytes
 // of each field differ.
 fn address_cell(changed: bis::Block, byte: u8, side: &[u8]) {
-    let unit = bis_reader::first_wrong_field(changed);
+    let unit = bis_fields::first_wrong_field(changed);
     let aun = clusters::psn().aun((unit % 16) as u32);
     let field = address_field::address_field(aun.aun, byte_at(side, unit));
     entry(b" AF", place_in(field, byte), unit);

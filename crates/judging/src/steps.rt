@@ -61,7 +61,7 @@ pub fn bis_columns(table: &Remainders, block: Block) -> Answer
     requires { ⌜ AreRemainders (now table) ⌝ }
     ensures { λ r. ⌜ r ≡ bisColumnsAnswer block ⌝ }
 {
-    let column = bis_reader::steps::first_wrong_column_by(table, block);
+    let column = bis_columns::steps::first_wrong_column_by(table, block);
     lowest(column, 24, Answer::BisColumn(column))
 }
 
@@ -69,7 +69,7 @@ pub fn bis_columns(table: &Remainders, block: Block) -> Answer
 pub fn address_fields(block: Block) -> Answer
     ensures { λ r. ⌜ r ≡ addressFieldsAnswer block ⌝ }
 {
-    let unit = bis_reader::first_wrong_field(block);
+    let unit = bis_fields::first_wrong_field(block);
     lowest(unit, 16, Answer::AddressUnit(unit))
 }
 
@@ -77,7 +77,7 @@ pub fn address_fields(block: Block) -> Answer
 pub fn psn(block: Block) -> PsnAnswer
     ensures { λ r. ⌜ r ≡ psnAnswer block ⌝ }
 {
-    let found = bis_reader::psn_in(block);
+    let found = bis_psn::psn_in(block);
     match found {
         PsnFound::Found(psn) => PsnAnswer {
             answer: Answer::Done,

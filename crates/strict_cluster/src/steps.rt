@@ -82,7 +82,7 @@ fn give(
     ensures { λ _. ⌜ Given (now (work .entry)) block (now (stream .entry)) (now (words .entry)) (now (user .exit)) (now (side .exit)) (now (dc .exit)) ⌝ }
 {
     user_reader::steps::user_bytes(work, stream, user);
-    bis_reader::side_data(block, side);
+    side_reader::side_data(block, side);
     slices::steps::copy_words(words, dc);
 }
 

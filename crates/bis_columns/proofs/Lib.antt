@@ -1,0 +1,2 @@
+-- A column judged.
+pub mod Judging

@@ -1,0 +1,2 @@
+-- An address field judged.
+pub mod Judging

@@ -1,0 +1,2 @@
+-- The AUNs of a block, and its PSN.
+pub mod Judging

@@ -1,2 +1,0 @@
--- The tests in a BIS block, case by case.
-pub mod Judging

@@ -1,0 +1,2 @@
+-- The side data, byte by byte.
+pub mod Judging
