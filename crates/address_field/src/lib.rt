@@ -5,7 +5,6 @@ use address::Aun;
 use steps::partly_inverted;
 use words::word_bytes;
 ghost use mathlib.Core.Path.{_≡_};
-ghost use Prim.Native.Nat.{_+_, _*_, _-_};
 ghost use Rattle.bis.specs.AddressField.{reordered, information, primaryField, addressField};
 
 // PAF0 from the AUN's high byte.

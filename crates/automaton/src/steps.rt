@@ -4,7 +4,7 @@ mod constants;
 use crate::Table;
 ghost use mathlib.Core.Bool.{cond};
 ghost use mathlib.Core.Path.{_≡_};
-ghost use Prim.Native.Nat.{_+_, _*_, _-_, _/_, _%_, _<_, _≤_};
+ghost use Prim.Native.Nat.{_%_, _<_, _≤_};
 ghost use lib.ListN.{length};
 ghost use Rattle.automaton.specs.Automaton.{transitions, ending};
 ghost use Rattle.automaton.specs.steps.Table.{twoGroups, threeGroups, more, tableEntry, table, Twos, After};

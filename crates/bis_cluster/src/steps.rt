@@ -1,7 +1,7 @@
 // The BIS block to its places, and back.
 use bis::Block;
 ghost use mathlib.Core.Path.{_≡_};
-ghost use Prim.Native.Nat.{_*_, _/_, _%_, _<_};
+ghost use Prim.Native.Nat.{_<_};
 ghost use lib.ListN.{length};
 ghost use Rattle.bis.specs.BisCluster.{bisRow, bisColumn, bisByte};
 ghost use Rattle.cluster.specs.Multiplex.{bisIndex, columnIn, bisIn};

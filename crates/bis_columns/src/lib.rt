@@ -3,7 +3,6 @@ pub mod steps;
 
 use bis::Block;
 ghost use mathlib.Core.Path.{_≡_};
-ghost use Prim.Native.Nat.{_-_};
 ghost use Rattle.bis.specs.Reading.{firstWrongColumn};
 
 // The lowest BIS column, 0 to 23, without its 32 roots, or 24.

@@ -2,7 +2,6 @@
 use bis::Block;
 use remainders::Remainders;
 ghost use mathlib.Core.Path.{_≡_};
-ghost use Prim.Native.Nat.{_+_, _-_, _<_};
 ghost use Rattle.column.specs.Column.{hasRoots};
 ghost use Rattle.remainders.specs.steps.Remainders.{AreRemainders};
 ghost use Rattle.bis.specs.Reading.{firstWrongColumn};

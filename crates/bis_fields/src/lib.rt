@@ -3,7 +3,6 @@ pub mod steps;
 
 use bis::Block;
 ghost use mathlib.Core.Path.{_≡_};
-ghost use Prim.Native.Nat.{_-_, _<_};
 ghost use Rattle.bis.specs.Reading.{firstWrongField};
 
 // The lowest address unit, 0 to 15, whose primary address field is without its 4 roots, or 16.

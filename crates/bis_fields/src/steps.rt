@@ -2,7 +2,7 @@
 use address_field::steps::partly_inverted;
 use bis::Block;
 ghost use mathlib.Core.Path.{_≡_};
-ghost use Prim.Native.Nat.{_-_, _<_};
+ghost use Prim.Native.Nat.{_<_};
 ghost use Rattle.bis.specs.Reading.{fieldIn, primaryIn};
 
 // Address field y as it stands in the block.

@@ -1,6 +1,5 @@
 // 13.14: the ECC cluster, as a definition, and its rows.
 ghost use mathlib.Core.Path.{_≡_};
-ghost use Prim.Native.Nat.{_*_, _<_};
 ghost use Rattle.cluster.specs.EccCluster.{shownRow};
 
 // Row n as those very bytes of the cluster; empty for n above 495 or a slice that is no cluster.

@@ -2,7 +2,7 @@
 use address::Psn;
 use remainders::Remainders;
 ghost use mathlib.Core.Path.{_≡_};
-ghost use Prim.Native.Nat.{_*_, _<_};
+ghost use Prim.Native.Nat.{_<_};
 ghost use lib.ListN.{length};
 ghost use Rattle.remainders.specs.steps.Remainders.{AreRemainders};
 ghost use Rattle.answer.specs.declared.Answer.the-variants.{Done};

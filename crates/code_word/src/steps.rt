@@ -6,7 +6,7 @@ use remainders::steps::pushed_byte;
 use remainders::steps::wide;
 use remainders::steps::zeros;
 ghost use mathlib.Core.Path.{_≡_};
-ghost use Prim.Native.Nat.{_+_, _*_, _<_, _≤_};
+ghost use Prim.Native.Nat.{_+_, _<_, _≤_};
 ghost use lib.ListN.{length, getD, take, drop};
 ghost use Rattle.laws.specs.Bytes.{Bytes};
 ghost use Rattle.laws.specs.Tabulate.{tabulate};

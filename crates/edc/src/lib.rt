@@ -1,7 +1,7 @@
 // 13.3: the error-detection code.
 use words::steps::word_at;
 ghost use mathlib.Core.Path.{_≡_};
-ghost use Prim.Native.Nat.{_*_, _/_, _^_, _<_};
+ghost use Prim.Native.Nat.{_*_, _/_, _<_};
 ghost use lib.Bits.{bitXor};
 ghost use lib.ListN.{length, take};
 ghost use Rattle.edc.specs.Edc.{edcOf};

@@ -5,7 +5,7 @@ use conversion::When;
 ghost use mathlib.Core.Bool.{false};
 ghost use mathlib.Core.List.{tail};
 ghost use mathlib.Core.Path.{_≡_};
-ghost use Prim.Native.Nat.{_+_, _*_, _%_, _^_, _<_, _≤_};
+ghost use Prim.Native.Nat.{_*_, _%_, _^_, _<_, _≤_};
 ghost use lib.ListN.{length};
 ghost use Rattle.modulation.specs.Modulation.{twoNumber, rowAt, starts, startsWith010, allowed, fits, modulateFrom, modulate};
 ghost use Rattle.conversion.specs.steps.Rows.{packedRows};

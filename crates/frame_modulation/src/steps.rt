@@ -1,7 +1,6 @@
 // A frame as words, sixteen bits at a time by the table; and of a row and a dc word.
 use modulator::Table;
 ghost use mathlib.Core.Path.{_≡_};
-ghost use Prim.Native.Nat.{_+_, _*_, _%_, _<_};
 ghost use lib.ListN.{length};
 ghost use Rattle.frame.specs.Frame.{framePairs};
 ghost use Rattle.modulator.specs.steps.Table.{lentTable};

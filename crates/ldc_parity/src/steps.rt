@@ -2,7 +2,7 @@
 use remainders::Remainders;
 ghost use mathlib.Core.Path.{_≡_};
 ghost use mathlib.Core.List.{_++_};
-ghost use Prim.Native.Nat.{_+_, _*_, _<_};
+ghost use Prim.Native.Nat.{_+_};
 ghost use lib.ListN.{length};
 ghost use Rattle.remainders.specs.steps.Remainders.{AreRemainders};
 ghost use Rattle.ldc_words.specs.steps.Eighth.{completed, completedWords};

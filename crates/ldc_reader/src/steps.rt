@@ -1,7 +1,6 @@
 // The code words of an eighth at a time.
 use remainders::Remainders;
 ghost use mathlib.Core.Path.{_≡_};
-ghost use Prim.Native.Nat.{_*_, _<_};
 ghost use lib.ListN.{length};
 ghost use Rattle.laws.specs.First.{first};
 ghost use Rattle.remainders.specs.steps.Remainders.{AreRemainders};

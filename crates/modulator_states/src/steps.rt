@@ -1,6 +1,6 @@
 // What the rows give for the pairs that wait and one more, and at the end of a frame.
 ghost use mathlib.Core.Path.{_≡_};
-ghost use Prim.Native.Nat.{_+_, _*_, _-_, _/_, _%_, _^_, _<_, _≤_};
+ghost use Prim.Native.Nat.{_*_, _/_, _%_, _^_, _<_, _≤_};
 ghost use Rattle.conversion.specs.steps.Rows.{packedRows};
 ghost use Rattle.modulator.specs.steps.Table.{waits, WaitingNumber, stepEntry, stopEntry};
 use conversion::PackedRows;

@@ -1,6 +1,6 @@
 // The table, step by step: a pair, two, four, and the end of a frame.
 ghost use mathlib.Core.Path.{_≡_};
-ghost use Prim.Native.Nat.{_+_, _*_, _-_, _/_, _%_, _<_};
+ghost use Prim.Native.Nat.{_+_, _*_, _/_, _%_, _<_};
 ghost use lib.ListN.{length};
 ghost use Rattle.conversion.specs.steps.Rows.{packedRows};
 ghost use Rattle.modulator.specs.steps.Table.{stepTable, stopTable, nibbleTable, lentTable, joined, stepEntry, stopEntry, nibbleEntry, byteEntry, lastEntry, entryAt};

@@ -3,7 +3,7 @@ use field::Gf;
 ghost use mathlib.Core.Path.{_≡_};
 ghost use lib.ListN.{length, drop};
 ghost use Rattle.column.specs.Column.{generator, pushed};
-ghost use Prim.Native.Nat.{_+_, _<_};
+ghost use Prim.Native.Nat.{_<_};
 ghost use Rattle.laws.specs.Tabulate.{tabulate};
 ghost use Rattle.field.specs.Tables.{AreTables};
 

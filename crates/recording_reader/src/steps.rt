@@ -3,7 +3,7 @@ use automaton::Table;
 use frame::FrameRead;
 use frame::TwoRead;
 ghost use mathlib.Core.Path.{_≡_};
-ghost use Prim.Native.Nat.{_+_, _*_, _<_};
+ghost use Prim.Native.Nat.{_+_, _<_};
 ghost use lib.ListN.{length, drop};
 ghost use Rattle.bits.specs.Bits.{bitsOf};
 ghost use Rattle.automaton.specs.steps.Table.{table};

@@ -4,7 +4,7 @@ use conversion::Row;
 use conversion::When;
 ghost use mathlib.Core.Bool.{false};
 ghost use mathlib.Core.Path.{_≡_};
-ghost use Prim.Native.Nat.{_+_, _*_, _%_, _^_, _<_};
+ghost use Prim.Native.Nat.{_+_, _*_, _^_, _<_};
 ghost use lib.ListN.{length};
 ghost use Rattle.bits.specs.Bits.{number};
 ghost use Rattle.modulation.specs.Modulation.{rowAt, startsWith010, lastBit, terminates};

@@ -1,7 +1,7 @@
 // 13.4: scrambling.
 use address::Psn;
 ghost use mathlib.Core.Path.{_≡_};
-ghost use Prim.Native.Nat.{_+_, _/_, _%_, _^_, _<_, min};
+ghost use Prim.Native.Nat.{min};
 ghost use lib.ListN.{length};
 ghost use Rattle.scrambling.specs.Scrambling.{shift, shifts, scramblingOf, scrambled};
 

@@ -1,6 +1,6 @@
 // LDC columns, sectors, user bytes: an eighth at a time.
 ghost use mathlib.Core.Path.{_≡_};
-ghost use Prim.Native.Nat.{_*_, _<_};
+ghost use Prim.Native.Nat.{_<_};
 ghost use lib.ListN.{length};
 ghost use Rattle.laws.specs.First.{first};
 ghost use Rattle.scrambling.specs.Scrambling.{scrambled};

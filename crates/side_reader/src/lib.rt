@@ -1,7 +1,7 @@
 // The side data of a BIS block.
 use bis::Block;
 ghost use mathlib.Core.Path.{_≡_};
-ghost use Prim.Native.Nat.{_-_, _<_};
+ghost use Prim.Native.Nat.{_<_};
 ghost use Rattle.bis.specs.Reading.{sideByteIn, sideOut};
 ghost use Rattle.sizes.specs.Sizes.{sideSize};
 

@@ -1,6 +1,5 @@
 // Four data frames at a time.
 ghost use mathlib.Core.Path.{_≡_};
-ghost use Prim.Native.Nat.{_*_, _<_};
 ghost use lib.ListN.{length, getD};
 ghost use Rattle.laws.specs.Tabulate.{tabulate};
 ghost use Rattle.cluster.specs.Reading.{userIn};
