@@ -11,6 +11,12 @@ pub fn number(text: &[u8], value: u64) {
     io::print_decimal(1, value);
 }
 
+// A text and two numbers.
+pub fn pair(text: &[u8], a: usize, b: usize) {
+    number(text, a as u64);
+    number(b",", b as u64);
+}
+
 pub fn number_line(text: &[u8], value: u64) {
     number(text, value);
     end_line();
