@@ -28,6 +28,21 @@ pub fn part(bytes: &[u8], from: usize, to: usize) -> &[u8] {
     &bytes[0..0]
 }
 
+// The first bytes, all where there are not so many.
+pub fn first(bytes: &mut [u8], count: usize) -> &mut [u8] {
+    if count <= bytes.len() {
+        return &mut bytes[0..count];
+    }
+    bytes
+}
+
+pub fn first_words(words: &mut [u32], count: usize) -> &mut [u32] {
+    if count <= words.len() {
+        return &mut words[0..count];
+    }
+    words
+}
+
 // Line k of a text; the last where it has fewer.
 pub fn line(text: &[u8], k: usize) -> &[u8] {
     let mut n = k;
