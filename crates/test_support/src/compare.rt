@@ -28,6 +28,14 @@ pub fn part(bytes: &[u8], from: usize, to: usize) -> &[u8] {
     &bytes[0..0]
 }
 
+// The first bytes of a, or of b where a has not so many.
+pub fn either<'a>(a: &'a [u8], b: &'a [u8], count: usize) -> &'a [u8] {
+    if count <= a.len() {
+        return &a[0..count];
+    }
+    part(b, 0, count)
+}
+
 // The first bytes, all where there are not so many.
 pub fn first(bytes: &mut [u8], count: usize) -> &mut [u8] {
     if count <= bytes.len() {
