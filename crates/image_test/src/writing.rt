@@ -5,7 +5,6 @@ use test_support::compare;
 use test_support::lent;
 use test_support::lines;
 ghost use mathlib.Core.Path.{_≡_};
-ghost use Prim.Native.Nat.{_≤_};
 ghost use lib.ListN.{length};
 
 // Writes the image of a cluster into marked slices, and says the answer.
@@ -37,11 +36,14 @@ fn words_with(first: usize) -> [u32; 496]
     words
 }
 
+fn say_touched(image: &[u8], work: &[u8]) {
+    lines::if_others(b"  image touched\n", image, lent::IMAGE_MARK);
+    lines::if_others(b"  work touched\n", work, lent::WORK_MARK);
+}
+
 // A refusal, with slices of these lengths for user, side, dc, image and work: the answer, and whether image and work were touched. Where `first`
 // is the index of a dc word, that and the last are too large.
-fn refuse(psn: u32, first: usize, user: usize, side: usize, dc: usize, image: usize, work: usize)
-    requires { ⌜ dc ≤ 496 ⌝ }
-{
+fn refuse(psn: u32, first: usize, user: usize, side: usize, dc: usize, image: usize, work: usize) {
     let users = lent::user();
     let sides = lent::user();
     let words = words_with(first);
@@ -51,13 +53,12 @@ fn refuse(psn: u32, first: usize, user: usize, side: usize, dc: usize, image: us
         compare::part(&users, 0, user),
         Psn(psn),
         compare::part(&sides, 0, side),
-        &words[0..dc],
+        compare::part_words(&words, dc),
         compare::first(&mut images, image),
         compare::first(&mut works, work),
     );
     lines::answer_line(b"", answer);
-    lines::if_others(b"  image touched\n", &images, lent::IMAGE_MARK);
-    lines::if_others(b"  work touched\n", &works, lent::WORK_MARK);
+    say_touched(&images, &works);
 }
 
 // Tests 1 to 5; where two tests fail, the lower number.

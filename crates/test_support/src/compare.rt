@@ -36,7 +36,7 @@ pub fn either<'a>(a: &'a [u8], b: &'a [u8], count: usize) -> &'a [u8] {
     part(b, 0, count)
 }
 
-// The first bytes, all where there are not so many.
+// The first bytes to be written, all where there are not so many.
 pub fn first(bytes: &mut [u8], count: usize) -> &mut [u8] {
     if count <= bytes.len() {
         return &mut bytes[0..count];
@@ -44,6 +44,15 @@ pub fn first(bytes: &mut [u8], count: usize) -> &mut [u8] {
     bytes
 }
 
+// The first words, none where there are not so many.
+pub fn part_words(words: &[u32], count: usize) -> &[u32] {
+    if count <= words.len() {
+        return &words[0..count];
+    }
+    &words[0..0]
+}
+
+// The same to be written, all where there are not so many.
 pub fn first_words(words: &mut [u32], count: usize) -> &mut [u32] {
     if count <= words.len() {
         return &mut words[0..count];
