@@ -19,9 +19,9 @@ fn refuse_each(whole: &[u8], file: &[u8]) {
     let mut image = lent::image();
     compare::copy(whole, &mut image, 0);
     for k in 0..10627usize {
-        let offset = compare::number_at(file, 5 * k, 4);
-        let byte = compare::byte_at(file, 5 * k + 4);
-        compare::put(&mut image, offset as usize, byte);
+        let record = compare::number_at(file, 5 * k, 5);
+        let offset = record / 256;
+        compare::put(&mut image, offset as usize, (record % 256) as u8);
         compare::copy(end(whole, &image, offset), &mut image, 0);
     }
 }

@@ -1,8 +1,8 @@
 -- `refuse_each` is safe and ends.
+use borrow.Author.Needs.{needs}
 use Prim.Native.Nat.{_≤_, _-_}
 use mathlib.Core.Path.{_≡_}
 use lib.ListN.{length}
-use borrow.Author.Needs.{needs}
 use Rattle.image_test.proofs.damage.refuse_each.Statement.{statement}
 use Rattle.image_test.proofs.damage.refuse_each.Tie as tie
 
@@ -30,17 +30,11 @@ mul-number-at c = search needs
 number-at-requires : tie.Need-number-at-requires Inv-loop μ-loop
 number-at-requires c κs = search needs
 
-mul-byte-at : tie.Need-mul-byte-at Inv-loop μ-loop
-mul-byte-at c = search needs
-
-add-byte-at : tie.Need-add-byte-at Inv-loop μ-loop
-add-byte-at c = search needs
-
-byte-at-requires : tie.Need-byte-at-requires Inv-loop μ-loop
-byte-at-requires c κs = search needs
-
 slice-aggregate-put : tie.Need-slice-aggregate-put Inv-loop μ-loop
 slice-aggregate-put c = search needs
+
+cast-put : tie.Need-cast-put Inv-loop μ-loop
+cast-put c = search needs
 
 put-requires : tie.Need-put-requires Inv-loop μ-loop
 put-requires c κs = search needs
@@ -81,10 +75,8 @@ refuse-each-spec =
     loop-holds
     mul-number-at
     number-at-requires
-    mul-byte-at
-    add-byte-at
-    byte-at-requires
     slice-aggregate-put
+    cast-put
     put-requires
     slice-aggregate-end
     end-requires
