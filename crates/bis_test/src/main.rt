@@ -39,16 +39,12 @@ fn place(n: usize, c: usize) -> usize
     (u * 31 + r) * 3 + e
 }
 
-fn cluster_of(block: Block) -> [u8; 1488] {
+fn cluster_hash(block: Block) -> u64 {
     let mut cluster = [0u8; 1488];
     for k in 0..1488usize {
         cluster[place(k % 62, k / 62)] = block[k / 62][k % 62];
     }
-    cluster
-}
-
-fn cluster_line(cluster: [u8; 1488]) {
-    lines::hex_line(b"BIS cluster: ", hash::of(&cluster), 16);
+    hash::of(&cluster)
 }
 
 fn psn_line(found: PsnFound) {
@@ -87,30 +83,28 @@ fn block_of(psn: Psn, side: [u8; 592]) -> Block {
     [[0u8; 62]; 24]
 }
 
-fn field_line(text: &[u8], field: [u8; 9]) {
+// The address field of unit y, below 16.
+fn field_line(text: &[u8], psn: Psn, side: [u8; 592], y: u32) {
+    let unit = psn.aun(y % 16);
+    let field = address_field::address_field(unit.aun, side[(y % 16) as usize]);
     lines::bytes_line(text, &field);
-}
-
-fn field_lines(psn: Psn, side: [u8; 592]) {
-    let first = psn.aun(0);
-    let last = psn.aun(15);
-    field_line(
-        b"address field 0: ",
-        address_field::address_field(first.aun, side[0]),
-    );
-    field_line(
-        b"address field 15: ",
-        address_field::address_field(last.aun, side[15]),
-    );
 }
 
 fn show(text: &[u8], psn: Psn, side: [u8; 592]) {
     io::write_all(1, text);
-    field_lines(psn, side);
+    field_line(b"address field 0: ", psn, side, 0);
+    field_line(b"address field 15: ", psn, side, 15);
     let block = block_of(psn, side);
     lines::hex_line(b"access block: ", access_hash(block), 16);
-    cluster_line(cluster_of(block));
+    lines::hex_line(b"BIS cluster: ", cluster_hash(block), 16);
     print_reading(block);
+}
+
+// The column with byte n, below 62, set.
+fn with_byte(column: [u8; 62], n: usize, byte: u8) -> [u8; 62] {
+    let mut out = column;
+    out[n % 62] = byte;
+    out
 }
 
 fn with_parity(column: [u8; 62], parity: [u8; 32]) -> [u8; 62] {
@@ -124,13 +118,6 @@ fn recoded(column: [u8; 62]) -> [u8; 62] {
     let mut parity = [0u8; 32];
     parity::parity_32(compare::part(&column, 0, 30), &mut parity);
     with_parity(column, parity)
-}
-
-// The column with byte n, below 62, set.
-fn with_byte(column: [u8; 62], n: usize, byte: u8) -> [u8; 62] {
-    let mut out = column;
-    out[n % 62] = byte;
-    out
 }
 
 // The block with another address field of unit y, below 16, in columns that have their roots.

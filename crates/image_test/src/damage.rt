@@ -3,7 +3,6 @@
 use crate::reading;
 use test_support::compare;
 use test_support::files;
-use test_support::lent;
 
 // A damaged image is read where it ends; the whole one then takes its place.
 fn end<'a>(whole: &'a [u8], image: &[u8], offset: u64) -> &'a [u8] {
@@ -15,14 +14,12 @@ fn end<'a>(whole: &'a [u8], image: &[u8], offset: u64) -> &'a [u8] {
 }
 
 // Reads each damaged image of the file.
-fn refuse_each(whole: &[u8], file: &[u8]) {
-    let mut image = lent::image();
-    compare::copy(whole, &mut image, 0);
+fn refuse_each(whole: &[u8], file: &[u8], image: &mut [u8]) {
     for k in 0..10627usize {
-        let offset = compare::number_at(file, 5 * k, 4);
-        let byte = compare::byte_at(file, 5 * k + 4);
-        compare::put(&mut image, offset as usize, byte);
-        compare::copy(end(whole, &image, offset), &mut image, 0);
+        let record = compare::number_at(file, 5 * k, 5);
+        let offset = record / 256;
+        compare::put(image, offset as usize, (record % 256) as u8);
+        compare::copy(end(whole, image, offset), image, 0);
     }
 }
 
@@ -36,7 +33,8 @@ pub fn records(blank: [u8; 53135]) -> [u8; 53135] {
 // The damaged images of a file, then the whole one with slices that are refused.
 pub fn refuse(whole: [u8; 119788], file: [u8; 53135]) {
     io::write_all(1, b"damaged\n");
-    refuse_each(&whole, &file);
+    let mut image = whole;
+    refuse_each(&whole, &file, &mut image);
     io::write_all(1, b"reading refused\n");
     reading::refuse_slices(&whole);
 }

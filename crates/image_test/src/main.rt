@@ -1,37 +1,37 @@
 // Writer and reader on whole images: the clusters of an independent program both ways, its damaged images, round trips, and each refusal.
-mod clusters;
 mod damage;
 mod reading;
 mod writing;
 
 use test_support::compare;
+use test_support::lines;
 
 // A cluster of files, written.
-fn write(psn: u32, given: clusters::Cluster) {
-    let made = writing::write(b"  written ", psn, given, clusters::marked());
+fn write(psn: u32, given: test_clusters::Cluster) {
+    let made = writing::write(b"  written ", psn, given, test_clusters::marked());
     let x = made.image;
     let y = given.image;
-    clusters::compare_images(x, y);
+    test_clusters::compare_images(x, y);
     let x = made.work;
     let y = given.work;
-    clusters::compare_works(x, y);
+    test_clusters::compare_works(x, y);
 }
 
 // Its image read.
-fn read(psn: u32, given: clusters::Cluster) {
+fn read(psn: u32, given: test_clusters::Cluster) {
     let image = given.image;
-    let read = reading::read(psn, image, clusters::marked());
-    clusters::compare_inputs(read, given);
+    let read = reading::read(psn, image, test_clusters::marked());
+    test_clusters::compare_inputs(read, given);
     let x = read.work;
     let y = given.work;
-    clusters::compare_works(x, y);
+    test_clusters::compare_works(x, y);
 }
 
 fn both_ways(k: usize, psn: u32) {
     let name = compare::line(b"zero\nzone0\nzone1\nzone2\nones", k);
     io::write_all(1, name);
-    io::write_all(1, b"\n");
-    let given = clusters::load(name, clusters::marked());
+    lines::end_line();
+    let given = test_clusters::load(name, test_clusters::marked());
     write(psn, given);
     read(psn, given);
 }
@@ -46,7 +46,7 @@ fn files() {
 
 // The damaged images of zone1, in the order of data/zone1.damage.txt, and its image with slices that are refused.
 fn images_refused() {
-    let given = clusters::load(b"zone1", clusters::marked());
+    let given = test_clusters::load(b"zone1", test_clusters::marked());
     let image = given.image;
     let file = damage::records([0u8; 53135]);
     damage::refuse(image, file);
@@ -54,15 +54,15 @@ fn images_refused() {
 
 // A cluster drawn from a seed, written and read, and what was read written again.
 fn trip(psn: u32, seed: u64) {
-    let blank = clusters::marked();
-    let given = clusters::draw(seed, blank);
+    let blank = test_clusters::marked();
+    let given = test_clusters::draw(seed, blank);
     let made = writing::write(b"  written ", psn, given, blank);
     let image = made.image;
     let read = reading::read(psn, image, blank);
-    clusters::compare_inputs(read, given);
+    test_clusters::compare_inputs(read, given);
     let again = writing::write(b"  written again ", psn, read, blank);
     let other = again.image;
-    clusters::compare_images(other, image);
+    test_clusters::compare_images(other, image);
 }
 
 fn round_trips() {

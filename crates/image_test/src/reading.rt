@@ -1,10 +1,9 @@
 // Images read, or refused with every slice as document 01 has it.
-use crate::clusters::Cluster;
 use reader::Read;
+use test_clusters::Cluster;
 use test_support::compare;
 use test_support::lent;
 use test_support::lines;
-ghost use Prim.Native.Nat.{_≤_};
 
 // The answer, and whether the PSN is another.
 fn say(text: &[u8], psn: u32, read: Read) {
@@ -34,31 +33,29 @@ pub fn read(psn: u32, image: [u8; 119788], blank: Cluster) -> Cluster {
 }
 
 // How many places of the slices are not as a refusal leaves them; every byte of work is then `left`.
-fn touched(user: [u8; 65536], side: [u8; 592], dc: [u32; 496], work: [u8; 76880], left: u8) -> u64 {
-    let n = compare::others(&user, lent::USER_MARK);
-    let n = std::num::wrapping_add_u64(n, compare::others(&side, lent::SIDE_MARK));
-    let n = std::num::wrapping_add_u64(n, compare::other_words(&dc, lent::WORD_MARK));
-    std::num::wrapping_add_u64(n, compare::others(&work, left))
+fn touched(user: &[u8], side: &[u8], dc: &[u32], work: &[u8], left: u8) -> u64 {
+    let n = compare::others(user, lent::USER_MARK);
+    let n = std::num::wrapping_add_u64(n, compare::others(side, lent::SIDE_MARK));
+    let n = std::num::wrapping_add_u64(n, compare::other_words(dc, lent::WORD_MARK));
+    std::num::wrapping_add_u64(n, compare::others(work, left))
 }
 
 // A refusal, with slices of these lengths for user, side, dc and work: number and place, no PSN, and whether the slices are not left as they
 // should be.
-fn refuse(image: &[u8], user: usize, side: usize, dc: usize, work: usize, left: u8)
-    requires { ⌜ ((user ≤ 65536) × (side ≤ 592)) × ((dc ≤ 496) × (work ≤ 76880)) ⌝ }
-{
+fn refuse(image: &[u8], user: usize, side: usize, dc: usize, work: usize, left: u8) {
     let mut users = lent::user();
     let mut sides = lent::side();
     let mut words = lent::words();
     let mut works = lent::work();
     let read = reader::read_image(
         image,
-        &mut users[0..user],
-        &mut sides[0..side],
-        &mut words[0..dc],
-        &mut works[0..work],
+        compare::first(&mut users, user),
+        compare::first(&mut sides, side),
+        compare::first_words(&mut words, dc),
+        compare::first(&mut works, work),
     );
     say(b"", 0, read);
-    if touched(users, sides, words, works, left) != 0 {
+    if touched(&users, &sides, &words, &works, left) != 0 {
         io::write_all(1, b"  not as it should be left\n");
     }
 }

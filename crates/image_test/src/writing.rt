@@ -1,11 +1,10 @@
 // Images written, or refused with both slices untouched.
-use crate::clusters::Cluster;
 use address::Psn;
+use test_clusters::Cluster;
 use test_support::compare;
 use test_support::lent;
 use test_support::lines;
 ghost use mathlib.Core.Path.{_≡_};
-ghost use Prim.Native.Nat.{_≤_};
 ghost use lib.ListN.{length};
 
 // Writes the image of a cluster into marked slices, and says the answer.
@@ -37,35 +36,29 @@ fn words_with(first: usize) -> [u32; 496]
     words
 }
 
-fn say_touched(image: [u8; 119788], work: [u8; 76880]) {
-    if compare::others(&image, lent::IMAGE_MARK) != 0 {
-        io::write_all(1, b"  image touched\n");
-    }
-    if compare::others(&work, lent::WORK_MARK) != 0 {
-        io::write_all(1, b"  work touched\n");
-    }
+fn say_touched(image: &[u8], work: &[u8]) {
+    lines::if_others(b"  image touched\n", image, lent::IMAGE_MARK);
+    lines::if_others(b"  work touched\n", work, lent::WORK_MARK);
 }
 
 // A refusal, with slices of these lengths for user, side, dc, image and work: the answer, and whether image and work were touched. Where `first`
 // is the index of a dc word, that and the last are too large.
-fn refuse(psn: u32, first: usize, user: usize, side: usize, dc: usize, image: usize, work: usize)
-    requires { ⌜ ((user ≤ 65536) × (side ≤ 65536)) × ((dc ≤ 496) × ((image ≤ 119788) × (work ≤ 76880))) ⌝ }
-{
+fn refuse(psn: u32, first: usize, user: usize, side: usize, dc: usize, image: usize, work: usize) {
     let users = lent::user();
     let sides = lent::user();
     let words = words_with(first);
     let mut images = lent::image();
     let mut works = lent::work();
     let answer = writer::write_image(
-        &users[0..user],
+        compare::part(&users, 0, user),
         Psn(psn),
-        &sides[0..side],
-        &words[0..dc],
-        &mut images[0..image],
-        &mut works[0..work],
+        compare::part(&sides, 0, side),
+        compare::part_words(&words, dc),
+        compare::first(&mut images, image),
+        compare::first(&mut works, work),
     );
     lines::answer_line(b"", answer);
-    say_touched(images, works);
+    say_touched(&images, &works);
 }
 
 // Tests 1 to 5; where two tests fail, the lower number.

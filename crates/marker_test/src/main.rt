@@ -1,6 +1,7 @@
-// Each verdict, on images that the writer makes of a pattern.
+// Each verdict, on images that the writer makes of drawn user bytes and side data.
 use address::Psn;
 use test_support::compare;
+use test_support::draws;
 use test_support::lent;
 use test_support::lines;
 use verdict::Verdict;
@@ -25,59 +26,38 @@ fn print_verdict(verdict: Verdict) {
     }
 }
 
-// With slices of the right lengths lent.
-fn mark(text: &[u8], psn: u32, user: &[u8], side: &[u8], image: &[u8]) {
+// With so many bytes of each for user, side and image, and a work slice of this length lent.
+fn mark(text: &[u8], given: Given, users: usize, sides: usize, images: usize, works: usize) {
+    let user = given.user;
+    let side = given.side;
+    let image = given.image;
     let mut bytes = lent::user();
     let mut control = lent::side();
     let mut dc = lent::words();
     let mut work = lent::work();
     io::write_all(1, text);
     print_verdict(marker::mark(
-        Psn(psn),
-        user,
-        side,
-        image,
+        Psn(given.psn),
+        compare::part(&user, 0, users),
+        compare::either(&side, &user, sides),
+        compare::part(&image, 0, images),
         &mut bytes,
         &mut control,
         &mut dc,
-        &mut work,
-    ));
-}
-
-// With a work slice that is too short lent.
-fn mark_without_work(text: &[u8], psn: u32, user: &[u8], side: &[u8], image: &[u8]) {
-    let mut bytes = lent::user();
-    let mut control = lent::side();
-    let mut dc = lent::words();
-    io::write_all(1, text);
-    print_verdict(marker::mark(
-        Psn(psn),
-        user,
-        side,
-        image,
-        &mut bytes,
-        &mut control,
-        &mut dc,
-        &mut [0u8; 10],
+        compare::first(&mut work, works),
     ));
 }
 
 fn verdict(text: &[u8], given: Given) {
-    let user = given.user;
-    let side = given.side;
-    let image = given.image;
-    mark(text, given.psn, &user, &side, &image);
+    mark(text, given, 65536, 592, 119788, 76880);
 }
 
 // Slices of other lengths.
 fn lengths(given: Given) {
-    let user = given.user;
-    let side = given.side;
-    let image = given.image;
-    mark(b"side for user: ", given.psn, &side, &side, &image);
-    mark(b"user for side: ", given.psn, &user, &user, &image);
-    mark(b"side for image: ", given.psn, &user, &side, &side);
-    mark_without_work(b"short work: ", given.psn, &user, &side, &image);
+    mark(b"side for user: ", given, 592, 592, 119788, 76880);
+    mark(b"user for side: ", given, 65536, 65536, 119788, 76880);
+    mark(b"side for image: ", given, 65536, 592, 592, 76880);
+    mark(b"short work: ", given, 65536, 592, 119788, 10);
 }
 
 fn with_psn(given: Given, psn: u32) -> Given {
@@ -115,7 +95,7 @@ fn words_of(word: u32) -> [u32; 496] {
     [word; 496]
 }
 
-// With the image of the pattern under these dc words.
+// With the image under these dc words.
 fn with_image(given: Given, dc: [u32; 496]) -> Given {
     let user = given.user;
     let side = given.side;
@@ -153,18 +133,11 @@ fn images(given: Given) -> Given {
     zeros
 }
 
-// Bytes that count up to 250 and again.
-fn fill(bytes: &mut [u8]) {
-    for k in 0..bytes.len() {
-        bytes[k] = (k % 251) as u8;
-    }
-}
-
-fn pattern() -> Given {
+fn drawn() -> Given {
     let mut user = lent::user();
     let mut side = lent::side();
-    fill(&mut user);
-    fill(&mut side);
+    draws::draw(1, &mut user);
+    draws::draw(2, &mut side);
     Given {
         psn: 0x02F7_6400,
         user,
@@ -174,7 +147,7 @@ fn pattern() -> Given {
 }
 
 fn main() {
-    let given = images(pattern());
+    let given = images(drawn());
     lengths(given);
     other_psns(given);
     verdict(b"last bit: ", with_last_bit(other_parts(given)));

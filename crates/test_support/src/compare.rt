@@ -28,6 +28,38 @@ pub fn part(bytes: &[u8], from: usize, to: usize) -> &[u8] {
     &bytes[0..0]
 }
 
+// The first bytes of a, or of b where a has not so many.
+pub fn either<'a>(a: &'a [u8], b: &'a [u8], count: usize) -> &'a [u8] {
+    if count <= a.len() {
+        return &a[0..count];
+    }
+    part(b, 0, count)
+}
+
+// The first bytes to be written, all where there are not so many.
+pub fn first(bytes: &mut [u8], count: usize) -> &mut [u8] {
+    if count <= bytes.len() {
+        return &mut bytes[0..count];
+    }
+    bytes
+}
+
+// The first words, none where there are not so many.
+pub fn part_words(words: &[u32], count: usize) -> &[u32] {
+    if count <= words.len() {
+        return &words[0..count];
+    }
+    &words[0..0]
+}
+
+// The same to be written, all where there are not so many.
+pub fn first_words(words: &mut [u32], count: usize) -> &mut [u32] {
+    if count <= words.len() {
+        return &mut words[0..count];
+    }
+    words
+}
+
 // Line k of a text; the last where it has fewer.
 pub fn line(text: &[u8], k: usize) -> &[u8] {
     let mut n = k;

@@ -11,11 +11,14 @@ fn join(name: &[u8], kind: &[u8], path: &mut [u8]) -> usize
     io::count((name.len() % 64 + kind.len() % 64) as isize, path)
 }
 
-// Fills a buffer from the file of this name and kind, or says that it is too short.
+// Fills a buffer from the file of this name and kind; says on standard error which cannot be opened, and on standard output that it is too short.
 pub fn load(name: &[u8], kind: &[u8], bytes: &mut [u8]) {
     let mut path = [0u8; 128];
     let n = join(name, kind, &mut path);
     let fd = os::open_read(&path[..n]);
+    if fd < 0 {
+        os::fail(&path[..n]);
+    }
     let got = io::read_full(fd, bytes);
     libc::close(fd);
     if got != bytes.len() {

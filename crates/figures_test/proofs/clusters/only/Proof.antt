@@ -1,19 +1,21 @@
 -- `only` is safe and ends.
 use borrow.Author.Needs.{needs}
 use Prim.Native.Nat.{_≤_, _-_}
-use mathlib.Core.Path.{_≡_}
 use lib.ListN.{length}
 use Rattle.figures_test.proofs.clusters.only.Statement.{statement}
 use Rattle.figures_test.proofs.clusters.only.Tie as tie
 
 abbrev Inv-loop : tie.InvT-loop
-Inv-loop agreed n found₀ k₀ k-end found k = (k ≤ k-end) × (k-end ≡ length agreed)
+Inv-loop marks mark found₀ k₀ k-end found k = k ≤ length marks
 
 abbrev μ-loop : tie.MeasureT-loop
-μ-loop agreed n found₀ k₀ k-end found k = k-end - k
+μ-loop marks mark found₀ k₀ k-end found k = length marks - k
 
 loop-holds : tie.Need-loop-holds Inv-loop μ-loop
 loop-holds c = search needs
+
+mul-if1 : tie.Need-mul-if1 Inv-loop μ-loop
+mul-if1 c = search needs
 
 shared-slice-read-if1 : tie.Need-shared-slice-read-if1 Inv-loop μ-loop
 shared-slice-read-if1 c = search needs
@@ -40,6 +42,7 @@ only-spec =
     Inv-loop
     μ-loop
     loop-holds
+    mul-if1
     shared-slice-read-if1
     returns
     add-k

@@ -1,8 +1,8 @@
--- `marked_in` is safe and ends.
+-- `first_in` is safe and ends.
 use borrow.Author.Needs.{needs}
 use Prim.Native.Nat.{_≤_, _-_}
-use Rattle.figures_test.proofs.cells.marked_in.Statement.{statement}
-use Rattle.figures_test.proofs.cells.marked_in.Tie as tie
+use Rattle.figures_test.proofs.cells.first_in.Statement.{statement}
+use Rattle.figures_test.proofs.cells.first_in.Tie as tie
 
 abbrev Inv-loop : tie.InvT-loop
 Inv-loop block k₀ k = k ≤ 1488
@@ -37,8 +37,8 @@ loop-again c = search needs
 returns-2 : tie.Need-returns-2 Inv-loop μ-loop
 returns-2 c = search needs
 
-pub marked-in-spec : {M : Type 1} → statement M
-marked-in-spec =
+pub first-in-spec : {M : Type 1} → statement M
+first-in-spec =
     tie.close
     (tie.spec
     Inv-loop

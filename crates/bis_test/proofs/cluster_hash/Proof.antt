@@ -1,10 +1,10 @@
--- `cluster_of` is safe and ends.
+-- `cluster_hash` is safe and ends.
+use borrow.Author.Needs.{needs}
 use Prim.Native.Nat.{_≤_, _-_}
 use mathlib.Core.Path.{_≡_}
 use lib.ListN.{length}
-use borrow.Author.Needs.{needs}
-use Rattle.bis_test.proofs.cluster_of.Statement.{statement}
-use Rattle.bis_test.proofs.cluster_of.Tie as tie
+use Rattle.bis_test.proofs.cluster_hash.Statement.{statement}
+use Rattle.bis_test.proofs.cluster_hash.Tie as tie
 
 abbrev Inv-loop : tie.InvT-loop
 Inv-loop block cluster₀ k₀ cluster k = (k ≤ 1488) × (length cluster ≡ 1488)
@@ -39,11 +39,17 @@ loop-less c = search needs
 loop-again : tie.Need-loop-again Inv-loop μ-loop
 loop-again c = search needs
 
+slice-aggregate-of : tie.Need-slice-aggregate-of Inv-loop μ-loop
+slice-aggregate-of c = search needs
+
+of-requires : tie.Need-of-requires Inv-loop μ-loop
+of-requires c κs = search needs
+
 returns : tie.Need-returns Inv-loop μ-loop
 returns c = search needs
 
-pub cluster-of-spec : {M : Type 1} → statement M
-cluster-of-spec =
+pub cluster-hash-spec : {M : Type 1} → statement M
+cluster-hash-spec =
     tie.close
     (tie.spec
     Inv-loop
@@ -57,4 +63,6 @@ cluster-of-spec =
     add-k
     loop-less
     loop-again
+    slice-aggregate-of
+    of-requires
     returns)

@@ -3,8 +3,8 @@ use Prim.Native.Nat.{_≤_, _-_}
 use mathlib.Core.Path.{_≡_}
 use lib.ListN.{length}
 use borrow.Author.Needs.{needs}
-use Rattle.image_test.proofs.clusters.drawn_words.Statement.{statement}
-use Rattle.image_test.proofs.clusters.drawn_words.Tie as tie
+use Rattle.test_clusters.proofs.drawn_words.Statement.{statement}
+use Rattle.test_clusters.proofs.drawn_words.Tie as tie
 
 abbrev Inv-loop : tie.InvT-loop
 Inv-loop from words₀ state₀ k₀ words state k = (k ≤ 496) × (length words ≡ 496)

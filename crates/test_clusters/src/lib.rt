@@ -1,4 +1,4 @@
-// Clusters: what an image is made of, the image, and the ECC cluster.
+// Whole clusters for the tests: what an image is made of, the image, and the ECC cluster; loaded, drawn and compared.
 use test_support::compare;
 use test_support::draws;
 use test_support::files;
@@ -90,24 +90,20 @@ pub fn draw(seed: u64, blank: Cluster) -> Cluster {
     }
 }
 
-fn line(text: &[u8], a: &[u8], b: &[u8]) {
-    lines::number_line(text, compare::differing(a, b));
-}
-
 pub fn compare_images(a: [u8; 119788], b: [u8; 119788]) {
-    line(b"  image bytes that differ ", &a, &b);
+    lines::differing_line(b"  image bytes that differ ", &a, &b);
 }
 
 pub fn compare_works(a: [u8; 76880], b: [u8; 76880]) {
-    line(b"  cluster bytes that differ ", &a, &b);
+    lines::differing_line(b"  cluster bytes that differ ", &a, &b);
 }
 
 fn compare_users(a: [u8; 65536], b: [u8; 65536]) {
-    line(b"  user bytes that differ ", &a, &b);
+    lines::differing_line(b"  user bytes that differ ", &a, &b);
 }
 
 fn compare_sides(a: [u8; 592], b: [u8; 592]) {
-    line(b"  side bytes that differ ", &a, &b);
+    lines::differing_line(b"  side bytes that differ ", &a, &b);
 }
 
 fn compare_words(a: [u32; 496], b: [u32; 496]) {
