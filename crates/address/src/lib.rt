@@ -1,7 +1,7 @@
 // The three numberings of clause 13.9.2.3 and 17.2. A place that takes one is never handed another.
 use answer::Answer;
 ghost use mathlib.Core.Path.{_≡_};
-ghost use Rattle.address.specs.Zones.{Zone, within, inDataZone};
+ghost use Rattle.address.specs.Zones.{within, inDataZone};
 ghost use Rattle.address.specs.Judged.{judged, ifDone};
 ghost use Rattle.address.specs.Conversions.{withPsn, psnToPaa, paaToPsn, psnToAun, aunToPsn};
 

@@ -96,12 +96,3 @@ module _ (refusal : ℕ → Answer) {n i : ℕ} where
         | yes h ↦ absurd (done-not (refusal i) (r i) (sym (lowest-here h) ∙ e))
         | no h ↦ omega arith
       ]
-
--- ---- as the code has it: i is what was found, j what the definition names
-
-module _ (refusal : ℕ → Answer) (next : Answer) {n i j : ℕ} (e : i ≡ j) where
-  pub stop-here : isDone (refusal i) ≡ false → i < n → refusal i ≡ andThen (lowest refusal n j) next
-  stop-here r h = sym (ap (λ (k : ℕ). andThen (lowest refusal n k) next) (sym e) ∙ ap (λ (x : Answer). andThen x next) (lowest-here refusal h) ∙ then-here (refusal i) next r)
-
-  pub go-on : n ≤ i → next ≡ andThen (lowest refusal n j) next
-  go-on h = sym (ap (λ (k : ℕ). andThen (lowest refusal n k) next) (sym e) ∙ ap (λ (x : Answer). andThen x next) (lowest-none refusal h))
