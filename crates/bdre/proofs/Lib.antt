@@ -1,2 +1,2 @@
 -- What the exported functions show of what they call.
-pub mod Seen
+pub mod Exported

@@ -1,2 +1,2 @@
 -- What a caller in another language sees.
-pub mod Seen
+pub mod Exported

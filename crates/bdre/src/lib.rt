@@ -14,7 +14,7 @@ ghost use Rattle.writer.specs.Promise.{WritesExactly};
 ghost use Rattle.reader.specs.Promise.{RightSlices, ReadsExactly};
 ghost use Rattle.marker.specs.Marked.{IsImageOf, marked};
 ghost use Rattle.address.specs.Conversions.{psnToPaa, paaToPsn, psnToAun, aunToPsn};
-ghost use Rattle.bdre.specs.Seen.{writing, reading, marking, psnSeen, aunSeen, paaSeen};
+ghost use Rattle.bdre.specs.Exported.{writing, reading, marking, psnSeen, aunSeen, paaSeen};
 
 // Writes the image of a cluster.
 #[no_mangle]

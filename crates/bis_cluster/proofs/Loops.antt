@@ -1,4 +1,4 @@
--- A turn of each loop that reads or writes the BIS cluster, and the row that is shown. Assumes nothing.
+-- A turn of each loop that reads or writes the BIS cluster. Assumes nothing.
 use mathlib.Core.Path.{_≡_, ap}
 use mathlib.Core.List.{List}
 use Prim.Native.Nat.{ℕ, _+_, _-_, _/_, _%_, _<_}
@@ -24,8 +24,6 @@ bis-turn work₀ work block m x size hm e s =
     let same = bis-index-inj (q / 3) (q % 3) (m / 3) (m % 3) (omega arith) (omega arith) (omega arith) (omega arith) r in
     let again : q ≡ m = omega (arith, same .0, same .1) in
     omega arith) e s
-
--- ---- the row that is shown
 
 -- ---- reading
 

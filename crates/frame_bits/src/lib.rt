@@ -1,2 +1,2 @@
-// 13.15: the bits of a recording frame. `steps` has them as words, for the crates of this repository.
+// 13.15: the bits of a recording frame; `weaving` makes them, `unweaving` takes them apart. `steps` is for the crates of this repository.
 pub mod steps;

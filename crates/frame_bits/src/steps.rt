@@ -1,4 +1,4 @@
-// Words of 46 bits: woven of a row and a dc word, and taken apart.
+// What weaving and unweaving share.
 ghost use mathlib.Core.Path.{_≡_};
 ghost use Prim.Native.Nat.{_<_};
 ghost use Rattle.modulation.specs.Words.{Words};

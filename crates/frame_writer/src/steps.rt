@@ -1,4 +1,4 @@
-// A recording frame written (13.15, 13.17): its row and dc word, woven to words, to modulation bits by the modulator's table.
+// A recording frame written (13.15, 13.17) from any bit of an image on, behind its sync.
 use frame::State;
 use modulator::Table;
 ghost use mathlib.Core.Path.{_≡_};

@@ -54,22 +54,6 @@ xor-assoc =
 pub xor-cancel : (a b : ℕ) → bitXor (bitXor a b) b ≡ a
 xor-cancel a b = xor-assoc a b b ∙ ap (bitXor a) (xor-self b) ∙ xor-zero-r a
 
--- ---- a form that computes: `bitXor` takes as many steps as its first argument is large, this one k
-
-unfoldable pub xorN : ℕ → ℕ → ℕ → ℕ
-xorN zero a b = zero
-xorN (suc k) a b = xorN k (a / 2) (b / 2) * 2 + differ (a % 2) (b % 2)
-
-pub xor-is : (k a b : ℕ) → a < 2 ^ k → b < 2 ^ k → bitXor a b ≡ xorN k a b
-unfolding xorN
-xor-is zero a b ha hb =
-    let a0 : a ≡ 0 = omega arith in
-    let b0 : b ≡ 0 = omega arith in
-    ap (λ (x : ℕ). bitXor x b) a0 ∙ xor-zero-l b ∙ b0
-xor-is (suc k) a b ha hb =
-    xor-step a b
-    ∙ ap (λ (x : ℕ). x * 2 + differ (a % 2) (b % 2)) (xor-is k (a / 2) (b / 2) (omega (arith, pow-suc 2 k)) (omega (arith, pow-suc 2 k)))
-
 -- ---- sums of three, multiples
 
 pub xor-left : (a b c : ℕ) → bitXor a (bitXor b c) ≡ bitXor b (bitXor a c)

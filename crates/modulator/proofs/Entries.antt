@@ -1,4 +1,4 @@
--- The constants of the code, and the table's entries for one pair and for the end, by what the rows give. Assumes nothing.
+-- The constants of modulator_states, and the table's entries for one pair and for the end, by what the rows give. Assumes nothing.
 use mathlib.Core.Bool.{Bool, true, false, cond}
 use mathlib.Core.List.{List, [], _∷_, _++_, append-nil}
 use mathlib.Core.Path.{_≡_, sym, ap, ap₂, subst, _∙_}

@@ -1,4 +1,4 @@
--- Laws that the proofs of the modulator's functions cite.
+-- Laws of the table, and of bits on their way into bytes.
 pub mod Runs
 pub mod Holding
 pub mod Tables

@@ -22,7 +22,7 @@ fn divide(generator: &[u8], message: &[u8], register: &mut [u8])
     }
 }
 
-// The parity of an LDC or a BIS column's message: behind it they make a multiple of the generator (proofs/Multiple: parity-multiple).
+// The parity of an LDC or a BIS column's message: behind it they make a multiple of the generator (column, proofs/Multiple: parity-multiple).
 pub fn parity_32(message: &[u8], out: &mut [u8; 32])
     ensures { λ r. ⌜ now (out .exit) ≡ parity 32 (now (message .entry)) ⌝ }
 {

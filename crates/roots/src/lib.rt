@@ -18,7 +18,7 @@ fn value_at(powers: &[u8; 256], logs: &[u8; 256], column: &[u8], x: Gf) -> Gf
     v
 }
 
-// Whether the column has the roots α^0 to α^(count - 1): from count bytes on, whether it is a multiple of the generator (proofs/Multiple:
+// Whether the column has the roots α^0 to α^(count - 1): from count bytes on, whether it is a multiple of the generator (column, proofs/Multiple:
 // right-multiple, multiple-right).
 pub fn has_roots(column: &[u8], count: u8) -> bool
     ensures { λ r. ⌜ r ≡ hasRoots count (now (column .entry)) ⌝ }

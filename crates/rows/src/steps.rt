@@ -1,4 +1,4 @@
-// The rows, packedRow to numbers that are lent.
+// The rows, packed to numbers that are lent.
 use conversion::PackedRows;
 use conversion::Row;
 use conversion::When;

@@ -1,4 +1,4 @@
-// LDC columns, sectors, user bytes: an eighth at a time.
+// Data frames, four at a time, with the scrambling undone, and the test of their EDC.
 ghost use mathlib.Core.Path.{_≡_};
 ghost use Prim.Native.Nat.{_<_};
 ghost use lib.ListN.{length};

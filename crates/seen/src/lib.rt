@@ -3,8 +3,7 @@ use address::Psn;
 use answer::Answer;
 use verdict::Verdict;
 ghost use mathlib.Core.Path.{_≡_};
-ghost use Rattle.answer.specs.Answer.{numberOf, placeOf};
-ghost use Rattle.verdict.specs.Verdict.{kindOf, refusalIn, ownPsn, placeIn};
+ghost use Rattle.seen.specs.Numbers.{answered, readAnswered, marking, converted};
 
 // Document 01's number and place.
 #[repr(C)]
@@ -40,7 +39,7 @@ pub struct Converted {
 
 impl Answered {
     pub fn of(given: Answer) -> Answered
-        ensures { λ r. ⌜ r ≡ record { number = numberOf given; place = placeOf given } ⌝ }
+        ensures { λ r. ⌜ r ≡ answered given ⌝ }
     {
         Answered {
             number: given.number(),
@@ -50,33 +49,33 @@ impl Answered {
 }
 
 impl ReadAnswered {
-    pub fn of(given: Answer, psn: Psn) -> ReadAnswered
-        ensures { λ r. ⌜ r ≡ record { number = numberOf given; psn = psn .0; place = placeOf given } ⌝ }
+    pub fn of(read: Answer, psn: Psn) -> ReadAnswered
+        ensures { λ r. ⌜ r ≡ readAnswered read (psn .0) ⌝ }
     {
         ReadAnswered {
-            number: given.number(),
+            number: read.number(),
             psn: psn.0,
-            place: given.place(),
+            place: read.place(),
         }
     }
 }
 
 impl Marking {
-    pub fn of(given: Verdict) -> Marking
-        ensures { λ r. ⌜ r ≡ record { verdict = kindOf given; number = refusalIn given; psn = ownPsn given; place = placeIn given } ⌝ }
+    pub fn of(verdict: Verdict) -> Marking
+        ensures { λ r. ⌜ r ≡ marking verdict ⌝ }
     {
         Marking {
-            verdict: given.kind(),
-            number: given.refusal(),
-            psn: given.own_psn(),
-            place: given.place(),
+            verdict: verdict.kind(),
+            number: verdict.refusal(),
+            psn: verdict.own_psn(),
+            place: verdict.place(),
         }
     }
 }
 
 impl Converted {
     pub fn of(answer: Answer, found: u32) -> Converted
-        ensures { λ r. ⌜ r ≡ record { number = numberOf answer; value = found } ⌝ }
+        ensures { λ r. ⌜ r ≡ converted answer found ⌝ }
     {
         Converted {
             number: answer.number(),

@@ -7,7 +7,7 @@ ghost use Rattle.frame_bits.specs.steps.Slices.{FiveBytes};
 ghost use Rattle.modulation.specs.Words.{bitsIn, Words};
 ghost use Rattle.sizes.specs.Sizes.{rowSize};
 
-// The five bytes of its row at 5 m, as a number: 40 of the 45 data bits from 40 m on, out of two words. 35184372088832 is 2^45.
+// The five bytes of a frame's row at 5 m, as a number: 40 of the 45 data bits from 40 m on, out of two words. 35184372088832 is 2^45.
 fn five_in(words: &[u64; 29], m: usize) -> u64
     requires { ⌜ Words (now words) × (m < 31) ⌝ }
     ensures { λ r. ⌜ FiveBytes (rowFrom (bitsIn (now (words .entry)))) m r ⌝ }
@@ -18,7 +18,7 @@ fn five_in(words: &[u64; 29], m: usize) -> u64
     (((words[i] / 2) << off) % 35184372088832 + ((words[i + 1] / 2) >> (45 - off))) / 32
 }
 
-// Its row.
+// The row of a frame.
 pub fn row_in(words: &[u64; 29], row: &mut [u8])
     requires { ⌜ Words (now words) × (length (now row) ≡ rowSize) ⌝ }
     ensures { λ _. ⌜ now (row .exit) ≡ rowFrom (bitsIn (now (words .entry))) ⌝ }
@@ -35,7 +35,7 @@ pub fn row_in(words: &[u64; 29], row: &mut [u8])
     }
 }
 
-// Its dc word.
+// The dc word of a frame.
 pub fn dc_in(words: &[u64; 29]) -> u32
     requires { ⌜ Words (now words) ⌝ }
     ensures { λ r. ⌜ r ≡ dcFrom (bitsIn (now (words .entry))) ⌝ }

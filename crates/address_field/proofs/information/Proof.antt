@@ -1,4 +1,4 @@
--- `information` meets its contract: the four bytes of the AUN, the first with its bits reordered (AddressFields).
+-- `information` meets its contract: the four bytes of the AUN, the first with its bits reordered (bis, AddressFields).
 use Rattle.bis.proofs.AddressFields.{information-is}
 use borrow.Author.Needs.{needs}
 use Rattle.address_field.proofs.information.Statement.{statement}

@@ -1,4 +1,4 @@
--- `primary_field` meets its contract: information and parity, byte by byte (AddressFields).
+-- `primary_field` meets its contract: information and parity, byte by byte (bis, AddressFields).
 use Rattle.bis.proofs.AddressFields.{primary-is}
 use borrow.Author.Needs.{needs}
 use Rattle.address_field.proofs.primary_field.Statement.{statement}

@@ -1,5 +1,5 @@
--- `bdre_aun_to_psn` meets its contract: the parts of the answer below it (Seen).
-use Rattle.bdre.proofs.Seen.{same-psn}
+-- `bdre_aun_to_psn` meets its contract: the parts of the answer below it (Exported).
+use Rattle.bdre.proofs.Exported.{same-psn}
 use borrow.Author.Needs.{needs}
 use Rattle.bdre.proofs.bdre_aun_to_psn.Statement.{statement}
 use Rattle.bdre.proofs.bdre_aun_to_psn.Tie as tie

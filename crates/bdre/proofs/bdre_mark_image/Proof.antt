@@ -1,5 +1,5 @@
--- `bdre_mark_image` meets its contract: the parts of the answer below it (Seen).
-use Rattle.bdre.proofs.Seen.{same-marking}
+-- `bdre_mark_image` meets its contract: the parts of the answer below it (Exported).
+use Rattle.bdre.proofs.Exported.{same-marking}
 use borrow.Author.Needs.{needs}
 use Rattle.bdre.proofs.bdre_mark_image.Statement.{statement}
 use Rattle.bdre.proofs.bdre_mark_image.Tie as tie

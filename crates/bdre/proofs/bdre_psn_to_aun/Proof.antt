@@ -1,5 +1,5 @@
--- `bdre_psn_to_aun` meets its contract: the parts of the answer below it (Seen).
-use Rattle.bdre.proofs.Seen.{same-aun}
+-- `bdre_psn_to_aun` meets its contract: the parts of the answer below it (Exported).
+use Rattle.bdre.proofs.Exported.{same-aun}
 use borrow.Author.Needs.{needs}
 use Rattle.bdre.proofs.bdre_psn_to_aun.Statement.{statement}
 use Rattle.bdre.proofs.bdre_psn_to_aun.Tie as tie

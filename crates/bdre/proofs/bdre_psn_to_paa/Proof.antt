@@ -1,5 +1,5 @@
--- `bdre_psn_to_paa` meets its contract: the parts of the answer below it (Seen).
-use Rattle.bdre.proofs.Seen.{same-paa}
+-- `bdre_psn_to_paa` meets its contract: the parts of the answer below it (Exported).
+use Rattle.bdre.proofs.Exported.{same-paa}
 use borrow.Author.Needs.{needs}
 use Rattle.bdre.proofs.bdre_psn_to_paa.Statement.{statement}
 use Rattle.bdre.proofs.bdre_psn_to_paa.Tie as tie

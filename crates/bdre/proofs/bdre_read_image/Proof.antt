@@ -1,5 +1,5 @@
--- `bdre_read_image` meets its contract: the parts of the answer below it (Seen).
-use Rattle.bdre.proofs.Seen.{same-reading}
+-- `bdre_read_image` meets its contract: the parts of the answer below it (Exported).
+use Rattle.bdre.proofs.Exported.{same-reading}
 use borrow.Author.Needs.{needs}
 use Rattle.bdre.proofs.bdre_read_image.Statement.{statement}
 use Rattle.bdre.proofs.bdre_read_image.Tie as tie

@@ -1,5 +1,5 @@
--- `bdre_write_image` meets its contract: the parts of the answer below it (Seen).
-use Rattle.bdre.proofs.Seen.{same-writing}
+-- `bdre_write_image` meets its contract: the parts of the answer below it (Exported).
+use Rattle.bdre.proofs.Exported.{same-writing}
 use borrow.Author.Needs.{needs}
 use Rattle.bdre.proofs.bdre_write_image.Statement.{statement}
 use Rattle.bdre.proofs.bdre_write_image.Tie as tie

@@ -1,4 +1,4 @@
--- `first_wrong_field` meets its contract: the fields passed have their roots (Search, Reading).
+-- `first_wrong_field` meets its contract: the fields passed have their roots (Judging).
 use borrow.Author.Needs.{needs}
 use Prim.Native.Nat.{_-_}
 use Rattle.laws.proofs.First.{Passed, passed-none, passed-more, first-here, first-past}

@@ -1,4 +1,4 @@
--- `first_other_unit` meets its contract: the AUNs of the units passed are the PSN's (Search, Reading).
+-- `first_other_unit` meets its contract: the AUNs of the units passed are the PSN's (Judging).
 use borrow.Author.Needs.{needs}
 use Prim.Native.Nat.{_-_}
 use Rattle.laws.proofs.First.{Passed, passed-none, passed-more, first-here, first-past}

@@ -1,4 +1,4 @@
--- `psn_in` meets its contract, case by case of what is answered of unit 0's AUN (Reading).
+-- `psn_in` meets its contract, case by case of what is answered of unit 0's AUN (Judging).
 use Rattle.bis_psn.proofs.Judging.{psn-accepted, psn-refused, psn-differs, psn-agrees}
 use borrow.Author.Needs.{needs}
 use Rattle.bis_psn.proofs.psn_in.Statement.{statement}

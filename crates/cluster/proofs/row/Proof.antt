@@ -1,4 +1,4 @@
--- `row` meets its contract, case by case of what is shown (Loops).
+-- `row` meets its contract, case by case of what is shown (Rows).
 use native.Mathlib.Omega.{arith}
 use Rattle.cluster.proofs.Rows.{row-of-no-cluster, row-past-the-end, row-shown}
 use borrow.Author.Needs.{needs}

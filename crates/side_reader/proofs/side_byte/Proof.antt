@@ -1,4 +1,4 @@
--- `side_byte` meets its contract: a flag byte, and a byte of the control data (Reading).
+-- `side_byte` meets its contract: a flag byte, and a byte of the control data (Judging).
 use Rattle.side_reader.proofs.Judging.{flag-byte, control-byte}
 use borrow.Author.Needs.{needs}
 use Rattle.side_reader.proofs.side_byte.Statement.{statement}

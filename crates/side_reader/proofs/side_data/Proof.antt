@@ -1,4 +1,4 @@
--- `side_data` meets its contract: the loop fills the slice, and one of another length is left (Reading).
+-- `side_data` meets its contract: the loop fills the slice, and one of another length is left (Judging).
 use borrow.Author.Needs.{needs}
 use Prim.Native.Nat.{_-_}
 use native.Mathlib.Omega.{arith}

@@ -1,4 +1,4 @@
--- `partly_inverted` meets its contract, byte by byte (AddressFields).
+-- `partly_inverted` meets its contract, byte by byte (bis, AddressFields).
 use Rattle.bis.proofs.AddressFields.{inverted-is}
 use borrow.Author.Needs.{needs}
 use Rattle.address_field.proofs.steps.partly_inverted.Statement.{statement}

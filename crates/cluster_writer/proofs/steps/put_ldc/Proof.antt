@@ -1,4 +1,4 @@
--- `put_ldc` meets its contract: one eighth after the other (Eighth).
+-- `put_ldc` meets its contract: one eighth after the other (ldc_words, Eighth).
 use mathlib.Core.Path.{_≡_}
 use Prim.Native.Nat.{_-_, _*_, _≤_}
 use native.Mathlib.Omega.{arith}

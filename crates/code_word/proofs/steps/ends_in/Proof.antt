@@ -1,4 +1,4 @@
--- `ends_in` meets its contract: byte by byte (Parity). Assumes nothing.
+-- `ends_in` meets its contract: byte by byte (column, Parity). Assumes nothing.
 use Prim.Native.Nat.{_-_}
 use native.Mathlib.Omega.{arith}
 use borrow.Author.Needs.{needs}

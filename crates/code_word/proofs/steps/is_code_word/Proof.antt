@@ -1,4 +1,4 @@
--- `is_code_word` meets its contract: no other bytes than the parity give the roots (Parity). Assumes nothing.
+-- `is_code_word` meets its contract: no other bytes than the parity give the roots (column, Parity). Assumes nothing.
 use mathlib.Core.Path.{sym, ap, _∙_}
 use Prim.Native.Nat.{_-_}
 use native.Mathlib.Omega.{arith}

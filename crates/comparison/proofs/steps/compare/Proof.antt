@@ -1,4 +1,4 @@
--- `compare` meets its contract (Judging).
+-- `compare` meets its contract (Compared).
 use Rattle.comparison.proofs.Compared.{other-psn, other-user, other-side, all-same}
 use borrow.Author.Needs.{needs}
 use Rattle.comparison.proofs.steps.compare.Statement.{statement}

@@ -1,4 +1,4 @@
--- `first_other` meets its contract: a search from the front (Judging).
+-- `first_other` meets its contract: a search from the front (Compared).
 use mathlib.Core.Path.{_≡_, _∙_}
 use Prim.Native.Nat.{_-_, _≤_}
 use native.Mathlib.Omega.{arith}

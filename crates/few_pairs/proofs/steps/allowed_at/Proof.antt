@@ -1,4 +1,4 @@
--- `allowed_at` meets its contract, by the row's condition (Fitting). Assumes nothing.
+-- `allowed_at` meets its contract, by the row's condition (conversion, Fitting). Assumes nothing.
 use mathlib.Core.Path.{refl}
 use native.Mathlib.Nat.{mod-lt}
 use native.Mathlib.Omega.{arith}

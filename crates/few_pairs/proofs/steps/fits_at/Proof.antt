@@ -1,4 +1,4 @@
--- `fits_at` meets its contract: the row's pairs stand first and its condition holds (Fitting). Assumes nothing.
+-- `fits_at` meets its contract: the row's pairs stand first and its condition holds (conversion, Fitting). Assumes nothing.
 use Rattle.conversion.proofs.Fitting.{fits-not, fits-if, fits-within}
 use borrow.Author.Needs.{needs}
 use Rattle.few_pairs.proofs.steps.fits_at.Statement.{statement}

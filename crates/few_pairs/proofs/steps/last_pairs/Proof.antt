@@ -1,4 +1,4 @@
--- `last_pairs` meets its contract (Tables). Assumes nothing.
+-- `last_pairs` meets its contract (laws, Shifts). Assumes nothing.
 use mathlib.Core.Path.{ap}
 use Prim.Native.Nat.{ℕ, _*_, _%_}
 use native.Mathlib.Omega.{arith}

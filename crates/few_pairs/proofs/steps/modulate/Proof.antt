@@ -1,4 +1,4 @@
--- `modulate` meets its contract: a word a turn (Modulating). Assumes nothing.
+-- `modulate` meets its contract: a word a turn (conversion, Modulating). Assumes nothing.
 use mathlib.Core.Bool.{Bool, _||_}
 use mathlib.Core.Path.{ap}
 use native.Mathlib.Omega.{arith}

@@ -1,4 +1,4 @@
--- `pairs_stand` meets its contract: equal numbers are equal pairs (FewPairs). Assumes nothing.
+-- `pairs_stand` meets its contract: equal numbers are equal pairs (conversion, FewPairs). Assumes nothing.
 use Rattle.conversion.proofs.FewPairs.{stands-not, stands-if}
 use borrow.Author.Needs.{needs}
 use Rattle.few_pairs.proofs.steps.pairs_stand.Statement.{statement}

@@ -1,4 +1,4 @@
--- `standing_row` meets its contract: a search through the rows (Search). Assumes nothing.
+-- `standing_row` meets its contract: a search through the rows (conversion, Search). Assumes nothing.
 use Prim.Native.Nat.{_-_}
 use borrow.Author.Needs.{needs}
 use Rattle.modulation.specs.Modulation.{twoNumber, rowAt, starts}

@@ -1,4 +1,4 @@
--- `starts_with_010` meets its contract: the row that stands there tells it (Next). Assumes nothing.
+-- `starts_with_010` meets its contract: the row that stands there tells it (conversion, Next). Assumes nothing.
 use mathlib.Core.Bool.{false}
 use Rattle.conversion.specs.steps.Few.{fewPairs}
 use Rattle.conversion.proofs.Next.{by-row, by-none}

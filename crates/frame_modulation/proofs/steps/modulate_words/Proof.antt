@@ -1,4 +1,4 @@
--- `modulate_words` meets its contract: sixteen bits a turn, at the place that goes with it (Weaving). Assumes nothing.
+-- `modulate_words` meets its contract: sixteen bits a turn, at the place that goes with it (frame_bits, Weaving). Assumes nothing.
 use Prim.Native.Nat.{_-_, _/_, _%_}
 use native.Mathlib.Nat.{mod-lt, zero-lt-suc}
 use native.Mathlib.Omega.{arith}

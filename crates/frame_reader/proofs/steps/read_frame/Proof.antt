@@ -1,4 +1,4 @@
--- `read_frame` meets its contract: the words that were read, if any, taken apart (Reading). Assumes nothing.
+-- `read_frame` meets its contract: the words that were read, if any, taken apart (frame, Reading). Assumes nothing.
 use borrow.Author.Needs.{needs}
 use Rattle.frame.proofs.Reading.{reads}
 use Rattle.frame_reader.proofs.steps.read_frame.Statement.{statement}

@@ -1,4 +1,4 @@
--- `read_two` meets its contract: the words of two frames, taken apart (Reading). Assumes nothing.
+-- `read_two` meets its contract: the words of two frames, taken apart (frame, Reading). Assumes nothing.
 use borrow.Author.Needs.{needs}
 use Rattle.frame.proofs.Reading.{reads}
 use Rattle.frame_reader.proofs.steps.read_two.Statement.{statement}

@@ -1,4 +1,4 @@
--- `take_frame` meets its contract: the row and the dc word of the words, if any (Reading). Assumes nothing.
+-- `take_frame` meets its contract: the row and the dc word of the words, if any (frame, Reading). Assumes nothing.
 use borrow.Author.Needs.{needs}
 use Rattle.frame.proofs.Reading.{taken-there, taken-none}
 use Rattle.frame_reader.proofs.steps.take_frame.Statement.{statement}

@@ -1,4 +1,4 @@
--- `take_two` meets its contract: a row in each half of the slice (Reading). Assumes nothing.
+-- `take_two` meets its contract: a row in each half of the slice (frame, Reading). Assumes nothing.
 use borrow.Author.Needs.{needs}
 use Rattle.frame.proofs.Reading.{two-taken}
 use Rattle.frame_reader.proofs.steps.take_two.Statement.{statement}

@@ -1,4 +1,4 @@
--- `byte_at` meets its contract (Tables). Assumes nothing.
+-- `byte_at` meets its contract (modulator, Tables). Assumes nothing.
 use borrow.Author.Needs.{needs}
 use Rattle.modulator.proofs.Tables.{byte-read}
 use Rattle.held_bits.proofs.steps.byte_at.Statement.{statement}

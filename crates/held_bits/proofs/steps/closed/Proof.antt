@@ -1,4 +1,4 @@
--- `closed` meets its contract (Tables). Assumes nothing.
+-- `closed` meets its contract (modulator, Tables). Assumes nothing.
 use mathlib.Core.Path.{ap}
 use Prim.Native.Nat.{ℕ, _+_}
 use borrow.Author.Needs.{needs}

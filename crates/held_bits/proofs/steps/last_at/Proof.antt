@@ -1,4 +1,4 @@
--- `last_at` meets its contract (Tables). Assumes nothing.
+-- `last_at` meets its contract (modulator, Tables). Assumes nothing.
 use borrow.Author.Needs.{needs}
 use Rattle.modulator.proofs.Tables.{last-read}
 use Rattle.held_bits.proofs.steps.last_at.Statement.{statement}

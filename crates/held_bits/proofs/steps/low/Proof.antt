@@ -1,4 +1,4 @@
--- `low` meets its contract (Tables). Assumes nothing.
+-- `low` meets its contract (laws, Shifts). Assumes nothing.
 use mathlib.Core.Path.{ap}
 use Prim.Native.Nat.{ℕ, _%_}
 use borrow.Author.Needs.{needs}

@@ -1,4 +1,4 @@
--- `put_five` meets its contract (Put). Assumes nothing.
+-- `put_five` meets its contract (modulator, Put). Assumes nothing.
 use native.Mathlib.Omega.{arith}
 use borrow.Author.Needs.{needs}
 use lib.ListN.{length-set}

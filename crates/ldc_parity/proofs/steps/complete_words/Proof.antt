@@ -1,4 +1,4 @@
--- `complete_words` meets its contract: one code word after the other (Eighth).
+-- `complete_words` meets its contract: one code word after the other (ldc_words, Eighth).
 use mathlib.Core.Path.{refl}
 use Prim.Native.Nat.{_-_, _+_, _*_, _/_, _%_, _≤_}
 use native.Mathlib.Omega.{arith}

@@ -1,4 +1,4 @@
--- `cleared` meets its contract (Entries). Assumes nothing.
+-- `cleared` meets its contract (modulator, Entries). Assumes nothing.
 use borrow.Author.Needs.{needs}
 use Rattle.modulator.proofs.Entries.{cleared-is}
 use Rattle.modulator_states.proofs.steps.cleared.Statement.{statement}

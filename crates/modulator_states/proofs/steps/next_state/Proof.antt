@@ -1,4 +1,4 @@
--- `next_state` meets its contract (Entries). Assumes nothing.
+-- `next_state` meets its contract (modulator, Entries). Assumes nothing.
 use Rattle.modulator.proofs.Entries.{next-is}
 use borrow.Author.Needs.{needs}
 use Rattle.modulator_states.proofs.steps.next_state.Statement.{statement}

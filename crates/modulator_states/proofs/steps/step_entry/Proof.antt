@@ -1,4 +1,4 @@
--- `step_entry` meets its contract (Entries). Assumes nothing.
+-- `step_entry` meets its contract (modulator, Entries). Assumes nothing.
 use native.Mathlib.Omega.{arith}
 use Rattle.modulator.proofs.Entries.{more-small, step-coded}
 use borrow.Author.Needs.{needs}

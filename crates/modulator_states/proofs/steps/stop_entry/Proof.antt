@@ -1,4 +1,4 @@
--- `stop_entry` meets its contract (Entries). Assumes nothing.
+-- `stop_entry` meets its contract (modulator, Entries). Assumes nothing.
 use native.Mathlib.Omega.{arith}
 use Rattle.modulator.proofs.Entries.{wait-small, stop-one, stop-zero}
 use borrow.Author.Needs.{needs}

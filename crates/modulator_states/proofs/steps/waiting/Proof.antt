@@ -1,4 +1,4 @@
--- `waiting` meets its contract (Entries). Assumes nothing.
+-- `waiting` meets its contract (modulator, Entries). Assumes nothing.
 use Rattle.modulator.proofs.Entries.{waiting-is}
 use borrow.Author.Needs.{needs}
 use Rattle.modulator_states.proofs.steps.waiting.Statement.{statement}

@@ -1,4 +1,4 @@
--- `waits` meets its contract (Entries). Assumes nothing.
+-- `waits` meets its contract (modulator, Entries). Assumes nothing.
 use borrow.Author.Needs.{needs}
 use Rattle.modulator.proofs.Entries.{count-is}
 use Rattle.modulator_states.proofs.steps.waits.Statement.{statement}

@@ -1,4 +1,4 @@
--- `byte_entry` meets its contract (Tables). Assumes nothing.
+-- `byte_entry` meets its contract (modulator, Tables). Assumes nothing.
 use borrow.Author.Needs.{needs}
 use Rattle.modulator.proofs.Tables.{byte-within, byte-made}
 use Rattle.modulator_table.proofs.steps.byte_entry.Statement.{statement}

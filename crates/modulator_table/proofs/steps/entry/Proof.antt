@@ -1,4 +1,4 @@
--- `entry` meets its contract (Tables). Assumes nothing.
+-- `entry` meets its contract (modulator, Tables). Assumes nothing.
 use mathlib.Core.Path.{_∙_}
 use borrow.Author.Needs.{needs}
 use Rattle.modulator.proofs.Tables.{byte-entry, last-entry}

@@ -1,4 +1,4 @@
--- `last_entry` meets its contract (Tables). Assumes nothing.
+-- `last_entry` meets its contract (modulator, Tables). Assumes nothing.
 use borrow.Author.Needs.{needs}
 use Rattle.modulator.proofs.Tables.{last-made}
 use Rattle.modulator_table.proofs.steps.last_entry.Statement.{statement}

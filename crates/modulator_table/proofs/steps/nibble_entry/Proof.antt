@@ -1,4 +1,4 @@
--- `nibble_entry` meets its contract (Tables). Assumes nothing.
+-- `nibble_entry` meets its contract (modulator, Tables). Assumes nothing.
 use borrow.Author.Needs.{needs}
 use Rattle.modulator.proofs.Tables.{nibble-made}
 use Rattle.modulator_table.proofs.steps.nibble_entry.Statement.{statement}

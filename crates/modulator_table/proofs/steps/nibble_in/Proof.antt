@@ -1,4 +1,4 @@
--- `nibble_in` meets its contract (Tables). Assumes nothing.
+-- `nibble_in` meets its contract (modulator, Tables). Assumes nothing.
 use borrow.Author.Needs.{needs}
 use Rattle.modulator.proofs.Tables.{nibble-in}
 use Rattle.modulator_table.proofs.steps.nibble_in.Statement.{statement}

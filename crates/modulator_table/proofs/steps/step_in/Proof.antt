@@ -1,4 +1,4 @@
--- `step_in` meets its contract (Tables). Assumes nothing.
+-- `step_in` meets its contract (modulator, Tables). Assumes nothing.
 use borrow.Author.Needs.{needs}
 use Rattle.modulator.proofs.Tables.{step-in}
 use Rattle.modulator_table.proofs.steps.step_in.Statement.{statement}

@@ -1,4 +1,4 @@
--- `stop_in` meets its contract (Tables). Assumes nothing.
+-- `stop_in` meets its contract (modulator, Tables). Assumes nothing.
 use borrow.Author.Needs.{needs}
 use Rattle.modulator.proofs.Tables.{stop-read, stop-small}
 use Rattle.modulator_table.proofs.steps.stop_in.Statement.{statement}

@@ -1,4 +1,4 @@
--- `ends_in_one` meets its contract (CodedRows). Assumes nothing.
+-- `ends_in_one` meets its contract (conversion, CodedRows). Assumes nothing.
 use borrow.Author.Needs.{needs}
 use Rattle.conversion.proofs.CodedRows.{code-last}
 use Rattle.rows.proofs.steps.ends_in_one.Statement.{statement}

@@ -1,4 +1,4 @@
--- `followed` meets its contract (CodedRows). Assumes nothing.
+-- `followed` meets its contract (conversion, CodedRows). Assumes nothing.
 use native.Mathlib.Omega.{arith}
 use Rattle.conversion.proofs.CodedRows.{code-sized, code-bits, code-fits}
 use borrow.Author.Needs.{needs}

@@ -1,4 +1,4 @@
--- `is_terminating` meets its contract, by the row's condition (CodedRows). Assumes nothing.
+-- `is_terminating` meets its contract, by the row's condition (conversion, CodedRows). Assumes nothing.
 use borrow.Author.Needs.{needs}
 use Rattle.conversion.proofs.CodedRows.{code-terminates}
 use Rattle.rows.proofs.steps.is_terminating.Statement.{statement}

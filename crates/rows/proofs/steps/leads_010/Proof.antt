@@ -1,4 +1,4 @@
--- `leads_010` meets its contract (CodedRows). Assumes nothing.
+-- `leads_010` meets its contract (conversion, CodedRows). Assumes nothing.
 use native.Mathlib.Omega.{arith}
 use Rattle.conversion.proofs.CodedRows.{code-sized, code-leads}
 use borrow.Author.Needs.{needs}

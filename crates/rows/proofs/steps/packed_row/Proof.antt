@@ -1,4 +1,4 @@
--- `packed_row` meets its contract: the parts of a row fit into 32 bits (CodedRows). Assumes nothing.
+-- `packed_row` meets its contract: the parts of a row fit into 32 bits (conversion, CodedRows). Assumes nothing.
 use mathlib.Core.Path.{ap, _∙_}
 use Prim.Native.Nat.{ℕ, _+_, _*_}
 use native.Mathlib.Omega.{arith}

@@ -1,4 +1,4 @@
--- `packed_rows` meets its contract: the rows are packedRow one by one. Assumes nothing.
+-- `packed_rows` meets its contract: the rows are packed one by one. Assumes nothing.
 use Prim.Native.Nat.{_-_}
 use borrow.Author.Needs.{needs}
 use mathlib.Core.Path.{refl}

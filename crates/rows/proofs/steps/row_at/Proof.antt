@@ -1,4 +1,4 @@
--- `row_at` meets its contract: a packedRow row's parts are the row (CodedRows). Assumes nothing.
+-- `row_at` meets its contract: a packed row's parts are the row (conversion, CodedRows). Assumes nothing.
 use mathlib.Core.List.{List}
 use mathlib.Core.Path.{_≡_, ap, _∙_}
 use Prim.Native.Nat.{ℕ, _<_}

@@ -1,4 +1,4 @@
--- `row_len` meets its contract (CodedRows). Assumes nothing.
+-- `row_len` meets its contract (conversion, CodedRows). Assumes nothing.
 use borrow.Author.Needs.{needs}
 use Rattle.conversion.proofs.CodedRows.{code-sized}
 use Rattle.rows.proofs.steps.row_len.Statement.{statement}

@@ -1,4 +1,4 @@
--- `when_at` meets its contract: the last condition has each number above 3 (CodedRows). Assumes nothing.
+-- `when_at` meets its contract: the last condition has each number above 3 (conversion, CodedRows). Assumes nothing.
 use native.Mathlib.Omega.{arith}
 use borrow.Author.Needs.{needs}
 use Rattle.conversion.proofs.CodedRows.{when-last}

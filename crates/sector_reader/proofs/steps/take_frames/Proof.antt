@@ -1,4 +1,4 @@
--- `take_frames` meets its contract: the information bytes of the code words are the data frames (Eighth).
+-- `take_frames` meets its contract: the information bytes of the code words are the data frames (ldc_words, Eighth).
 use mathlib.Core.Path.{_∙_}
 use native.Mathlib.Omega.{arith}
 use borrow.Author.Needs.{needs}

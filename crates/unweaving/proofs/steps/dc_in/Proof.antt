@@ -1,4 +1,4 @@
--- `dc_in` meets its contract: a number made bit by bit (Unweaving). Assumes nothing.
+-- `dc_in` meets its contract: a number made bit by bit (frame_bits, Unweaving). Assumes nothing.
 use Prim.Native.Nat.{_-_}
 use native.Mathlib.Omega.{arith}
 use borrow.Author.Needs.{needs}

@@ -1,4 +1,4 @@
--- `five_in` meets its contract: forty bits through two words (Unweaving). Assumes nothing.
+-- `five_in` meets its contract: forty bits through two words (frame_bits, Unweaving). Assumes nothing.
 use mathlib.Core.Path.{refl}
 use Prim.Native.Nat.{_+_, _*_, _-_, _/_, _%_}
 use native.Mathlib.Omega.{arith}

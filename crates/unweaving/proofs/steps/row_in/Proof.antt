@@ -1,4 +1,4 @@
--- `row_in` meets its contract: five bytes a turn (Unweaving). Assumes nothing.
+-- `row_in` meets its contract: five bytes a turn (frame_bits, Unweaving). Assumes nothing.
 use Prim.Native.Nat.{_*_, _-_}
 use native.Mathlib.Omega.{arith}
 use borrow.Author.Needs.{needs}

@@ -1,4 +1,4 @@
--- `copy_users` meets its contract: one data frame after the other (Eighth).
+-- `copy_users` meets its contract: one data frame after the other (ldc_words, Eighth).
 use mathlib.Core.Path.{refl}
 use Prim.Native.Nat.{_-_, _+_, _*_, _/_, _%_, _≤_}
 use native.Mathlib.Omega.{arith}

@@ -1,4 +1,4 @@
--- `user_bytes` meets its contract: one eighth after the other (Eighth).
+-- `user_bytes` meets its contract: one eighth after the other (ldc_words, Eighth).
 use mathlib.Core.Path.{_≡_, refl}
 use Prim.Native.Nat.{_-_, _+_, _*_, _≤_}
 use native.Mathlib.Omega.{arith}

@@ -1,4 +1,4 @@
--- `eight_bytes` meets its contract: four behind four (Weaving). Assumes nothing.
+-- `eight_bytes` meets its contract: four behind four (frame_bits, Weaving). Assumes nothing.
 use borrow.Author.Needs.{needs}
 use Rattle.frame_bits.proofs.Weaving.{eight-bytes}
 use Rattle.weaving.proofs.steps.eight_bytes.Statement.{statement}

@@ -1,4 +1,4 @@
--- `four_bytes` meets its contract: a byte at a time (Weaving). Assumes nothing.
+-- `four_bytes` meets its contract: a byte at a time (frame_bits, Weaving). Assumes nothing.
 use borrow.Author.Needs.{needs}
 use Rattle.frame_bits.proofs.Weaving.{four-bytes}
 use Rattle.weaving.proofs.steps.four_bytes.Statement.{statement}

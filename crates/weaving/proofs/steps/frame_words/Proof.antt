@@ -1,4 +1,4 @@
--- `frame_words` meets its contract: a group and its dc-control bit a turn (Weaving). Assumes nothing.
+-- `frame_words` meets its contract: a group and its dc-control bit a turn (frame_bits, Weaving). Assumes nothing.
 use Prim.Native.Nat.{_-_}
 use borrow.Author.Needs.{needs}
 use Rattle.frame_bits.proofs.Weaving.{WordsTo, words-none, words-more, words-all}

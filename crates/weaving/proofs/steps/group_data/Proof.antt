@@ -1,4 +1,4 @@
--- `group_data` meets its contract: 25 bits of four bytes, or 45 of eight (Weaving). Assumes nothing.
+-- `group_data` meets its contract: 25 bits of four bytes, or 45 of eight (frame_bits, Weaving). Assumes nothing.
 use borrow.Author.Needs.{needs}
 use Prim.Native.Nat.{_+_, _*_, _-_, _/_}
 use native.Mathlib.Omega.{arith}

@@ -1,4 +1,4 @@
--- `last_two` meets its contract: the last bits of the last word (Weaving). Assumes nothing.
+-- `last_two` meets its contract: the last bits of the last word (frame_bits, Weaving). Assumes nothing.
 use Rattle.frame_bits.proofs.Weaving.{last-four}
 use borrow.Author.Needs.{needs}
 use Rattle.weaving.proofs.steps.last_two.Statement.{statement}

@@ -1,4 +1,4 @@
--- `sixteen_at` meets its contract: sixteen bits through two words (Weaving). Assumes nothing.
+-- `sixteen_at` meets its contract: sixteen bits through two words (frame_bits, Weaving). Assumes nothing.
 use mathlib.Core.Path.{refl}
 use Prim.Native.Nat.{_+_, _-_, _/_, _%_}
 use native.Mathlib.Omega.{arith}

@@ -21,7 +21,7 @@ use Rattle.seen.specs.declared.Answered.{Answered}
 use Rattle.seen.specs.declared.ReadAnswered.{ReadAnswered}
 use Rattle.seen.specs.declared.Marking.{Marking}
 use Rattle.seen.specs.declared.Converted.{Converted}
-use Rattle.bdre.specs.Seen.{Number, writing, reading, marking, psnSeen, aunSeen, paaSeen}
+use Rattle.bdre.specs.Exported.{Number, writing, reading, marking, psnSeen, aunSeen, paaSeen}
 
 -- r is what is returned; what is promised of an answer's number is promised of the number that is returned
 pub same-writing : {r : Answered} {a : Answer} {image work : List ℕ} {o : writer.Outcome} {input : Input} {before entry : List ℕ} → r ≡ record { number = Answer.numberOf a; place = Answer.placeOf a }
