@@ -1,11 +1,11 @@
 -- Exclusive or, beyond what lib.Bits has: it is associative, keeps multiples by powers of 2, and has a form that computes on words. Assumes nothing.
 use mathlib.Core.Path.{_≡_, refl, sym, ap, ap₂, _∙_}
 use Prim.Native.Nat.{ℕ, zero, suc, _+_, _*_, _/_, _%_, _^_, _<_}
-use native.Mathlib.Nat.{mod-lt, zero-lt-suc, zero-mul, pow-suc}
+use native.Mathlib.Nat.{mod-lt, zero-lt-suc, zero-mul}
 use native.Mathlib.Omega.{arith}
 use lib.Arith.{bin-ind}
 use lib.Dec.{eqb, eqb→eq, ltb, ltb→lt}
-use lib.Bits.{bitXor, differ, xor-step, xor-shr, xor-zero-l, xor-zero-r, xor-self, xor-comm, xor-block, xor-shifted}
+use lib.Bits.{bitXor, differ, xor-step, xor-shr, xor-zero-r, xor-self, xor-comm, xor-block, xor-shifted}
 use lib.Pow.{pow-pos, split, shl-shr, shr-shr}
 use Rattle.laws.proofs.Finite.{all, all₂, all₃, all₂-at, all₃-at}
 

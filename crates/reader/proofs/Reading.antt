@@ -16,7 +16,8 @@ use Rattle.recording.specs.Reading.{clusterIn, dcIn}
 use Rattle.judging.specs.Tests.{lastBitsAnswer, syncsAnswer, framesAnswer}
 use Rattle.judging.specs.steps.Tested.{FramesTested}
 use Rattle.strict_cluster.specs.Outcome.{accepted, cleared, outcomeBy}
-use Rattle.strict_cluster.specs.steps.Tested.{clusterAnswer, clusterOutcome}
+use Rattle.cluster_tests.specs.steps.Tested.{clusterAnswer}
+use Rattle.strict_cluster.specs.steps.Given.{clusterOutcome}
 use Rattle.reader.specs.Outcome.{Lent, Outcome, imageAnswer, imageOutcome, sizesAnswer, outcome}
 use Rattle.reader.specs.Read.{RecordingTested}
 

@@ -1,2 +1,2 @@
--- What the steps find and leave.
-pub mod Tested
+-- What the steps leave.
+pub mod Given

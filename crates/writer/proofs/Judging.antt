@@ -12,7 +12,7 @@ use Rattle.answer.proofs.Tests.{done-told, then-done, lowest-done}
 use Rattle.lengths.proofs.RightLengths.{lengths-done}
 use Rattle.address.specs.Judged.{judged}
 use Rattle.image.specs.Image.{Input, cluster, image}
-use Rattle.writer.specs.Written.{Filled}
+use Rattle.image_writer.specs.steps.Written.{Filled}
 use Rattle.parts.specs.Parts.{firstTooLarge, partsAnswer}
 use Rattle.writer.specs.Outcome.{answer, written, outcome}
 

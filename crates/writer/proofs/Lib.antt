@@ -1,4 +1,3 @@
--- The writer's tests, the image written frame by frame, and what is promised (Statements).
+-- The writer's tests, and what is promised (Statements).
 pub mod Judging
-pub mod Frames
 pub mod Statements

@@ -1,4 +1,3 @@
 -- What the writer answers and leaves, and what is promised of it.
 pub mod Outcome
-pub mod Written
 pub mod Promise

@@ -1,8 +1,8 @@
--- `test_data` meets its contract, test by test (Reading).
+-- `test_data` meets its contract, test by test (Testing).
 use borrow.Author.Needs.{needs}
-use Rattle.strict_cluster.proofs.Reading.{refused-before, columns-wrong, sectors-decide}
-use Rattle.strict_cluster.proofs.steps.test_data.Statement.{statement}
-use Rattle.strict_cluster.proofs.steps.test_data.Tie as tie
+use Rattle.cluster_tests.proofs.Testing.{refused-before, columns-wrong, sectors-decide}
+use Rattle.cluster_tests.proofs.steps.test_data.Statement.{statement}
+use Rattle.cluster_tests.proofs.steps.test_data.Tie as tie
 
 is-done-requires : tie.Need-is-done-requires
 is-done-requires c κs = search needs

@@ -1,8 +1,8 @@
 -- `put_image` meets its contract: frames, the sync that follows and two zero bits are all bits of the image (Frames).
-use Rattle.writer.proofs.Frames.{image-done}
+use Rattle.image_writer.proofs.Frames.{image-done}
 use borrow.Author.Needs.{needs}
-use Rattle.writer.proofs.put_image.Statement.{statement}
-use Rattle.writer.proofs.put_image.Tie as tie
+use Rattle.image_writer.proofs.steps.put_image.Statement.{statement}
+use Rattle.image_writer.proofs.steps.put_image.Tie as tie
 
 put-frames-requires : tie.Need-put-frames-requires
 put-frames-requires c κs = search needs

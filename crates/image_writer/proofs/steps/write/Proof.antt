@@ -1,8 +1,8 @@
 -- `write` meets its contract, from what `encode` and `put_image` ensure (Frames).
-use Rattle.writer.proofs.Frames.{filled}
+use Rattle.image_writer.proofs.Frames.{filled}
 use borrow.Author.Needs.{needs}
-use Rattle.writer.proofs.write.Statement.{statement}
-use Rattle.writer.proofs.write.Tie as tie
+use Rattle.image_writer.proofs.steps.write.Statement.{statement}
+use Rattle.image_writer.proofs.steps.write.Tie as tie
 
 encode-requires : tie.Need-encode-requires
 encode-requires c κs = search needs

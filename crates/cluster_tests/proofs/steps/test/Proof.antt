@@ -1,8 +1,8 @@
--- `test` meets its contract: the BIS block, then the data (Reading).
+-- `test` meets its contract: the BIS block, then the data (Testing).
 use borrow.Author.Needs.{needs}
-use Rattle.strict_cluster.proofs.Reading.{cluster-tested}
-use Rattle.strict_cluster.proofs.steps.test.Statement.{statement}
-use Rattle.strict_cluster.proofs.steps.test.Tie as tie
+use Rattle.cluster_tests.proofs.Testing.{cluster-tested}
+use Rattle.cluster_tests.proofs.steps.test.Statement.{statement}
+use Rattle.cluster_tests.proofs.steps.test.Tie as tie
 
 no-remainders-requires : tie.Need-no-remainders-requires
 no-remainders-requires c κs = search needs

@@ -23,7 +23,7 @@ use Rattle.recording.specs.Recording.{recordingOf}
 use Rattle.recording_writer.specs.steps.Written.{FramesWritten}
 use Rattle.recording.proofs.Frames.{full-of}
 use Rattle.image.specs.Image.{Input, cluster, imageBitsFrom, image}
-use Rattle.writer.specs.Written.{ImageWritten, Filled}
+use Rattle.image_writer.specs.steps.Written.{ImageWritten, Filled}
 
 -- the frames, the sync that follows the last, and two zero bits
 pub image-done : (work dc before now synced third fourth : List ℕ) (hash : Bool) → length before ≡ 119788 → FramesWritten false work dc before 0 496 now hash

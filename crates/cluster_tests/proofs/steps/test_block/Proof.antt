@@ -1,8 +1,8 @@
--- `test_block` meets its contract, test by test (Reading).
+-- `test_block` meets its contract, test by test (Testing).
 use borrow.Author.Needs.{needs}
-use Rattle.strict_cluster.proofs.Reading.{block-tested}
-use Rattle.strict_cluster.proofs.steps.test_block.Statement.{statement}
-use Rattle.strict_cluster.proofs.steps.test_block.Tie as tie
+use Rattle.cluster_tests.proofs.Testing.{block-tested}
+use Rattle.cluster_tests.proofs.steps.test_block.Statement.{statement}
+use Rattle.cluster_tests.proofs.steps.test_block.Tie as tie
 
 bis-columns-requires : tie.Need-bis-columns-requires
 bis-columns-requires c κs = search needs

@@ -1,0 +1,2 @@
+-- The tests put together.
+pub mod Testing

@@ -1,0 +1,2 @@
+-- What the steps find.
+pub mod Tested

@@ -1,0 +1,2 @@
+-- An image put together.
+pub mod Frames
