@@ -6,9 +6,9 @@ use borrow.Author.Needs.{needs}
 use Rattle.bits.specs.Bits.{bitsOf}
 use Rattle.modulation.specs.Groups.{groupsAt}
 use Rattle.automaton.specs.steps.Table.{After}
-use Rattle.demodulator.proofs.Running.{more-read, still-small}
-use Rattle.demodulator.proofs.steps.begin.Statement.{statement}
-use Rattle.demodulator.proofs.steps.begin.Tie as tie
+use Rattle.demodulator_groups.proofs.Running.{more-read, still-small}
+use Rattle.demodulator_groups.proofs.steps.begin.Statement.{statement}
+use Rattle.demodulator_groups.proofs.steps.begin.Tie as tie
 
 flag-requires : tie.Need-flag-requires
 flag-requires c κs = search needs

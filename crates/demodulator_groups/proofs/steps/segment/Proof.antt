@@ -4,9 +4,9 @@ use Prim.Native.Nat.{_+_}
 use native.Mathlib.Omega.{arith}
 use borrow.Author.Needs.{needs}
 use Rattle.bits.specs.Bits.{bitsOf}
-use Rattle.demodulator.proofs.Running.{more-read, still-small}
-use Rattle.demodulator.proofs.steps.segment.Statement.{statement}
-use Rattle.demodulator.proofs.steps.segment.Tie as tie
+use Rattle.demodulator_groups.proofs.Running.{more-read, still-small}
+use Rattle.demodulator_groups.proofs.steps.segment.Statement.{statement}
+use Rattle.demodulator_groups.proofs.steps.segment.Tie as tie
 
 run-requires : tie.Need-run-requires
 run-requires c κs = search needs

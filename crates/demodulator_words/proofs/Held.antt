@@ -14,7 +14,7 @@ use Rattle.laws.proofs.Booleans.{implies, given}
 use Rattle.modulation.proofs.Fronts.{three-below}
 use Rattle.automaton.specs.Automaton.{transitions, ends, next, valueAdded, ending, stateAfter, numberAfter}
 use Rattle.automaton.specs.steps.Table.{After, limit}
-use Rattle.demodulator.specs.steps.Held.{Held, NextWord, LastWord}
+use Rattle.demodulator_words.specs.steps.Held.{Held, NextWord, LastWord}
 use Rattle.automaton.proofs.Entries.{entry-state, limit-pos, number-limit, number-shift, state-small}
 
 -- the pending bits of a are zeros

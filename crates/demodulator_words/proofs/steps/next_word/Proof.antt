@@ -3,9 +3,9 @@ use Prim.Native.Nat.{_+_, _*_}
 use borrow.Author.Needs.{needs}
 use Rattle.bits.specs.Bits.{bitsOf}
 use Rattle.modulation.proofs.Groups.{length-groupsAt}
-use Rattle.demodulator.proofs.Held.{next-word}
-use Rattle.demodulator.proofs.steps.next_word.Statement.{statement}
-use Rattle.demodulator.proofs.steps.next_word.Tie as tie
+use Rattle.demodulator_words.proofs.Held.{next-word}
+use Rattle.demodulator_words.proofs.steps.next_word.Statement.{statement}
+use Rattle.demodulator_words.proofs.steps.next_word.Tie as tie
 
 add-segment : tie.Need-add-segment
 add-segment c = search needs

@@ -1,8 +1,8 @@
 -- `last_word` meets its contract (Held). Assumes nothing.
 use borrow.Author.Needs.{needs}
-use Rattle.demodulator.proofs.Held.{last-word}
-use Rattle.demodulator.proofs.steps.last_word.Statement.{statement}
-use Rattle.demodulator.proofs.steps.last_word.Tie as tie
+use Rattle.demodulator_words.proofs.Held.{last-word}
+use Rattle.demodulator_words.proofs.steps.last_word.Statement.{statement}
+use Rattle.demodulator_words.proofs.steps.last_word.Tie as tie
 
 ending-requires : tie.Need-ending-requires
 ending-requires c κs = search needs

@@ -10,7 +10,7 @@ use Rattle.modulation.proofs.Groups.{length-groupsAt}
 use Rattle.automaton.specs.Automaton.{stateAfter, numberAfter}
 use Rattle.automaton.specs.steps.Table.{After}
 use Rattle.automaton.proofs.Entries.{after-more, number-bound}
-use Rattle.demodulator.proofs.Windows.{groups-append}
+use Rattle.demodulator_groups.proofs.Windows.{groups-append}
 
 pub none-read : (b : List ℕ) (at s : ℕ) → s < 18 → After (groupsAt b at (3 * 0)) s s
 unfolding groupsAt stateAfter numberAfter

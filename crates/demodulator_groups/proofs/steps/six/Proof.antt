@@ -3,9 +3,9 @@ use native.Mathlib.Omega.{arith}
 use borrow.Author.Needs.{needs}
 use Rattle.bits.specs.Bits.{bitsOf}
 use Rattle.bits.proofs.Bits.{bits-bits}
-use Rattle.demodulator.proofs.Windows.{six-groups}
-use Rattle.demodulator.proofs.steps.six.Statement.{statement}
-use Rattle.demodulator.proofs.steps.six.Tie as tie
+use Rattle.demodulator_groups.proofs.Windows.{six-groups}
+use Rattle.demodulator_groups.proofs.steps.six.Statement.{statement}
+use Rattle.demodulator_groups.proofs.steps.six.Tie as tie
 
 low-bits-requires : tie.Need-low-bits-requires
 low-bits-requires c κs = search needs

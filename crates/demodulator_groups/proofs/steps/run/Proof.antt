@@ -6,9 +6,9 @@ use borrow.Author.Needs.{needs}
 use Rattle.bits.specs.Bits.{bitsOf}
 use Rattle.modulation.specs.Groups.{groupsAt}
 use Rattle.automaton.specs.steps.Table.{After}
-use Rattle.demodulator.proofs.Running.{none-read, more-read, still-small}
-use Rattle.demodulator.proofs.steps.run.Statement.{statement}
-use Rattle.demodulator.proofs.steps.run.Tie as tie
+use Rattle.demodulator_groups.proofs.Running.{none-read, more-read, still-small}
+use Rattle.demodulator_groups.proofs.steps.run.Statement.{statement}
+use Rattle.demodulator_groups.proofs.steps.run.Tie as tie
 
 abbrev Inv-loop : tie.InvT-loop
 Inv-loop made bytes at s turns x₀ k₀ x k = (k ≤ turns) × After (groupsAt (bitsOf bytes) at (3 * k)) s x
