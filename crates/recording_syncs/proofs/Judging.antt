@@ -12,7 +12,7 @@ use Rattle.modulation.specs.Sync.{FS, syncNumber}
 use Rattle.frame_sync.specs.Sync.{fs, fsNumber, hashAt, syncRight}
 use Rattle.frame_sync.proofs.SyncTables.{fs-number}
 use Rattle.recording.specs.Reading.{wrongSync, firstWrongSync}
-use Rattle.recording_reader.proofs.Places.{hash-behind, sync-behind}
+use Rattle.recording.proofs.Places.{hash-behind, sync-behind}
 
 -- bits b, in which the recording starts at bit `at`; h is # of its first sync
 module _ (given : Bool) (b : List ℕ) (at : ℕ) (h : Bool) (e : h ≡ hashAt b at) where

@@ -7,9 +7,9 @@ use lib.ListN.{drop}
 use Rattle.bits.specs.Bits.{bitsOf}
 use Rattle.laws.proofs.First.{Passed, passed-none, passed-more, first-here, first-past}
 use Rattle.recording.specs.Reading.{wrongSync, firstWrongSync}
-use Rattle.recording_reader.proofs.Judging.{hash-wrong, sync-judged}
-use Rattle.recording_reader.proofs.steps.first_wrong_sync.Statement.{statement}
-use Rattle.recording_reader.proofs.steps.first_wrong_sync.Tie as tie
+use Rattle.recording_syncs.proofs.Judging.{hash-wrong, sync-judged}
+use Rattle.recording_syncs.proofs.steps.first_wrong_sync.Statement.{statement}
+use Rattle.recording_syncs.proofs.steps.first_wrong_sync.Tie as tie
 
 abbrev Inv-loop : tie.InvT-loop
 Inv-loop image at first sync₀ sync = (sync ≤ 497) × Passed (wrongSync first (drop at (bitsOf image))) sync

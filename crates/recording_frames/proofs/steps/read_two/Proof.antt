@@ -4,10 +4,10 @@ use Prim.Native.Nat.{_+_, _-_, _*_}
 use native.Mathlib.Omega.{arith}
 use Rattle.bits.specs.Bits.{bitsOf}
 use lib.ListN.{drop}
-use Rattle.recording_reader.proofs.Reading.{frame-answer, row-is, two-rows}
+use Rattle.recording_frames.proofs.Reading.{frame-answer, row-is, two-rows}
 use borrow.Author.Needs.{needs}
-use Rattle.recording_reader.proofs.steps.read_two.Statement.{statement}
-use Rattle.recording_reader.proofs.steps.read_two.Tie as tie
+use Rattle.recording_frames.proofs.steps.read_two.Statement.{statement}
+use Rattle.recording_frames.proofs.steps.read_two.Tie as tie
 
 add-hash-at : tie.Need-add-hash-at
 add-hash-at c = search needs

@@ -6,9 +6,9 @@ use native.Mathlib.Omega.{arith}
 use lib.ListN.{drop, length-set}
 use Rattle.bits.specs.Bits.{bitsOf}
 use Rattle.automaton.specs.steps.Table.{table}
-use Rattle.recording_reader.proofs.Reading.{Below, below-none, below-more, below-stop, below-stop-next, below-all}
-use Rattle.recording_reader.proofs.steps.read_frames.Statement.{statement}
-use Rattle.recording_reader.proofs.steps.read_frames.Tie as tie
+use Rattle.recording_frames.proofs.Reading.{Below, below-none, below-more, below-stop, below-stop-next, below-all}
+use Rattle.recording_frames.proofs.steps.read_frames.Statement.{statement}
+use Rattle.recording_frames.proofs.steps.read_frames.Tie as tie
 
 abbrev Inv-loop : tie.InvT-loop
 Inv-loop image at dc₀ work₀ steps n₀ dc work n = (steps ≡ table) × Below (drop at (bitsOf image)) n dc work

@@ -2,18 +2,13 @@
 use mathlib.Core.Path.{_≡_}
 use mathlib.Core.Bool.{true, false}
 use mathlib.Core.List.{List, _++_}
-use Prim.Native.Nat.{ℕ, _+_, _*_, _<_, _≤_}
+use Prim.Native.Nat.{ℕ, _+_, _*_, _≤_}
 use lib.ListN.{length, take, drop}
 use Rattle.frame_bits.specs.FrameBits.{rowFrom}
 use Rattle.frame.specs.declared.FrameRead.{FrameRead}
 use Rattle.frame.specs.declared.FrameRead.the-variants.{Found, NoFrame}
 use Rattle.recording.specs.Reading.{noFrame, frameBitsIn, dcWordIn, firstNoFrame, clusterIn, dcIn}
 use Rattle.sizes.specs.Sizes.{workSize, frameCount, rowSize}
-
--- a recording from bit `at` on lies inside the slice
-pub record Within (image : List ℕ) (at : ℕ) : Type 0 where
-  pub enough : at + 958302 ≤ 8 * length image
-  pub positions : at + 958302 < 18446744073709551616
 
 -- the answer on frame n
 pub record FrameAnswer (b : List ℕ) (n : ℕ) (answer : FrameRead) : Type 0 where

@@ -19,9 +19,9 @@ use Rattle.frame_sync.proofs.SyncTables.{fs-number}
 use Rattle.frame_bits.proofs.FrameBits.{length-row}
 use Rattle.frame.proofs.Reading.{readable-gives, read-is, found-is, no-found}
 use Rattle.recording.specs.Reading.{modulatedAt, hashBehind, noFrame, firstNoFrame, frameBitsIn, clusterByte, clusterIn, dcWordIn, dcIn}
-use Rattle.recording_reader.specs.steps.Read.{FrameAnswer, TwoFrames, FramesRead}
+use Rattle.recording_frames.specs.steps.Read.{FrameAnswer, TwoFrames, FramesRead}
 use Rattle.recording.proofs.Accepting.{readable-is}
-use Rattle.recording_reader.proofs.Places.{hash-behind, bits-behind}
+use Rattle.recording.proofs.Places.{hash-behind, bits-behind}
 
 -- ---- a frame
 

@@ -1,4 +1,4 @@
-// Tests 10 and 11 on a recording from bit `at` on: its syncs, and its frames, two by two.
+// Test 11 on a recording from bit `at` on: its frames, two by two.
 use automaton::Table;
 use frame::FrameRead;
 use frame::TwoRead;
@@ -7,28 +7,9 @@ ghost use Prim.Native.Nat.{_+_, _<_};
 ghost use lib.ListN.{length, drop};
 ghost use Rattle.bits.specs.Bits.{bitsOf};
 ghost use Rattle.automaton.specs.steps.Table.{table};
-ghost use Rattle.recording.specs.Reading.{firstWrongSync};
-ghost use Rattle.recording_reader.specs.steps.Read.{Within, TwoFrames, FramesRead};
+ghost use Rattle.recording.specs.steps.Within.{Within};
+ghost use Rattle.recording_frames.specs.steps.Read.{TwoFrames, FramesRead};
 ghost use Rattle.sizes.specs.Sizes.{workSize, frameCount};
-
-// Test 10: the lowest frame whose sync is wrong, or 497; # of frame 0 is to be `first`.
-pub fn first_wrong_sync(image: &[u8], at: usize, first: bool) -> usize
-    requires { ⌜ Within (now image) at ⌝ }
-    ensures { λ r. ⌜ r ≡ firstWrongSync first (drop at (bitsOf (now (image .entry)))) ⌝ }
-{
-    if frame_sync::hash_at(image, at) != first {
-        return 0;
-    }
-    let mut sync = 0;
-    while sync < 497 {
-        let number = frame_sync::sync_number(sync);
-        if !frame_sync::steps::sync_right(image, at + sizes::FRAME * sync, number) {
-            return sync;
-        }
-        sync += 1;
-    }
-    sync
-}
 
 // Frames n and n + 1, their rows into their places of the cluster.
 fn read_two(steps: &Table, image: &[u8], at: usize, n: usize, work: &mut [u8]) -> TwoRead
