@@ -1,8 +1,8 @@
 // The groups at a bit, three a step.
 use automaton::Table;
-use automaton::steps::flag;
-use automaton::steps::three_on;
-use automaton::steps::two_on;
+use demodulator_table::steps::flag;
+use demodulator_table::steps::three_on;
+use demodulator_table::steps::two_on;
 ghost use mathlib.Core.Path.{_≡_};
 ghost use Prim.Native.Nat.{_+_, _*_, _<_};
 ghost use Rattle.bits.specs.Bits.{bitsOf};

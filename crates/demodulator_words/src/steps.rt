@@ -2,8 +2,8 @@
 use crate::Last;
 use crate::Next;
 use automaton::Table;
-use automaton::steps::ending;
 use demodulator_groups::steps::segment;
+use demodulator_table::steps::ending;
 ghost use mathlib.Core.Path.{_≡_};
 ghost use Prim.Native.Nat.{_+_, _*_, _<_};
 ghost use Rattle.bits.specs.Bits.{bitsOf};

@@ -39,8 +39,8 @@ pub fn read_frames(image: &[u8], at: usize, dc: &mut [u32], work: &mut [u8]) -> 
     requires { ⌜ Within (now image) at × ((length (now dc) ≡ frameCount) × (length (now work) ≡ workSize)) ⌝ }
     ensures { λ r. ⌜ FramesRead (drop at (bitsOf (now (image .entry)))) r (now (dc .exit)) (now (work .exit)) ⌝ }
 {
-    let mut steps = automaton::steps::no_table();
-    automaton::steps::fill_table(&mut steps);
+    let mut steps = demodulator_table::steps::no_table();
+    demodulator_table::steps::fill_table(&mut steps);
     let mut n = 0;
     while n < sizes::FRAMES {
         let two = read_two(&steps, image, at, n, work);

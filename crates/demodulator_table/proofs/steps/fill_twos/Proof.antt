@@ -3,10 +3,10 @@ use Prim.Native.Nat.{_-_}
 use native.Mathlib.Omega.{arith}
 use borrow.Author.Needs.{needs}
 use Rattle.laws.proofs.Fill.{Upto, upto-none, upto-more}
 use Rattle.automaton.specs.steps.Table.{tableEntry}
 use Rattle.automaton.proofs.Entries.{twos-all}
-use Rattle.automaton.proofs.steps.fill_twos.Statement.{statement}
-use Rattle.automaton.proofs.steps.fill_twos.Tie as tie
+use Rattle.demodulator_table.proofs.steps.fill_twos.Statement.{statement}
+use Rattle.demodulator_table.proofs.steps.fill_twos.Tie as tie
 
 abbrev Inv-loop : tie.InvT-loop
 Inv-loop ones made₀ k₀ made k = Upto 0 tableEntry 10368 k made

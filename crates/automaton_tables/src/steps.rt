@@ -1,9 +1,9 @@
-// The automaton's steps and ends, as the definition has them. A constant is copied where it is read.
+// Transitions and ends. A constant is copied where it is read.
 ghost use mathlib.Core.Path.{_≡_};
 ghost use Rattle.automaton.specs.Automaton.{transitions, ends};
 
 // State s at group g, at place 8 s + g: 32 times what is added, and the next state.
-const READS: [u16; 144] = [
+const TRANSITIONS: [u16; 144] = [
     3,
     68,
     5,
@@ -190,10 +190,10 @@ const ENDS: [u16; 36] = [
     1,
 ];
 
-pub fn reads() -> [u16; 144]
+pub fn transitions() -> [u16; 144]
     ensures { λ r. ⌜ r ≡ transitions ⌝ }
 {
-    READS
+    TRANSITIONS
 }
 
 pub fn ends() -> [u16; 36]

@@ -4,9 +4,9 @@ use mathlib.Core.Path.{ap, _∙_}
 use Prim.Native.Nat.{ℕ, _+_, _*_}
 use borrow.Author.Needs.{needs}
 use lib.ListN.{getD}
 use Rattle.automaton.specs.Automaton.{ends}
-use Rattle.automaton.proofs.steps.ending.Statement.{statement}
-use Rattle.automaton.proofs.steps.ending.Tie as tie
+use Rattle.demodulator_table.proofs.steps.ending.Statement.{statement}
+use Rattle.demodulator_table.proofs.steps.ending.Tie as tie
 
 ends-requires : tie.Need-ends-requires
 ends-requires c κs = search needs

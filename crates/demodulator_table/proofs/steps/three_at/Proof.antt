@@ -3,9 +3,9 @@ use mathlib.Core.Path.{_∙_}
 use Prim.Native.Nat.{_+_, _*_, _-_, _/_, _%_}
 use native.Mathlib.Omega.{arith}
 use borrow.Author.Needs.{needs}
 use Rattle.automaton.proofs.Entries.{there-bound, there-state, three-made}
-use Rattle.automaton.proofs.steps.three_at.Statement.{statement}
-use Rattle.automaton.proofs.steps.three_at.Tie as tie
+use Rattle.demodulator_table.proofs.steps.three_at.Statement.{statement}
+use Rattle.demodulator_table.proofs.steps.three_at.Tie as tie
 
 sub-j : tie.Need-sub-j
 sub-j c = search needs

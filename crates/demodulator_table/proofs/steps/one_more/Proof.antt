@@ -5,9 +5,9 @@ use Prim.Native.Nat.{ℕ, _+_, _*_, _/_, _%_}
 use native.Mathlib.Omega.{arith}
 use borrow.Author.Needs.{needs}
 use lib.ListN.{getD}
 use Rattle.automaton.proofs.Entries.{entry-bound}
-use Rattle.automaton.proofs.steps.one_more.Statement.{statement}
-use Rattle.automaton.proofs.steps.one_more.Tie as tie
+use Rattle.demodulator_table.proofs.steps.one_more.Statement.{statement}
+use Rattle.demodulator_table.proofs.steps.one_more.Tie as tie
 
 mul-result : tie.Need-mul-result
 mul-result c = search needs

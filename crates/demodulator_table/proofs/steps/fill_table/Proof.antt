@@ -4,11 +4,11 @@ use Prim.Native.Nat.{_-_, _≤_}
 use native.Mathlib.Omega.{arith}
 use borrow.Author.Needs.{needs}
 use Rattle.laws.proofs.Fill.{Upto, upto-more, upto-all}
 use Rattle.automaton.specs.Automaton.{transitions}
 use Rattle.automaton.specs.steps.Table.{tableEntry, table}
 use Rattle.automaton.proofs.Entries.{twos-all, twos-upto}
-use Rattle.automaton.proofs.steps.fill_table.Statement.{statement}
-use Rattle.automaton.proofs.steps.fill_table.Tie as tie
+use Rattle.demodulator_table.proofs.steps.fill_table.Statement.{statement}
+use Rattle.demodulator_table.proofs.steps.fill_table.Tie as tie
 
 abbrev Inv-loop : tie.InvT-loop
 Inv-loop made₀ ones k₀ made k = (ones ≡ transitions) × ((1152 ≤ k) × Upto 0 tableEntry 10368 k made)
@@ -16,8 +16,8 @@ Inv-loop made₀ ones k₀ made k = (ones ≡ transitions) × ((1152 ≤ k) × U
 abbrev μ-loop : tie.MeasureT-loop
 μ-loop made₀ ones k₀ made k = 10368 - k
 
-reads-requires : tie.Need-reads-requires Inv-loop μ-loop
-reads-requires c κs = search needs
+transitions-requires : tie.Need-transitions-requires Inv-loop μ-loop
+transitions-requires c κs = search needs
 
 fill-twos-requires : tie.Need-fill-twos-requires Inv-loop μ-loop
 fill-twos-requires c κs = search needs
@@ -53,7 +53,7 @@ fill-table-spec =
     (tie.spec
     Inv-loop
     μ-loop
-    reads-requires
+    transitions-requires
     fill-twos-requires
     loop-holds
     three-at-requires

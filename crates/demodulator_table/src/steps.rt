@@ -1,13 +1,11 @@
-// The automaton's table, and its steps.
-mod constants;
-
-use crate::Table;
+// The table, entry by entry, and its steps.
+use automaton::Table;
 ghost use mathlib.Core.Bool.{cond};
 ghost use mathlib.Core.Path.{_≡_};
 ghost use Prim.Native.Nat.{_%_, _<_, _≤_};
 ghost use lib.ListN.{length};
 ghost use Rattle.automaton.specs.Automaton.{transitions, ending};
 ghost use Rattle.automaton.specs.steps.Table.{twoGroups, threeGroups, more, tableEntry, table, Twos, After};
 
 // A number of data bits and a state, as the table has them, with group g read.
 fn one_more(ones: &[u16; 144], a: u16, g: usize) -> u16
@@ -53,7 +51,7 @@ pub fn fill_table(made: &mut Table)
     requires { ⌜ length (now made) ≡ 10368 ⌝ }
     ensures { λ _. ⌜ now (made .exit) ≡ table ⌝ }
 {
-    let ones = constants::reads();
+    let ones = automaton_tables::steps::transitions();
     fill_twos(&ones, made);
     let mut k = 1152;
     while k < 10368 {
@@ -104,6 +102,6 @@ pub fn ending(s: u64, hash: bool) -> u64
     requires { ⌜ s < 18 ⌝ }
     ensures { λ r. ⌜ (r ≡ ending s hash) × (r < 65536) ⌝ }
 {
-    let ends = constants::ends();
+    let ends = automaton_tables::steps::ends();
     wide(ends[(2 * s + flag(hash)) as usize])
 }

@@ -3,10 +3,10 @@ use mathlib.Core.Path.{sym, ap, subst, _∙_}
 use Prim.Native.Nat.{ℕ, _/_, _%_, _<_}
 use native.Mathlib.Omega.{arith}
 use borrow.Author.Needs.{needs}
 use Rattle.automaton.specs.steps.Table.{more}
 use Rattle.automaton.proofs.Entries.{more-bound, more-state, two-made}
-use Rattle.automaton.proofs.steps.two_at.Statement.{statement}
-use Rattle.automaton.proofs.steps.two_at.Tie as tie
+use Rattle.demodulator_table.proofs.steps.two_at.Statement.{statement}
+use Rattle.demodulator_table.proofs.steps.two_at.Tie as tie
 
 cast-one-more : tie.Need-cast-one-more
 cast-one-more c = search needs
