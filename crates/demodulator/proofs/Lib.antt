@@ -1,6 +1,3 @@
--- Words and windows of a frame, and the loops that read it.
-pub mod Windows
-pub mod Running
-pub mod Held
+-- A frame as words, and the loops that read it.
 pub mod Words
 pub mod Reading

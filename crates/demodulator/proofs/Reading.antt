@@ -18,14 +18,14 @@ use Rattle.modulation.specs.Groups.{Inside, groupsAt, frameAt}
 use Rattle.modulation.proofs.Groups.{length-groupsAt, bits-groupsAt}
 use Rattle.automaton.specs.Automaton.{start, ending, stateAfter, numberAfter, accepts, numberRead}
 use Rattle.automaton.specs.steps.Table.{After}
-use Rattle.demodulator.specs.steps.Held.{Held, NextWord, LastWord}
+use Rattle.demodulator_words.specs.steps.Held.{Held, NextWord, LastWord}
 use Rattle.modulation.specs.Words.{bitsIn, Words, WordsRead}
 use Rattle.automaton.proofs.Complete.{after-append, complete}
 use Rattle.automaton.proofs.Sound.{sound}
 use Rattle.automaton.proofs.Entries.{number-append, number-shift, start-small}
-use Rattle.demodulator.proofs.Held.{read-number, read-state, held-first}
-use Rattle.demodulator.proofs.Windows.{groups-append}
-use Rattle.demodulator.proofs.Running.{read-bound}
+use Rattle.demodulator_words.proofs.Held.{read-number, read-state, held-first}
+use Rattle.demodulator_groups.proofs.Windows.{groups-append}
+use Rattle.demodulator_groups.proofs.Running.{read-bound}
 use Rattle.demodulator.proofs.Words.{joined, joined-none, joined-more, words-bits}
 
 -- the first i words are done, and x is what is held of the next

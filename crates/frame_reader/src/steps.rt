@@ -27,7 +27,7 @@ fn take_frame(words: &[u64; 29], found: bool, row: &mut [u8]) -> FrameRead
 }
 
 // The frame whose sync stands at bit `at`; `hash` is # of the next sync. A frame found leaves its row in the slice. The table is lent:
-// automaton::steps::fill_table makes it.
+// demodulator_table::steps::fill_table makes it.
 pub fn read_frame(
     steps: &Table,
     image: &[u8],

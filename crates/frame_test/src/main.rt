@@ -212,7 +212,7 @@ fn records(steps: &Table)
 
 fn main() {
     sync_numbers();
-    let mut steps = automaton::steps::no_table();
-    automaton::steps::fill_table(&mut steps);
+    let mut steps = demodulator_table::steps::no_table();
+    demodulator_table::steps::fill_table(&mut steps);
     records(&steps);
 }

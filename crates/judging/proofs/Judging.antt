@@ -14,7 +14,7 @@ use Rattle.address.specs.declared.Psn.{Psn}
 use Rattle.bis.specs.declared.PsnFound.{PsnFound}
 use Rattle.bis.specs.declared.PsnFound.the-variants.{Found, NotFound}
 use Rattle.bis.specs.Reading.{psnIn}
-use Rattle.recording_reader.specs.steps.Read.{FramesRead}
+use Rattle.recording_frames.specs.steps.Read.{FramesRead}
 use Rattle.judging.specs.Tests.{lastBitsAnswer, framesAnswer, foundAnswer, psnAnswer}
 use Rattle.judging.specs.steps.Tested.{FramesTested}
 

@@ -11,7 +11,7 @@ ghost use Rattle.sizes.specs.Sizes.{frameCount, workSize};
 ghost use Rattle.bits.specs.Bits.{bitsOf};
 ghost use Rattle.answer.specs.Answer.{lowest};
 ghost use Rattle.remainders.specs.steps.Remainders.{AreRemainders};
-ghost use Rattle.recording_reader.specs.steps.Read.{Within};
+ghost use Rattle.recording.specs.steps.Within.{Within};
 ghost use Rattle.judging.specs.Tests.{lastBitsAnswer, syncsAnswer, bisColumnsAnswer, addressFieldsAnswer, psnAnswer, ldcColumnsAnswer, sectorsAnswer};
 ghost use Rattle.judging.specs.steps.Tested.{FramesTested};
 
@@ -43,7 +43,7 @@ pub fn syncs(image: &[u8], at: usize, first: bool) -> Answer
     requires { ⌜ Within (now image) at ⌝ }
     ensures { λ r. ⌜ r ≡ syncsAnswer first (drop at (bitsOf (now (image .entry)))) ⌝ }
 {
-    let sync = recording_reader::steps::first_wrong_sync(image, at, first);
+    let sync = recording_syncs::steps::first_wrong_sync(image, at, first);
     lowest(sync, 497, Answer::Sync(sync))
 }
 
@@ -52,7 +52,7 @@ pub fn frames(image: &[u8], at: usize, dc: &mut [u32], work: &mut [u8]) -> Answe
     requires { ⌜ Within (now image) at × ((length (now dc) ≡ frameCount) × (length (now work) ≡ workSize)) ⌝ }
     ensures { λ r. ⌜ FramesTested (drop at (bitsOf (now (image .entry)))) r (now (dc .exit)) (now (work .exit)) ⌝ }
 {
-    let n = recording_reader::steps::read_frames(image, at, dc, work);
+    let n = recording_frames::steps::read_frames(image, at, dc, work);
     lowest(n, sizes::FRAMES, Answer::Frame(n))
 }
 

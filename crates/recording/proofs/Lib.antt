@@ -1,4 +1,5 @@
 -- Laws of recordings; what the tests mean is in Statements.
+pub mod Places
 pub mod Frames
 pub mod Accepting
 pub mod Back

@@ -1,2 +1,0 @@
--- What the demodulator's steps leave.
-pub mod steps

@@ -1,0 +1,3 @@
+-- Groups behind groups, and what is read of them.
+pub mod Windows
+pub mod Running

@@ -1,0 +1,2 @@
+-- What is held between two words.
+pub mod Held

@@ -1,0 +1,2 @@
+-- What the steps hold and leave.
+pub mod steps

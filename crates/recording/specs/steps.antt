@@ -1,0 +1,2 @@
+-- What the steps are given.
+pub mod Within

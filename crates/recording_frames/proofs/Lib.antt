@@ -1,0 +1,2 @@
+-- Frames read two by two.
+pub mod Reading

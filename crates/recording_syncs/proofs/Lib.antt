@@ -1,0 +1,2 @@
+-- Syncs judged.
+pub mod Judging

@@ -1,0 +1,25 @@
+// Test 10 on a recording from bit `at` on.
+ghost use mathlib.Core.Path.{_≡_};
+ghost use lib.ListN.{drop};
+ghost use Rattle.bits.specs.Bits.{bitsOf};
+ghost use Rattle.recording.specs.Reading.{firstWrongSync};
+ghost use Rattle.recording.specs.steps.Within.{Within};
+
+// Test 10: the lowest frame whose sync is wrong, or 497; # of frame 0 is to be `first`.
+pub fn first_wrong_sync(image: &[u8], at: usize, first: bool) -> usize
+    requires { ⌜ Within (now image) at ⌝ }
+    ensures { λ r. ⌜ r ≡ firstWrongSync first (drop at (bitsOf (now (image .entry)))) ⌝ }
+{
+    if frame_sync::hash_at(image, at) != first {
+        return 0;
+    }
+    let mut sync = 0;
+    while sync < 497 {
+        let number = frame_sync::sync_number(sync);
+        if !frame_sync::steps::sync_right(image, at + sizes::FRAME * sync, number) {
+            return sync;
+        }
+        sync += 1;
+    }
+    sync
+}
