@@ -113,7 +113,11 @@ pub fn address_cell(n: usize, c: usize) {
 // The same in a row and a column of the BIS cluster.
 pub fn unit_cell(row: usize, column: usize) {
     let k = bis_byte_in(row, column);
-    address_cell(k % 62, k / 62);
+    if k < 1488 {
+        address_cell(k % 62, k / 62);
+    } else {
+        lines::number(b"no BIS byte ", k as u64);
+    }
 }
 
 // ---- Figure 36

@@ -19,9 +19,14 @@ pub fn block_in(work: [u8; 76880]) -> bis::Block
     bis_cluster::steps::bis_block(&work)
 }
 
-// Where a byte of the LDC cluster stands.
+// Where a byte of the LDC cluster stands; the end for a place outside.
 pub fn ldc_index(row: usize, column: usize) -> usize {
-    155 * (row % 496) + column % 152 + column % 152 / 38
+    if row < 496 {
+        if column < 152 {
+            return 155 * row + column + column / 38;
+        }
+    }
+    76880
 }
 
 // ---- drawn clusters
@@ -108,7 +113,7 @@ pub fn only(marks: &[u64], mark: u64) -> usize {
     found
 }
 
-// Byte n of code word c of the LDC block, or of the BIS block.
+// Byte n of code word c of the LDC block, or of the BIS block; 0 where its place is outside the cluster.
 fn byte_in(work: [u8; 76880], bis: bool, n: usize, c: usize) -> u8
     requires { ⌜ 76880 ≡ length work ⌝ }
 {
@@ -117,7 +122,7 @@ fn byte_in(work: [u8; 76880], bis: bool, n: usize, c: usize) -> u8
         return block[c % 24][n % 62];
     }
     let place = ldc::steps::locate(c % 304, n % 248);
-    work[ldc_index(place.row, place.column) % 76880]
+    compare::byte_at(&work, ldc_index(place.row, place.column))
 }
 
 // The place of the byte that a cell has in four clusters, each drawn by the hash of those before.
