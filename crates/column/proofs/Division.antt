@@ -5,9 +5,9 @@ use Prim.Native.Nat.{ℕ, suc, _<_}
 use native.Mathlib.Omega.{arith}
 use lib.ListN.{length}
 use Rattle.laws.specs.Bytes.{Bytes}
-use Rattle.field.specs.Field.{sum, product}
-use Rattle.field.proofs.Sum.{sum-assoc, sum-comm, sum-zero, sum-self, sum-byte, sum-cancel}
-use Rattle.field.proofs.Product.{product-zero, zero-product, product-one}
+use Rattle.galois.specs.Field.{sum, product}
+use Rattle.galois.proofs.Sum.{sum-assoc, sum-comm, sum-zero, sum-self, sum-byte, sum-cancel}
+use Rattle.galois.proofs.Product.{product-zero, zero-product, product-one}
 use Rattle.column.specs.Column.{valueFrom, sums, scaled, pushed, remainder}
 use Rattle.column.proofs.Sums.{length-snoc, length-sums, length-scaled, bytes-snoc, bytes-sums, bytes-scaled}
 use Rattle.column.proofs.Value.{value-append, value-sums, value-scaled}

@@ -5,9 +5,9 @@ use mathlib.Core.Logic.{⊎-elim}
 use Prim.Native.Nat.{ℕ, zero, suc, _<_}
 use native.Mathlib.Nat.{suc-inj, le-of-suc-le-suc, not-suc-le-zero, eq-or-lt-of-le}
 use lib.ListN.{length, drop}
-use Rattle.field.specs.Field.{α, sum, timesα, times, product, power}
-use Rattle.field.proofs.Sum.{sum-zero, sum-self}
-use Rattle.field.proofs.Product.{product-comm, sum-product, product-zero, zero-product}
+use Rattle.galois.specs.Field.{α, sum, timesα, times, product, power}
+use Rattle.galois.proofs.Sum.{sum-zero, sum-self}
+use Rattle.galois.proofs.Product.{product-comm, sum-product, product-zero, zero-product}
 use Rattle.column.specs.Column.{valueFrom, value, Roots, sums, scaled, timesRoot, generator}
 use Rattle.column.proofs.Sums.{length-snoc, length-sums, length-scaled}
 use Rattle.column.proofs.Value.{value-append, value-cons, value-sums, value-scaled}

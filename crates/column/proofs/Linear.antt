@@ -6,9 +6,9 @@ use native.Mathlib.Nat.{suc-inj}
 use native.Mathlib.Omega.{arith}
 use lib.ListN.{length}
 use Rattle.laws.specs.Tabulate.{tabulate}
-use Rattle.field.specs.Field.{sum}
-use Rattle.field.proofs.Sum.{sum-zero, zero-sum, sum-self, sum-swap}
-use Rattle.field.proofs.Product.{sum-product}
+use Rattle.galois.specs.Field.{sum}
+use Rattle.galois.proofs.Sum.{sum-zero, zero-sum, sum-self, sum-swap}
+use Rattle.galois.proofs.Product.{sum-product}
 use Rattle.column.specs.Column.{sums, scaled, pushed, remainder}
 use Rattle.column.proofs.Sums.{length-snoc, length-scaled}
 use Rattle.column.proofs.Division.{length-pushed}

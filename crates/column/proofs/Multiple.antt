@@ -12,9 +12,9 @@ use Rattle.laws.specs.Bytes.{Bytes}
 use Rattle.laws.specs.Tabulate.{tabulate}
 use Rattle.laws.proofs.Bytes.{bytes-none, bytes-cons, bytes-tabulate, bytes-take}
 use Rattle.laws.proofs.Tabulate.{length-tabulate}
-use Rattle.field.specs.Field.{α, sum, product, power}
-use Rattle.field.proofs.Sum.{sum-assoc, sum-comm, sum-zero, zero-sum, sum-self, sum-byte, sum-cancel}
-use Rattle.field.proofs.Product.{product-byte, product-comm, product-assoc, sum-product, product-zero, zero-product, one-product, product-one}
+use Rattle.galois.specs.Field.{α, sum, product, power}
+use Rattle.galois.proofs.Sum.{sum-assoc, sum-comm, sum-zero, zero-sum, sum-self, sum-byte, sum-cancel}
+use Rattle.galois.proofs.Product.{product-byte, product-comm, product-assoc, sum-product, product-zero, zero-product, one-product, product-one}
 use Rattle.column.specs.Column.{valueFrom, value, Roots, hasRoots, sums, scaled, timesRoot, generator, multiplied, MultipleOf, pushed, remainder, parity}
 use Rattle.column.proofs.Sums.{length-snoc, length-sums, length-scaled, bytes-sums, bytes-snoc, bytes-scaled}
 use Rattle.column.proofs.Value.{value-append, value-cons, value-sums, value-scaled, value-zeros}

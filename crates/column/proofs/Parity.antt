@@ -12,7 +12,7 @@ use Rattle.laws.specs.Bytes.{Bytes}
 use Rattle.laws.specs.Tabulate.{tabulate}
 use Rattle.laws.proofs.Bytes.{bytes-take, bytes-drop, bytes-tabulate}
 use Rattle.laws.proofs.Tabulate.{length-tabulate}
-use Rattle.field.specs.Field.{α, power}
+use Rattle.galois.specs.Field.{α, power}
 use Rattle.column.specs.Column.{value, Roots, hasRoots, Completes, IsParity, EndsIn, generator, remainder, parity}
 use Rattle.column.proofs.Value.{value-append, value-zeros}
 use Rattle.column.proofs.Generator.{coefficients-length, coefficients-roots}

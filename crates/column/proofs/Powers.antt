@@ -7,12 +7,12 @@ use native.Mathlib.Omega.{arith}
 use lib.ListN.{length}
 use Rattle.laws.specs.Bytes.{Bytes}
 use Rattle.laws.proofs.Bytes.{bytes-none, bytes-cons}
-use Rattle.field.specs.Field.{α, sum, product, power}
-use Rattle.field.proofs.Sum.{sum-zero, zero-sum, sum-self, sum-byte, sum-swap, sum-same}
-use Rattle.field.proofs.Product.{product-byte, product-comm, product-assoc, product-left-comm, product-sum, sum-product, product-zero, zero-product, product-one}
-use Rattle.field.proofs.Power.{power-byte}
-use Rattle.field.proofs.Logarithm.{α-distinct}
-use Rattle.field.proofs.Inverse.{no-divisor}
+use Rattle.galois.specs.Field.{α, sum, product, power}
+use Rattle.galois.proofs.Sum.{sum-zero, zero-sum, sum-self, sum-byte, sum-swap, sum-same}
+use Rattle.galois.proofs.Product.{product-byte, product-comm, product-assoc, product-left-comm, product-sum, sum-product, product-zero, zero-product, product-one}
+use Rattle.galois.proofs.Power.{power-byte}
+use Rattle.galois.proofs.Logarithm.{α-distinct}
+use Rattle.galois.proofs.Inverse.{no-divisor}
 
 -- the sum of e X^s, where X is α^k, over the pairs of two lists
 unfoldable pub total : List ℕ → List ℕ → ℕ → ℕ

@@ -10,10 +10,10 @@ use Rattle.laws.specs.Tabulate.{tabulate}
 use Rattle.laws.proofs.Tabulate.{length-tabulate, is-tabulate}
 use Rattle.laws.proofs.Fill.{Upto, upto-none, upto-more, upto-all}
 use Rattle.laws.specs.Bytes.{Bytes}
-use Rattle.field.specs.Field.{sum, product}
-use Rattle.field.specs.Tables.{AreTables, productBy}
-use Rattle.field.proofs.Lookup.{product-table}
-use Rattle.field.proofs.Sum.{zero-sum}
+use Rattle.galois.specs.Field.{sum, product}
+use Rattle.galois.specs.Tables.{AreTables, productBy}
+use Rattle.galois.proofs.Lookup.{product-table}
+use Rattle.galois.proofs.Sum.{zero-sum}
 use Rattle.column.specs.Column.{scaled, generator, pushed, remainder, parity}
 use Rattle.column.proofs.Sums.{length-snoc, length-scaled, snoc-at, sums-at, scaled-at}
 use Rattle.column.proofs.Division.{length-pushed}

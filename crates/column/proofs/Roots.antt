@@ -9,7 +9,7 @@ use native.Mathlib.Numerals.{add-one}
 use native.Mathlib.Omega.{arith}
 use lib.Dec.{eqb}
 use borrow.Author.Tests.{eqb-true, eq-eqb}
-use Rattle.field.specs.Field.{α, power}
+use Rattle.galois.specs.Field.{α, power}
 use Rattle.column.specs.Column.{value, Roots, hasRoots}
 
 -- ---- the test holds exactly where the roots are there

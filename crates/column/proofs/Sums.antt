@@ -7,9 +7,9 @@ use native.Mathlib.Omega.{arith}
 use lib.ListN.{length, getD}
 use Rattle.laws.specs.Bytes.{Bytes}
 use Rattle.laws.proofs.Bytes.{bytes-none, bytes-cons, bytes-append}
-use Rattle.field.specs.Field.{sum, product}
-use Rattle.field.proofs.Sum.{sum-self, sum-byte}
-use Rattle.field.proofs.Product.{product-byte, product-zero}
+use Rattle.galois.specs.Field.{sum, product}
+use Rattle.galois.proofs.Sum.{sum-self, sum-byte}
+use Rattle.galois.proofs.Product.{product-byte, product-zero}
 use Rattle.column.specs.Column.{sums, scaled}
 
 pub length-snoc : (cs : List ℕ) → length (cs ++ 0 ∷ []) ≡ suc (length cs)

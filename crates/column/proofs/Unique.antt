@@ -6,10 +6,10 @@ use native.Mathlib.Nat.{suc-inj, le-refl}
 use native.Mathlib.Omega.{arith}
 use lib.ListN.{length}
 use Rattle.laws.specs.Bytes.{Bytes}
-use Rattle.field.specs.Field.{α, sum, product, power}
-use Rattle.field.proofs.Sum.{sum-assoc, sum-zero, sum-self, sum-byte, sum-same}
-use Rattle.field.proofs.Product.{product-byte, product-assoc, sum-product, product-one}
-use Rattle.field.proofs.Power.{power-swap}
+use Rattle.galois.specs.Field.{α, sum, product, power}
+use Rattle.galois.proofs.Sum.{sum-assoc, sum-zero, sum-self, sum-byte, sum-same}
+use Rattle.galois.proofs.Product.{product-byte, product-assoc, sum-product, product-one}
+use Rattle.galois.proofs.Power.{power-swap}
 use Rattle.column.specs.Column.{valueFrom, value, Roots, Completes, sums}
 use Rattle.column.proofs.Sums.{length-sums, bytes-sums}
 use Rattle.column.proofs.Value.{value-append, value-cons, value-sums}

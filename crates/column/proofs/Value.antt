@@ -8,11 +8,11 @@ use native.Mathlib.Omega.{arith}
 use lib.ListN.{length, getD, take}
 use lib.Seq.{take-suc, take-all}
 use Rattle.laws.specs.Tabulate.{tabulate}
-use Rattle.field.specs.Field.{sum, product}
-use Rattle.field.specs.Tables.{AreTables, productBy}
-use Rattle.field.proofs.Lookup.{product-table}
-use Rattle.field.proofs.Sum.{sum-zero, zero-sum, sum-swap}
-use Rattle.field.proofs.Product.{product-assoc, product-sum, sum-product, zero-product}
+use Rattle.galois.specs.Field.{sum, product}
+use Rattle.galois.specs.Tables.{AreTables, productBy}
+use Rattle.galois.proofs.Lookup.{product-table}
+use Rattle.galois.proofs.Sum.{sum-zero, zero-sum, sum-swap}
+use Rattle.galois.proofs.Product.{product-assoc, product-sum, sum-product, zero-product}
 use Rattle.column.specs.Column.{valueFrom, value, sums, scaled}
 
 pub value-append : (v : ℕ) (xs ys : List ℕ) (x : ℕ) → valueFrom v (xs ++ ys) x ≡ valueFrom (valueFrom v xs x) ys x

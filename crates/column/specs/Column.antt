@@ -7,7 +7,7 @@ use lib.Dec.{eqb}
 use lib.ListN.{length, drop}
 use Rattle.laws.specs.Bytes.{Bytes}
 use Rattle.laws.specs.Tabulate.{tabulate}
-use Rattle.field.specs.Field.{α, sum, product, power}
+use Rattle.galois.specs.Field.{α, sum, product, power}
 
 -- the value at x by Horner's rule, where v is the value of the bytes before
 unfoldable pub valueFrom : ℕ → List ℕ → ℕ → ℕ

@@ -1,13 +1,11 @@
-// 13.7: the field of 256 elements.
-mod tables;
-
-pub use tables::logs;
-pub use tables::powers;
+// 13.7: the elements of the field of 256 elements.
+use field_tables::logs;
+use field_tables::powers;
 ghost use mathlib.Core.Path.{_≡_};
 ghost use Prim.Native.Nat.{_<_};
 ghost use lib.ListN.{getD};
-ghost use Rattle.field.specs.Tables.{productBy};
-ghost use Rattle.field.specs.Field.{sum, product, power, inverse};
+ghost use Rattle.galois.specs.Tables.{productBy};
+ghost use Rattle.galois.specs.Field.{sum, product, power, inverse};
 
 // An element: the byte of its coefficients, that of α^7 in the highest bit.
 pub struct Gf(pub u8);

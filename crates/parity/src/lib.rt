@@ -12,8 +12,8 @@ fn divide(generator: &[u8], message: &[u8], register: &mut [u8])
     requires { ⌜ (length (now generator) ≡ length (now register)) × (0 < length (now register)) ⌝ }
     ensures { λ r. ⌜ now (register .exit) ≡ remainder (now (generator .entry)) (tabulate (length (now (register .entry))) (λ _. 0)) (now (message .entry)) ⌝ }
 {
-    let powers = field::powers();
-    let logs = field::logs();
+    let powers = field_tables::powers();
+    let logs = field_tables::logs();
     slices::clear(register);
     let mut i = 0;
     while i < message.len() {

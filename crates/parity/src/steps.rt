@@ -5,7 +5,7 @@ ghost use lib.ListN.{length, drop};
 ghost use Rattle.column.specs.Column.{generator, pushed};
 ghost use Prim.Native.Nat.{_<_};
 ghost use Rattle.laws.specs.Tabulate.{tabulate};
-ghost use Rattle.field.specs.Tables.{AreTables};
+ghost use Rattle.galois.specs.Tables.{AreTables};
 
 // The generator with 32 roots (formulas 30, 37), without its first coefficient, which is 1.
 const GENERATOR_32: [u8; 32] = [

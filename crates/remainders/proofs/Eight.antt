@@ -14,7 +14,7 @@ use Rattle.laws.specs.Tabulate.{tabulate}
 use Rattle.laws.proofs.Bytes.{bytes-tabulate}
 use Rattle.laws.proofs.Fill.{Upto, upto-none, upto-more, upto-all}
 use Rattle.laws.proofs.Tabulate.{length-tabulate, getD-tabulate, is-tabulate}
-use Rattle.field.specs.Field.{sum}
+use Rattle.galois.specs.Field.{sum}
 use Rattle.column.specs.Column.{sums, remainder, parity}
 use Rattle.remainders.specs.steps.Remainders.{leaves, divisor, Padded, front, leavesAdded}
 use Rattle.column.proofs.Sums.{length-snoc, snoc-at, sums-at}

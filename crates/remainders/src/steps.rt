@@ -7,8 +7,8 @@ ghost use mathlib.Core.List.{[], _∷_};
 ghost use Prim.Native.Nat.{_+_, _*_, _<_, _≤_};
 ghost use lib.ListN.{length, take};
 ghost use Rattle.laws.specs.Tabulate.{tabulate};
-ghost use Rattle.field.specs.Field.{sum};
-ghost use Rattle.field.specs.Tables.{AreTables};
+ghost use Rattle.galois.specs.Field.{sum};
+ghost use Rattle.galois.specs.Tables.{AreTables};
 ghost use Rattle.column.specs.Column.{remainder};
 ghost use Rattle.remainders.specs.steps.Remainders.{divisor, AreRemainders, FirstTable, Padded, EntriesFrom, FilledTo};
 
@@ -80,8 +80,8 @@ fn fill_first(table: &mut Remainders)
     requires { ⌜ length (now table) ≡ 65536 ⌝ }
     ensures { λ _. ⌜ FilledTo 8192 (now (table .exit)) ⌝ }
 {
-    let powers = field::powers();
-    let logs = field::logs();
+    let powers = field_tables::powers();
+    let logs = field_tables::logs();
     let generator = parity::steps::generator_32();
     let mut b = 0;
     while b < 256 {

@@ -1,7 +1,7 @@
 // The roots of columns, one by one.
 use field::Gf;
 ghost use mathlib.Core.Path.{_≡_};
-ghost use Rattle.field.specs.Tables.{AreTables};
+ghost use Rattle.galois.specs.Tables.{AreTables};
 ghost use Rattle.column.specs.Column.{value, hasRoots};
 
 // The value of the column at x.
@@ -23,8 +23,8 @@ fn value_at(powers: &[u8; 256], logs: &[u8; 256], column: &[u8], x: Gf) -> Gf
 pub fn has_roots(column: &[u8], count: u8) -> bool
     ensures { λ r. ⌜ r ≡ hasRoots count (now (column .entry)) ⌝ }
 {
-    let powers = field::powers();
-    let logs = field::logs();
+    let powers = field_tables::powers();
+    let logs = field_tables::logs();
     let mut i = 0u8;
     while i < count {
         let v = value_at(&powers, &logs, column, Gf::ALPHA.power(i as usize));

@@ -1,5 +1,5 @@
 -- The starred trials hold of the definitions, computed. Assumes nothing.
-use Rattle.field.specs.Field.{sum, timesα, times, product}
+use Rattle.galois.specs.Field.{sum, timesα, times, product}
 use Rattle.modulation.specs.Modulation.{modulateFrom}
 use Rattle.trials.specs.Trials.{AllHold, trials}
 

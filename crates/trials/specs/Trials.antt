@@ -3,7 +3,7 @@ use mathlib.Core.Bool.{Bool, true, false}
 use mathlib.Core.List.{List, [], _∷_}
 use mathlib.Core.Path.{_≡_}
 use Prim.Native.Nat.{ℕ}
-use Rattle.field.specs.Field.{product}
+use Rattle.galois.specs.Field.{product}
 use Rattle.modulation.specs.Modulation.{Two, d00, d01, d10, d11, Three, m000, m001, m010, m100, m101, modulate}
 use Rattle.modulation.specs.Bits.{bits}
 use Rattle.gaps.specs.Gaps.{gaps}

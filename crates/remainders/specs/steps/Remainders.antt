@@ -4,7 +4,7 @@ use mathlib.Core.List.{List, _∷_}
 use Prim.Native.Nat.{ℕ, zero, suc, _+_, _*_, _-_, _/_, _%_, _<_, _≤_}
 use lib.ListN.{length, getD, drop}
 use Rattle.laws.specs.Tabulate.{tabulate}
-use Rattle.field.specs.Field.{sum}
+use Rattle.galois.specs.Field.{sum}
 use Rattle.column.specs.Column.{generator, parity}
 
 -- what byte b leaves in the register when k zeros follow it

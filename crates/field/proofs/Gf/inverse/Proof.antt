@@ -1,7 +1,7 @@
 -- `Gf::inverse` meets its contract: of an element other than zero, the power of α at 255 less the logarithm. Assumes nothing.
 use borrow.Author.Needs.{needs}
-use Rattle.field.proofs.Inverse.{inverse-zero}
-use Rattle.field.proofs.Lookup.{inverse-table}
+use Rattle.galois.proofs.Inverse.{inverse-zero}
+use Rattle.galois.proofs.Lookup.{inverse-table}
 use Rattle.field.proofs.Gf.inverse.Statement.{statement}
 use Rattle.field.proofs.Gf.inverse.Tie as tie
 

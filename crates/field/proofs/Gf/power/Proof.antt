@@ -1,9 +1,9 @@
 -- `Gf::power` meets its contract: of an element other than zero, the power of α at a multiple of the logarithm. Assumes nothing.
 use native.Mathlib.Omega.{arith}
 use borrow.Author.Needs.{needs}
-use Rattle.field.specs.Field.{power}
-use Rattle.field.proofs.Power.{power-zero}
-use Rattle.field.proofs.Lookup.{power-table, exponent-fits}
+use Rattle.galois.specs.Field.{power}
+use Rattle.galois.proofs.Power.{power-zero}
+use Rattle.galois.proofs.Lookup.{power-table, exponent-fits}
 use Rattle.field.proofs.Gf.power.Statement.{statement}
 use Rattle.field.proofs.Gf.power.Tie as tie
 

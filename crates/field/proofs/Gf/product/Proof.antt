@@ -1,5 +1,5 @@
 -- `Gf::product` meets its contract: it is the product by the field's own tables. Assumes nothing.
-use Rattle.field.proofs.Lookup.{product-table}
+use Rattle.galois.proofs.Lookup.{product-table}
 use borrow.Author.Needs.{needs}
 use Rattle.field.proofs.Gf.product.Statement.{statement}
 use Rattle.field.proofs.Gf.product.Tie as tie

@@ -1,7 +1,7 @@
 -- `Gf::product_by` meets its contract, case by case. Assumes nothing.
 use borrow.Author.Tests.{eq-eqb, ne-eqb}
-use Rattle.field.specs.Tables.{productBy}
-use Rattle.field.proofs.Lookup.{product-low, product-high}
+use Rattle.galois.specs.Tables.{productBy}
+use Rattle.galois.proofs.Lookup.{product-low, product-high}
 use borrow.Author.Needs.{needs}
 use Rattle.field.proofs.Gf.product_by.Statement.{statement}
 use Rattle.field.proofs.Gf.product_by.Tie as tie

@@ -1,6 +1,6 @@
 -- `Gf::sum` meets its contract: exclusive or is the sum by definition. Assumes nothing.
 use mathlib.Core.Path.{refl}
-use Rattle.field.specs.Field.{sum}
+use Rattle.galois.specs.Field.{sum}
 use Rattle.field.proofs.Gf.sum.Statement.{statement}
 use Rattle.field.proofs.Gf.sum.Tie as tie
 

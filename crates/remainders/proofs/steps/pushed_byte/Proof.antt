@@ -3,7 +3,7 @@ use mathlib.Core.Path.{ap, _∙_}
 use Prim.Native.Nat.{_+_, _-_}
 use lib.ListN.{getD}
 use native.Mathlib.Omega.{arith}
-use Rattle.field.specs.Field.{sum}
+use Rattle.galois.specs.Field.{sum}
 use Rattle.remainders.specs.steps.Remainders.{leaves}
 use Rattle.remainders.proofs.Eight.{Filling, filling-none, padded-zeros, filling-more, byte-in}
 use borrow.Author.Needs.{needs}

@@ -8,8 +8,8 @@ use lib.Pow.{split, pow-pos}
 use lib.Dec.{T, eqb, eqb→eq}
 use lib.Bits.{xor-shifted}
 use Rattle.laws.proofs.Finite.{all, all₂, all₂-at, equal-below}
-use Rattle.field.specs.Field.{sum}
-use Rattle.field.proofs.Sum.{sum-self}
+use Rattle.galois.specs.Field.{sum}
+use Rattle.galois.proofs.Sum.{sum-self}
 
 abbrev pub Linear : (ℕ → ℕ) → Type 0
 Linear f = (a b : ℕ) → f (sum a b) ≡ sum (f a) (f b)

@@ -7,7 +7,7 @@ use lib.Dec.{eqb, ltb}
 use lib.ListN.{getD}
 use Rattle.laws.specs.First.{first}
 use Rattle.laws.specs.Tabulate.{tabulate}
-use Rattle.field.specs.Field.{α, power}
+use Rattle.galois.specs.Field.{α, power}
 
 -- the logarithm of a to the base α: the lowest k with α^k = a; 0 has none, and its entry is 0
 unfoldable pub log : ℕ → ℕ

@@ -10,10 +10,10 @@ use borrow.Author.Tests.{eq-eqb, ne-eqb}
 use Rattle.laws.proofs.Finite.{both, both-left, both-right, all, all-at, equal-below}
 use Rattle.laws.proofs.First.{first-at}
 use Rattle.laws.proofs.Tabulate.{getD-tabulate, is-tabulate}
-use Rattle.field.specs.Field.{α, sum, timesα, power}
-use Rattle.field.specs.Tables.{log, powerTable, logTable}
-use Rattle.field.proofs.Product.{α-product}
-use Rattle.field.proofs.Power.{power-byte}
+use Rattle.galois.specs.Field.{α, sum, timesα, power}
+use Rattle.galois.specs.Tables.{log, powerTable, logTable}
+use Rattle.galois.proofs.Product.{α-product}
+use Rattle.galois.proofs.Power.{power-byte}
 
 unfoldable pub powerList : List ℕ
 powerList =

@@ -6,9 +6,9 @@ use native.Mathlib.Omega.{arith}
 use lib.Bits.{bitXor, xor-shr, xor-mod, xor-block}
 use Rattle.laws.proofs.Finite.{all, all₂}
 use Rattle.laws.proofs.Xor.{bit-times, xor-odd, xor-half}
-use Rattle.field.specs.Field.{α⁸, sum, timesα, times, product}
-use Rattle.field.proofs.Sum.{sum-self, sum-byte, sum-swap}
-use Rattle.field.proofs.Linear.{Linear, linear-zero, linear-bit, linear, bilinear}
+use Rattle.galois.specs.Field.{α⁸, sum, timesα, times, product}
+use Rattle.galois.proofs.Sum.{sum-self, sum-byte, sum-swap}
+use Rattle.galois.proofs.Linear.{Linear, linear-zero, linear-bit, linear, bilinear}
 
 bit : (a : ℕ) → a % 2 < 2
 bit a = mod-lt a (zero-lt-suc 1)

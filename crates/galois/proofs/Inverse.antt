@@ -3,11 +3,11 @@ use mathlib.Core.Path.{_≡_, sym, ap, _∙_}
 use Prim.Native.Nat.{ℕ, _+_, _*_, _-_, _/_, _%_, _<_, _≤_}
 use native.Mathlib.Nat.{mul-comm, add-sub-of-le, div-add-mod'}
 use native.Mathlib.Omega.{arith}
-use Rattle.field.specs.Field.{α, product, power, inverse}
-use Rattle.field.specs.Tables.{log}
-use Rattle.field.proofs.Product.{product-comm, product-assoc, product-zero, one-product, product-one}
-use Rattle.field.proofs.Power.{power-byte, power-add, power-mul, power-swap, power-one, power-zero}
-use Rattle.field.proofs.Logarithm.{power-log, α-cycle}
+use Rattle.galois.specs.Field.{α, product, power, inverse}
+use Rattle.galois.specs.Tables.{log}
+use Rattle.galois.proofs.Product.{product-comm, product-assoc, product-zero, one-product, product-one}
+use Rattle.galois.proofs.Power.{power-byte, power-add, power-mul, power-swap, power-one, power-zero}
+use Rattle.galois.proofs.Logarithm.{power-log, α-cycle}
 
 -- ---- the order of an element
 

@@ -3,7 +3,7 @@ use mathlib.Core.Path.{_≡_, refl, sym, ap, _∙_}
 use Prim.Native.Nat.{ℕ, _<_}
 use lib.Bits.{xor-lt, xor-zero-r, xor-comm, xor-self}
 use Rattle.laws.proofs.Xor.{xor-assoc}
-use Rattle.field.specs.Field.{sum}
+use Rattle.galois.specs.Field.{sum}
 
 pub sum-assoc : (a b c : ℕ) → sum (sum a b) c ≡ sum a (sum b c)
 unfolding sum

@@ -3,8 +3,8 @@ use mathlib.Core.Path.{_≡_, refl, sym, ap, _∙_}
 use Prim.Native.Nat.{ℕ, zero, suc, _+_, _*_, _<_}
 use native.Mathlib.Nat.{zero-add, suc-add, mul-comm, mul-zero, mul-suc}
 use native.Mathlib.Omega.{arith}
-use Rattle.field.specs.Field.{product, power}
-use Rattle.field.proofs.Product.{product-byte, product-comm, product-assoc, one-product, zero-product}
+use Rattle.galois.specs.Field.{product, power}
+use Rattle.galois.proofs.Product.{product-byte, product-comm, product-assoc, one-product, zero-product}
 
 pub power-byte : (a k : ℕ) → power a k < 256
 unfolding power

@@ -1,6 +1,6 @@
-// The tables of the powers of α and of the logarithms. A constant is copied where it is read, so that a loop takes the tables once.
+// 13.7: the tables of the powers of α and of the logarithms. A constant is copied where it is read, so that a loop takes the tables once.
 ghost use mathlib.Core.Path.{_≡_};
-ghost use Rattle.field.specs.Tables.{powerTable, logTable};
+ghost use Rattle.galois.specs.Tables.{powerTable, logTable};
 
 // Entry k is α^k.
 const POWERS: [u8; 256] = [

@@ -8,12 +8,12 @@ use native.Mathlib.Omega.{arith}
 use borrow.Author.Tests.{lt-ltb, le-ltb, ne-eqb}
 use lib.ListN.{getD, set}
 use lib.Seq.{getD-set-other}
-use Rattle.field.specs.Field.{α, product, power, inverse}
-use Rattle.field.specs.Tables.{log, powerTable, logTable, AreTables, powerBy, productBy}
-use Rattle.field.proofs.Product.{product-zero, zero-product}
-use Rattle.field.proofs.Power.{power-byte, power-add, power-mul}
-use Rattle.field.proofs.Logarithm.{powers-at, logs-at, log-small, power-log, α-cycle}
-use Rattle.field.proofs.Inverse.{power-mod, power-wrap, inverse-only}
+use Rattle.galois.specs.Field.{α, product, power, inverse}
+use Rattle.galois.specs.Tables.{log, powerTable, logTable, AreTables, powerBy, productBy}
+use Rattle.galois.proofs.Product.{product-zero, zero-product}
+use Rattle.galois.proofs.Power.{power-byte, power-add, power-mul}
+use Rattle.galois.proofs.Logarithm.{powers-at, logs-at, log-small, power-log, α-cycle}
+use Rattle.galois.proofs.Inverse.{power-mod, power-wrap, inverse-only}
 
 -- ---- exponents
 
