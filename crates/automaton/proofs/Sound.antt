@@ -11,7 +11,7 @@ use lib.ListN.{length, getD, drop}
 use Rattle.laws.proofs.Finite.{both, both-left, both-right}
 use Rattle.modulation.specs.Modulation.{Two, twoNumber, Three, m000, m001, m010, m011, m100, m101, m110, m111, threeNumber, starts, Modulated, modulate}
 use Rattle.modulation.specs.Pairs.{twoOf}
-use Rattle.modulation.specs.Machine.{Wait, w, w00, w0000, w000000, w000010, w11, w1101, w110111, w11011100, w1101110000, Step, step, stop, put, machine}
+use Rattle.modulation.specs.Machine.{Wait, w, w00, w0000, w000000, w000010, w11, w1101, w110111, w11011100, w1101110000, waitNumber, waitAt, Step, step, stop, put, machine}
 use Rattle.modulation.proofs.Machine.{machine-is}
 use Rattle.laws.proofs.Booleans.{T-true, true-T, beq-same, implies, given}
 use Rattle.modulation.proofs.Fronts.{three-injective, starts-split}
@@ -184,22 +184,7 @@ moved m g = at (to m g) (given-now m g .to) (given-now m g .bit) (grown m g % 4 
 
 -- ---- meetings compared
 
-abbrev waitNumber : Wait → ℕ
-waitNumber w = 0
-waitNumber w00 = 1
-waitNumber w0000 = 2
-waitNumber w000000 = 3
-waitNumber w000010 = 4
-waitNumber w11 = 5
-waitNumber w1101 = 6
-waitNumber w110111 = 7
-waitNumber w11011100 = 8
-waitNumber w1101110000 = 9
-
-abbrev waits : List Wait
-waits = w ∷ w00 ∷ w0000 ∷ w000000 ∷ w000010 ∷ w11 ∷ w1101 ∷ w110111 ∷ w11011100 ∷ w1101110000 ∷ []
-
-wait-back : (x : Wait) → getD waits (waitNumber x) w ≡ x
+wait-back : (x : Wait) → waitAt (waitNumber x) ≡ x
 wait-back w = refl
 wait-back w00 = refl
 wait-back w0000 = refl
@@ -212,7 +197,7 @@ wait-back w11011100 = refl
 wait-back w1101110000 = refl
 
 wait-injective : (x y : Wait) → waitNumber x ≡ waitNumber y → x ≡ y
-wait-injective x y e = sym (wait-back x) ∙ ap (λ (n : ℕ). getD waits n w) e ∙ wait-back y
+wait-injective x y e = sym (wait-back x) ∙ ap waitAt e ∙ wait-back y
 
 abbrev sames : List Three → List Three → Bool
 sames [] [] = true

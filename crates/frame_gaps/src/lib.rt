@@ -11,13 +11,6 @@ ghost use Rattle.frame.specs.Frame.{frame};
 ghost use Rattle.frame_gaps.specs.Tally.{refusal, tallied};
 ghost use Rattle.sizes.specs.Sizes.{rowSize};
 
-// Room for a frame.
-fn blank() -> [u8; 242]
-    ensures { λ r. ⌜ length r ≡ 242 ⌝ }
-{
-    [0u8; 242]
-}
-
 // The counts of the frame of a row and a dc word.
 fn frame_counts(row: &[u8], dc: u32, number: usize, hash: bool) -> [u32; 8]
     requires { ⌜ (length (now row) ≡ rowSize) × (number < 7) ⌝ }
@@ -25,7 +18,7 @@ fn frame_counts(row: &[u8], dc: u32, number: usize, hash: bool) -> [u32; 8]
 {
     let mut table = modulator_table::steps::no_table();
     modulator_table::steps::fill_table(&mut table);
-    let mut image = blank();
+    let mut image = frame_writer::steps::blank();
     frame_writer::steps::write_frame(&table, row, dc, number, State { hash }, &mut image, 0);
     gaps::steps::gap_counts(&image, sizes::FRAME)
 }

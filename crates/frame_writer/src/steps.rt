@@ -44,7 +44,7 @@ fn write_whole(
 }
 
 // Room for a frame.
-fn blank() -> [u8; 242]
+pub fn blank() -> [u8; 242]
     ensures { λ r. ⌜ length r ≡ 242 ⌝ }
 {
     [0u8; 242]

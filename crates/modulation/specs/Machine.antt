@@ -2,6 +2,8 @@
 -- (proofs/Machine: machine-is).
 use mathlib.Core.Bool.{Bool, true, false, not, cond}
 use mathlib.Core.List.{List, [], _∷_, _++_}
+use Prim.Native.Nat.{ℕ}
+use lib.ListN.{getD}
 use Rattle.modulation.specs.Modulation.{Two, d00, d01, d10, d11, Three, m000, m001, m010, m100, m101, Modulated}
 
 -- the pairs that wait
@@ -19,6 +21,22 @@ waiting w1101 = d11 ∷ d01 ∷ []
 waiting w110111 = d11 ∷ d01 ∷ d11 ∷ []
 waiting w11011100 = d11 ∷ d01 ∷ d11 ∷ d00 ∷ []
 waiting w1101110000 = d11 ∷ d01 ∷ d11 ∷ d00 ∷ d00 ∷ []
+
+-- numbered in this order
+abbrev pub waitNumber : Wait → ℕ
+waitNumber w = 0
+waitNumber w00 = 1
+waitNumber w0000 = 2
+waitNumber w000000 = 3
+waitNumber w000010 = 4
+waitNumber w11 = 5
+waitNumber w1101 = 6
+waitNumber w110111 = 7
+waitNumber w11011100 = 8
+waitNumber w1101110000 = 9
+
+abbrev pub waitAt : ℕ → Wait
+waitAt k = getD (w ∷ w00 ∷ w0000 ∷ w000000 ∷ w000010 ∷ w11 ∷ w1101 ∷ w110111 ∷ w11011100 ∷ w1101110000 ∷ []) k w
 
 -- the groups that one more pair decides, what waits then, and the bit before that
 pub record Step : Type 0 where
