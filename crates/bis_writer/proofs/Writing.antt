@@ -1,32 +1,15 @@
--- The steps by which the code writes a BIS block. Assumes nothing.
+-- The steps by which the code writes the code words of a BIS block. Assumes nothing.
 use mathlib.Core.Path.{_≡_, refl, sym, ap, _∙_}
 use mathlib.Core.List.{List, [], _++_}
 use Prim.Native.Nat.{ℕ, _+_, _-_, _<_, _≤_}
 use native.Mathlib.Omega.{arith}
-use borrow.Author.Tests.{lt-ltb, le-ltb}
-use lib.ListN.{length, getD, set, length-append, List·getD-append}
+use lib.ListN.{length, getD, length-append, List·getD-append}
 use lib.Seq.{getD-append-add}
 use Rattle.laws.specs.Tabulate.{tabulate}
-use Rattle.laws.proofs.Fill.{Upto, upto-more, upto-all}
+use Rattle.laws.proofs.Fill.{Upto, upto-all}
 use Rattle.laws.proofs.Tabulate.{is-tabulate}
-use Rattle.address.specs.declared.AunAnswer.{AunAnswer}
-use Rattle.answer.specs.declared.Answer.the-variants.{Done}
-use Rattle.address.specs.Judged.{judged}
-use Rattle.address.specs.Conversions.{psnToAun}
-use Rattle.address.proofs.Accepted.{aun-answered}
-use Rattle.bis.specs.AddressField.{addressField}
-use Rattle.bis.specs.AccessBlock.{fieldOf, addressFields, fieldAt, byteAt, controlAt, accessByte}
+use Rattle.bis.specs.AccessBlock.{addressFields}
 use Rattle.bis.specs.BisBlock.{codeWord, bisBlock}
-
--- ---- a byte of the access block
-
-pub in-a-field : (fields : List (List ℕ)) (side : List ℕ) (row C : ℕ) → row < 6
-    → getD (getD fields (fieldAt row C) []) (byteAt row C) 0 ≡ accessByte fields side row C
-in-a-field fields side row C h = rw (lt-ltb row 6 h)
-
-pub in-control-data : (fields : List (List ℕ)) (side : List ℕ) (row C : ℕ) → 6 ≤ row
-    → getD side (16 + controlAt row C) 0 ≡ accessByte fields side row C
-in-control-data fields side row C h = rw (le-ltb row 6 h)
 
 -- ---- a byte of a list and a list behind it
 
@@ -43,16 +26,6 @@ module _ (a b : List ℕ) (n : ℕ) where
 pub joined-all : (a b : List ℕ) {l : List ℕ} {m : ℕ} → length a ≡ 30 → length b ≡ 32 → 62 ≤ m → Upto 0 (λ k. getD (a ++ b) k 0) 62 m l → l ≡ a ++ b
 joined-all a b {l} {m} ha hb h upto =
     upto-all h upto ∙ sym (is-tabulate 0 62 (λ k. getD (a ++ b) k 0) (a ++ b) (length-append a b ∙ omega arith) (λ k h. refl))
-
--- ---- an address field
-
--- field is made of the AUN that is answered of the PSN and address unit y
-pub fields-more : (psn : ℕ) (side : List ℕ) {y : ℕ} {field : List ℕ} {fields : List (List ℕ)} {unit : AunAnswer} → y < 16 → judged psn ≡ Done
-    → unit ≡ psnToAun psn y → field ≡ addressField (unit .aun .0) (getD side y 0) → Upto [] (fieldOf psn side) 16 y fields
-    → Upto [] (fieldOf psn side) 16 (y + 1) (set fields y field)
-unfolding fieldOf
-fields-more psn side {y} h accepted e f upto =
-    upto-more h (f ∙ ap (λ (a : ℕ). addressField a (getD side y 0)) (aun-answered psn y h accepted e)) upto
 
 -- ---- the block, once each of its columns is written
 

@@ -1,2 +1,2 @@
-// 13.9 to 13.12: the BIS block of a cluster, written. `steps` is for the crates of this repository.
+// 13.11, 13.12: the BIS block of a cluster, written. `steps` is for the crates of this repository.
 pub mod steps;

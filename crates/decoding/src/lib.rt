@@ -13,12 +13,12 @@ fn say(answer: Answer, psn: Psn, words: &[u32], dc: &mut [u8]) -> Said
         notation::bytes_of(words, dc);
         return Said {
             keep: true,
-            text: report::psn_text(psn),
+            text: psn_report::psn_text(psn),
         };
     }
     Said {
         keep: false,
-        text: report::answer_text(answer),
+        text: answer_report::answer_text(answer),
     }
 }
 

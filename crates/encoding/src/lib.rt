@@ -13,7 +13,7 @@ fn encode_words(psn: Psn, user: &[u8], side: &[u8], words: &[u32], image: &mut [
     let answer = writer::write_image(user, psn, side, words, image, &mut work);
     Said {
         keep: answer.is_done(),
-        text: report::answer_text(answer),
+        text: answer_report::answer_text(answer),
     }
 }
 

@@ -26,5 +26,5 @@ pub fn mark(psn: Psn, user: &[u8], side: &[u8], image: &[u8]) -> Text
         &mut dc,
         &mut work,
     );
-    report::verdict_text(verdict)
+    verdict_report::verdict_text(verdict)
 }

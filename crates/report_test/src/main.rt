@@ -5,7 +5,7 @@ use gaps::Tally;
 use verdict::Verdict;
 
 fn print_answer(answer: Answer) {
-    console::print(report::answer_text(answer));
+    console::print(answer_report::answer_text(answer));
 }
 
 fn lengths_and_psn() {
@@ -37,17 +37,17 @@ fn longest() {
 }
 
 fn verdicts() {
-    console::print(report::verdict_text(Verdict::Pass));
-    console::print(report::verdict_text(Verdict::Refused(Answer::Frame(4))));
-    console::print(report::verdict_text(Verdict::OtherPsn(Psn(0x00A8_13E0))));
-    console::print(report::verdict_text(Verdict::OtherUser(65535)));
-    console::print(report::verdict_text(Verdict::OtherSide(0)));
+    console::print(verdict_report::verdict_text(Verdict::Pass));
+    console::print(verdict_report::verdict_text(Verdict::Refused(Answer::Frame(4))));
+    console::print(verdict_report::verdict_text(Verdict::OtherPsn(Psn(0x00A8_13E0))));
+    console::print(verdict_report::verdict_text(Verdict::OtherUser(65535)));
+    console::print(verdict_report::verdict_text(Verdict::OtherSide(0)));
 }
 
 fn psns() {
-    console::print(report::psn_text(Psn(0)));
-    console::print(report::psn_text(Psn(0x0010_0000)));
-    console::print(report::psn_text(Psn(0xFEDC_BA98)));
+    console::print(psn_report::psn_text(Psn(0)));
+    console::print(psn_report::psn_text(Psn(0x0010_0000)));
+    console::print(psn_report::psn_text(Psn(0xFEDC_BA98)));
 }
 
 fn tallies() {

@@ -6,9 +6,9 @@ use mathlib.Core.Path.{refl}
 use Rattle.laws.proofs.Fill.{Upto, upto-none, upto-all}
 use mathlib.Core.List.{[]}
 use Rattle.bis.specs.AccessBlock.{addressFields, fieldOf}
-use Rattle.bis_writer.proofs.Writing.{fields-more}
-use Rattle.bis_writer.proofs.steps.address_fields.Statement.{statement}
-use Rattle.bis_writer.proofs.steps.address_fields.Tie as tie
+use Rattle.access_block.proofs.Writing.{fields-more}
+use Rattle.access_block.proofs.steps.address_fields.Statement.{statement}
+use Rattle.access_block.proofs.steps.address_fields.Tie as tie
 
 abbrev Inv-loop : tie.InvT-loop
 Inv-loop psn side fields₀ y₀ fields y = Upto [] (fieldOf (psn .0) side) 16 y fields

@@ -6,8 +6,8 @@ use mathlib.Core.Path.{refl}
 use Rattle.laws.proofs.Fill.{Upto, upto-none, upto-more, upto-all}
 use Rattle.bis.specs.AccessBlock.{accessByte}
 use Rattle.bis.specs.BisBlock.{accessColumn}
-use Rattle.bis_writer.proofs.steps.access_column.Statement.{statement}
-use Rattle.bis_writer.proofs.steps.access_column.Tie as tie
+use Rattle.access_block.proofs.steps.access_column.Statement.{statement}
+use Rattle.access_block.proofs.steps.access_column.Tie as tie
 
 abbrev Inv-loop : tie.InvT-loop
 Inv-loop fields side c column₀ row₀ column row = Upto 0 (λ k. accessByte fields side k c) 30 row column

@@ -1,9 +1,9 @@
 -- `answer_text` meets its contract: number, place and meaning (Words).
 use Rattle.report.proofs.Words.{answer-is}
 use Rattle.texts.specs.Pieces.{piece}
 use borrow.Author.Needs.{needs}
-use Rattle.report.proofs.answer_text.Statement.{statement}
-use Rattle.report.proofs.answer_text.Tie as tie
+use Rattle.answer_report.proofs.answer_text.Statement.{statement}
+use Rattle.answer_report.proofs.answer_text.Tie as tie
 
 blank-requires : tie.Need-blank-requires
 blank-requires c κs = search needs

@@ -2,10 +2,10 @@
 use mathlib.Core.Path.{refl}
 use Rattle.answer.specs.declared.Answer.the-variants.{Done, WrongUser, WrongSide, WrongDc, WrongImage, WrongWork, NoMultiple, NoZone, DcWord, LastBits, Sync, Frame, BisColumn, AddressUnit, NoPsn, LdcColumn, Sector}
 use Rattle.texts.specs.Pieces.{piece}
 use Rattle.report.proofs.Words.{EachMeans, means}
 use borrow.Author.Needs.{needs}
-use Rattle.report.proofs.put_meaning.Statement.{statement}
-use Rattle.report.proofs.put_meaning.Tie as tie
+use Rattle.answer_report.proofs.put_meaning.Statement.{statement}
+use Rattle.answer_report.proofs.put_meaning.Tie as tie
 
 number-requires : tie.Need-number-requires
 number-requires c κs = search needs

@@ -1,8 +1,8 @@
 -- `psn_behind` meets its contract: three pieces (Words).
 use Rattle.report.proofs.Words.{psn-behind-is}
 use borrow.Author.Needs.{needs}
-use Rattle.report.proofs.psn_behind.Statement.{statement}
-use Rattle.report.proofs.psn_behind.Tie as tie
+use Rattle.psn_report.proofs.steps.psn_behind.Statement.{statement}
+use Rattle.psn_report.proofs.steps.psn_behind.Tie as tie
 
 blank-requires : tie.Need-blank-requires
 blank-requires c κs = search needs

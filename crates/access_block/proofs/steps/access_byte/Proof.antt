@@ -1,8 +1,8 @@
 -- `access_byte` meets its contract: the rows of address fields, and those of control data (Writing).
-use Rattle.bis_writer.proofs.Writing.{in-a-field, in-control-data}
+use Rattle.access_block.proofs.Writing.{in-a-field, in-control-data}
 use borrow.Author.Needs.{needs}
-use Rattle.bis_writer.proofs.steps.access_byte.Statement.{statement}
-use Rattle.bis_writer.proofs.steps.access_byte.Tie as tie
+use Rattle.access_block.proofs.steps.access_byte.Statement.{statement}
+use Rattle.access_block.proofs.steps.access_byte.Tie as tie
 
 mul-y : tie.Need-mul-y
 mul-y c = search needs

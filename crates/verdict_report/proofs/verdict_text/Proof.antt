@@ -1,10 +1,10 @@
 -- `verdict_text` meets its contract: the words of each verdict (Words).
 use Rattle.report.proofs.Words.{verdict-is, refused-is}
 use Rattle.report.specs.Words.{verdictText}
 use Rattle.texts.specs.Pieces.{piece}
 use borrow.Author.Needs.{needs}
-use Rattle.report.proofs.verdict_text.Statement.{statement}
-use Rattle.report.proofs.verdict_text.Tie as tie
+use Rattle.verdict_report.proofs.verdict_text.Statement.{statement}
+use Rattle.verdict_report.proofs.verdict_text.Tie as tie
 
 enum-told : tie.Need-enum-told
 enum-told c = search needs

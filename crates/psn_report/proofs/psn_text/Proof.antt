@@ -1,8 +1,8 @@
 -- `psn_text` meets its contract: a text that has room (Words).
 use Rattle.report.proofs.Words.{psn-is}
 use borrow.Author.Needs.{needs}
-use Rattle.report.proofs.psn_text.Statement.{statement}
-use Rattle.report.proofs.psn_text.Tie as tie
+use Rattle.psn_report.proofs.psn_text.Statement.{statement}
+use Rattle.psn_report.proofs.psn_text.Tie as tie
 
 slice-aggregate-psn-behind : tie.Need-slice-aggregate-psn-behind
 slice-aggregate-psn-behind c = search needs

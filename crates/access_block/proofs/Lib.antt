@@ -1,0 +1,2 @@
+-- An access block, put together.
+pub mod Writing
