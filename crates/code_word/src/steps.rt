@@ -1,17 +1,18 @@
 // Parity and roots, eight bytes a step.
-use remainders::Register;
+use register::Register;
+use register::steps::plus;
+use register::steps::pushed_byte;
+use register::steps::wide;
+use register::steps::zeros;
 use remainders::Remainders;
-use remainders::steps::plus;
-use remainders::steps::pushed_byte;
-use remainders::steps::wide;
-use remainders::steps::zeros;
 ghost use mathlib.Core.Path.{_≡_};
 ghost use Prim.Native.Nat.{_+_, _<_, _≤_};
 ghost use lib.ListN.{length, getD, take, drop};
 ghost use Rattle.laws.specs.Bytes.{Bytes};
 ghost use Rattle.laws.specs.Tabulate.{tabulate};
 ghost use Rattle.column.specs.Column.{remainder, parity, hasRoots, EndsIn};
-ghost use Rattle.remainders.specs.steps.Remainders.{divisor, leaves, AreRemainders, Padded, front, leavesAdded};
+ghost use Rattle.register.specs.steps.Register.{divisor, leaves, Padded, front, leavesAdded};
+ghost use Rattle.remainders.specs.steps.Remainders.{AreRemainders};
 
 fn entry(table: &Remainders, k: usize, b: usize, j: usize) -> u8
     requires { ⌜ AreRemainders (now table) × ((k < 8) × ((b < 256) × (j < 32))) ⌝ }

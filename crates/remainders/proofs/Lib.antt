@@ -1,3 +1,2 @@
--- What bytes leave in the register.
-pub mod Eight
+-- What the filled table says.
 pub mod Table

@@ -2,8 +2,8 @@
 use mathlib.Core.Path.{_≡_, refl, ap, _∙_}
 use Prim.Native.Nat.{_-_, _≤_}
 use native.Mathlib.Omega.{arith}
-use Rattle.remainders.specs.steps.Remainders.{leavesAdded}
-use Rattle.remainders.proofs.Eight.{added-more}
+use Rattle.register.specs.steps.Register.{leavesAdded}
+use Rattle.register.proofs.Eight.{added-more}
 use borrow.Author.Needs.{needs}
 use Rattle.code_word.proofs.steps.added.Statement.{statement}
 use Rattle.code_word.proofs.steps.added.Tie as tie

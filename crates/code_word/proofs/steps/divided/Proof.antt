@@ -3,9 +3,9 @@ use Prim.Native.Nat.{_-_}
 use lib.ListN.{length, take}
 use native.Mathlib.Omega.{arith}
 use Rattle.column.specs.Column.{remainder}
-use Rattle.remainders.specs.steps.Remainders.{divisor, Padded}
+use Rattle.register.specs.steps.Register.{divisor, Padded}
 use Rattle.column.proofs.Register.{Divided, divided-more, divided-next}
-use Rattle.remainders.proofs.Eight.{register-length, padded-zeros, divided-zeros, divided-parity-32}
+use Rattle.register.proofs.Eight.{register-length, padded-zeros, divided-zeros, divided-parity-32}
 use Rattle.remainders.proofs.Table.{all-first}
 use borrow.Author.Needs.{needs}
 use Rattle.code_word.proofs.steps.divided.Statement.{statement}

@@ -2,7 +2,7 @@
 use Prim.Native.Nat.{_-_}
 use mathlib.Core.Path.{_∙_}
 use native.Mathlib.Omega.{arith}
-use Rattle.remainders.proofs.Eight.{Fronts, fronts-none, fronts-more, fronts-all}
+use Rattle.register.proofs.Eight.{Fronts, fronts-none, fronts-more, fronts-all}
 use borrow.Author.Needs.{needs}
 use Rattle.code_word.proofs.steps.fronts.Statement.{statement}
 use Rattle.code_word.proofs.steps.fronts.Tie as tie

@@ -4,7 +4,7 @@ use Prim.Native.Nat.{_-_}
 use lib.ListN.{getD}
 use native.Mathlib.Omega.{arith}
 use Rattle.laws.proofs.Fill.{Upto, upto-none, upto-more, upto-all}
-use Rattle.remainders.proofs.Eight.{register-bytes}
+use Rattle.register.proofs.Eight.{register-bytes}
 use borrow.Author.Needs.{needs}
 use Rattle.code_word.proofs.steps.parity_32_by.Statement.{statement}
 use Rattle.code_word.proofs.steps.parity_32_by.Tie as tie

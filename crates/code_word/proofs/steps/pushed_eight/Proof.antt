@@ -2,8 +2,8 @@
 use Prim.Native.Nat.{_+_, _-_}
 use lib.ListN.{getD}
 use native.Mathlib.Omega.{arith}
-use Rattle.remainders.specs.steps.Remainders.{leavesAdded}
-use Rattle.remainders.proofs.Eight.{Filling, filling-none, padded-zeros, filling-more, eight-in}
+use Rattle.register.specs.steps.Register.{leavesAdded}
+use Rattle.register.proofs.Eight.{Filling, filling-none, padded-zeros, filling-more, eight-in}
 use borrow.Author.Needs.{needs}
 use Rattle.code_word.proofs.steps.pushed_eight.Statement.{statement}
 use Rattle.code_word.proofs.steps.pushed_eight.Tie as tie

@@ -1,8 +1,8 @@
 -- `fill_first` meets its contract: a row a turn. Assumes nothing.
 use Prim.Native.Nat.{_*_, _-_, _≤_}
 use native.Mathlib.Omega.{arith}
-use Rattle.remainders.specs.steps.Remainders.{FilledTo}
-use Rattle.remainders.proofs.Table.{filled-less, filled-none, row-is}
+use Rattle.remainder_rows.specs.steps.Rows.{FilledTo}
+use Rattle.remainder_rows.proofs.Rows.{filled-less, filled-none, row-is}
 use borrow.Author.Needs.{needs}
 use Rattle.remainders.proofs.steps.fill_first.Statement.{statement}
 use Rattle.remainders.proofs.steps.fill_first.Tie as tie

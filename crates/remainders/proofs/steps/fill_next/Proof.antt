@@ -1,8 +1,8 @@
 -- `fill_next` meets its contract: a row a turn. Assumes nothing.
 use Prim.Native.Nat.{_+_, _*_, _-_, _≤_}
 use native.Mathlib.Omega.{arith}
-use Rattle.remainders.specs.steps.Remainders.{FilledTo}
-use Rattle.remainders.proofs.Table.{filled-less}
+use Rattle.remainder_rows.specs.steps.Rows.{FilledTo}
+use Rattle.remainder_rows.proofs.Rows.{filled-less}
 use borrow.Author.Needs.{needs}
 use Rattle.remainders.proofs.steps.fill_next.Statement.{statement}
 use Rattle.remainders.proofs.steps.fill_next.Tie as tie

@@ -1,8 +1,9 @@
 -- `fill_remainders` meets its contract: first the rows with no zeros, then a zero more a turn. Assumes nothing.
 use Prim.Native.Nat.{_+_, _*_, _-_, _≤_}
 use native.Mathlib.Omega.{arith}
-use Rattle.remainders.specs.steps.Remainders.{FilledTo}
-use Rattle.remainders.proofs.Table.{filled-less, filled-all}
+use Rattle.remainder_rows.specs.steps.Rows.{FilledTo}
+use Rattle.remainder_rows.proofs.Rows.{filled-less}
+use Rattle.remainders.proofs.Table.{filled-all}
 use borrow.Author.Needs.{needs}
 use Rattle.remainders.proofs.steps.fill_remainders.Statement.{statement}
 use Rattle.remainders.proofs.steps.fill_remainders.Tie as tie

@@ -1,12 +1,12 @@
 -- `first_row` meets its contract: the byte goes into a register of zeros. Assumes nothing.
-use Rattle.remainders.proofs.Table.{row-first}
+use Rattle.remainder_rows.proofs.Rows.{row-first}
 use mathlib.Core.Path.{sym, ap, _∙_}
 use native.Mathlib.Omega.{arith}
 use lib.ListN.{length}
-use Rattle.remainders.proofs.Eight.{length-divisor}
+use Rattle.register.proofs.Eight.{length-divisor}
 use borrow.Author.Needs.{needs}
-use Rattle.remainders.proofs.steps.first_row.Statement.{statement}
-use Rattle.remainders.proofs.steps.first_row.Tie as tie
+use Rattle.remainder_rows.proofs.steps.first_row.Statement.{statement}
+use Rattle.remainder_rows.proofs.steps.first_row.Tie as tie
 
 no-parity-requires : tie.Need-no-parity-requires
 no-parity-requires c κs = search needs

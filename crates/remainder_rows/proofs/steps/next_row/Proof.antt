@@ -1,9 +1,9 @@
 -- `next_row` meets its contract: one zero more goes into the row of the table before. Assumes nothing.
 use native.Mathlib.Omega.{arith}
-use Rattle.remainders.proofs.Table.{filled-less, filled-first, row-next}
+use Rattle.remainder_rows.proofs.Rows.{filled-less, filled-first, row-next}
 use borrow.Author.Needs.{needs}
-use Rattle.remainders.proofs.steps.next_row.Statement.{statement}
-use Rattle.remainders.proofs.steps.next_row.Tie as tie
+use Rattle.remainder_rows.proofs.steps.next_row.Statement.{statement}
+use Rattle.remainder_rows.proofs.steps.next_row.Tie as tie
 
 mul-row-at : tie.Need-mul-row-at
 mul-row-at c = search needs

@@ -2,11 +2,11 @@
 use mathlib.Core.Path.{refl}
 use Prim.Native.Nat.{_+_, _-_, _≤_}
 use native.Mathlib.Omega.{arith}
-use Rattle.remainders.specs.steps.Remainders.{FilledTo}
-use Rattle.remainders.proofs.Table.{put-more, filled-less}
+use Rattle.remainder_rows.specs.steps.Rows.{FilledTo}
+use Rattle.remainder_rows.proofs.Rows.{put-more, filled-less}
 use borrow.Author.Needs.{needs}
-use Rattle.remainders.proofs.steps.put_row.Statement.{statement}
-use Rattle.remainders.proofs.steps.put_row.Tie as tie
+use Rattle.remainder_rows.proofs.steps.put_row.Statement.{statement}
+use Rattle.remainder_rows.proofs.steps.put_row.Tie as tie
 
 abbrev Inv-loop : tie.InvT-loop
 Inv-loop table₀ at row j₀ table j = (j ≤ 32) × FilledTo (at + j) table

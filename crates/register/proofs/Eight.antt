@@ -16,7 +16,7 @@ use Rattle.laws.proofs.Fill.{Upto, upto-none, upto-more, upto-all}
 use Rattle.laws.proofs.Tabulate.{length-tabulate, getD-tabulate, is-tabulate}
 use Rattle.galois.specs.Field.{sum}
 use Rattle.column.specs.Column.{sums, remainder, parity}
-use Rattle.remainders.specs.steps.Remainders.{leaves, divisor, Padded, front, leavesAdded}
+use Rattle.register.specs.steps.Register.{leaves, divisor, Padded, front, leavesAdded}
 use Rattle.column.proofs.Sums.{length-snoc, snoc-at, sums-at}
 use Rattle.column.proofs.Generator.{coefficients-length}
 use Rattle.column.proofs.Division.{length-remainder}

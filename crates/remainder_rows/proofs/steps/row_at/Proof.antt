@@ -3,11 +3,11 @@ use mathlib.Core.Path.{refl}
 use Prim.Native.Nat.{_+_, _-_}
 use lib.ListN.{getD}
 use native.Mathlib.Omega.{arith}
-use Rattle.remainders.proofs.Eight.{Filling, filling-none, padded-zeros, filling-more}
-use Rattle.remainders.proofs.Table.{row-copied}
+use Rattle.register.proofs.Eight.{Filling, filling-none, padded-zeros, filling-more}
+use Rattle.remainder_rows.proofs.Rows.{row-copied}
 use borrow.Author.Needs.{needs}
-use Rattle.remainders.proofs.steps.row_at.Statement.{statement}
-use Rattle.remainders.proofs.steps.row_at.Tie as tie
+use Rattle.remainder_rows.proofs.steps.row_at.Statement.{statement}
+use Rattle.remainder_rows.proofs.steps.row_at.Tie as tie
 
 abbrev Inv-loop : tie.InvT-loop
 Inv-loop table at row₀ j₀ row j = Filling (λ k. getD table (at + k) 0) j row

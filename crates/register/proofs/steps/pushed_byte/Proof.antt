@@ -4,11 +4,11 @@ use Prim.Native.Nat.{_+_, _-_}
 use lib.ListN.{getD}
 use native.Mathlib.Omega.{arith}
 use Rattle.galois.specs.Field.{sum}
-use Rattle.remainders.specs.steps.Remainders.{leaves}
-use Rattle.remainders.proofs.Eight.{Filling, filling-none, padded-zeros, filling-more, byte-in}
+use Rattle.register.specs.steps.Register.{leaves}
+use Rattle.register.proofs.Eight.{Filling, filling-none, padded-zeros, filling-more, byte-in}
 use borrow.Author.Needs.{needs}
-use Rattle.remainders.proofs.steps.pushed_byte.Statement.{statement}
-use Rattle.remainders.proofs.steps.pushed_byte.Tie as tie
+use Rattle.register.proofs.steps.pushed_byte.Statement.{statement}
+use Rattle.register.proofs.steps.pushed_byte.Tie as tie
 
 abbrev Inv-loop : tie.InvT-loop
 Inv-loop table byte was out next₀ j₀ next j = Filling (λ k. sum (getD was (k + 1) 0) (getD (leaves 0 out) k 0)) j next

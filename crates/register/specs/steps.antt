@@ -1,0 +1,2 @@
+-- What bytes leave in the register.
+pub mod Register

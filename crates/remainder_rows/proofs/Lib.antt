@@ -1,0 +1,2 @@
+-- The table, row by row.
+pub mod Rows

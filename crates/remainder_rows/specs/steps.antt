@@ -1,0 +1,2 @@
+-- The rows of the table.
+pub mod Rows
