@@ -26,7 +26,7 @@ fn print_verdict(verdict: Verdict) {
     }
 }
 
-// With so many bytes of each for user, side and image, and a work slice of this length lent.
+// With so many bytes for user, side and image, 592 of which are the side data, and a work slice of this length lent.
 fn mark(text: &[u8], given: Given, users: usize, sides: usize, images: usize, works: usize) {
     let user = given.user;
     let side = given.side;
@@ -38,9 +38,9 @@ fn mark(text: &[u8], given: Given, users: usize, sides: usize, images: usize, wo
     io::write_all(1, text);
     print_verdict(marker::mark(
         Psn(given.psn),
-        compare::part(&user, 0, users),
+        compare::either(&side, &user, users),
         compare::either(&side, &user, sides),
-        compare::part(&image, 0, images),
+        compare::either(&side, &image, images),
         &mut bytes,
         &mut control,
         &mut dc,

@@ -18,14 +18,20 @@ pub fn number_at(bytes: &[u8], at: usize, count: usize) -> u64 {
     n
 }
 
-// The bytes from one place to another, none where there are not so many.
+// Where there are not so many as a test asks for, a line says so, which no `stdout` has.
+fn too_few() {
+    io::write_all(1, b"too few\n");
+}
+
+// The bytes from one place to another.
 pub fn part(bytes: &[u8], from: usize, to: usize) -> &[u8] {
     if from <= to {
         if to <= bytes.len() {
             return &bytes[from..to];
         }
     }
-    &bytes[0..0]
+    too_few();
+    bytes
 }
 
 // The first bytes of a, or of b where a has not so many.
@@ -36,27 +42,30 @@ pub fn either<'a>(a: &'a [u8], b: &'a [u8], count: usize) -> &'a [u8] {
     part(b, 0, count)
 }
 
-// The first bytes to be written, all where there are not so many.
+// The first bytes to be written.
 pub fn first(bytes: &mut [u8], count: usize) -> &mut [u8] {
     if count <= bytes.len() {
         return &mut bytes[0..count];
     }
+    too_few();
     bytes
 }
 
-// The first words, none where there are not so many.
+// The first words.
 pub fn part_words(words: &[u32], count: usize) -> &[u32] {
     if count <= words.len() {
         return &words[0..count];
     }
-    &words[0..0]
+    too_few();
+    words
 }
 
-// The same to be written, all where there are not so many.
+// The same to be written.
 pub fn first_words(words: &mut [u32], count: usize) -> &mut [u32] {
     if count <= words.len() {
         return &mut words[0..count];
     }
+    too_few();
     words
 }
 
