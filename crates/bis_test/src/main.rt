@@ -3,10 +3,10 @@ use address::Aun;
 use address::Psn;
 use bis::Block;
 use bis::PsnFound;
+use test_bytes::draws;
+use test_bytes::hash;
+use test_bytes::lent;
 use test_support::compare;
-use test_support::draws;
-use test_support::hash;
-use test_support::lent;
 use test_support::lines;
 ghost use Prim.Native.Nat.{_<_};
 

@@ -1,17 +1,23 @@
 // What stands in a cell of a figure, printed as the figure does.
 use crate::clusters;
 use address::Psn;
+use test_bytes::hash;
 use test_support::compare;
-use test_support::hash;
 use test_support::lines;
+
+// A text and two numbers.
+fn pair(text: &[u8], a: usize, b: usize) {
+    lines::number(text, a as u64);
+    lines::number(b",", b as u64);
+}
 
 // Figure 23: d k,F; Figure 31: UC j,S.
 pub fn input_cell(bis: bool, row: usize, column: usize) {
     let found = clusters::found(bis, row, column);
     if found < 65680 {
-        lines::pair(b"d", found % 2052, found / 2052);
+        pair(b"d", found % 2052, found / 2052);
     } else {
-        lines::pair(b"UC", (found - 65680) % 18, (found - 65680) / 18);
+        pair(b"UC", (found - 65680) % 18, (found - 65680) / 18);
     }
 }
 
@@ -43,9 +49,9 @@ pub fn ldc_cell(row: usize, column: usize) {
     let word = word_with(clusters::ldc_index(row, column));
     let byte = byte_of(word, row, column);
     if byte < 216 {
-        lines::pair(b"e", byte, word);
+        pair(b"e", byte, word);
     } else {
-        lines::pair(b"p", byte, word);
+        pair(b"p", byte, word);
     }
 }
 
@@ -75,7 +81,7 @@ fn bis_byte_in(row: usize, column: usize) -> usize {
 
 pub fn bis_cell(row: usize, column: usize) {
     let k = bis_byte_in(row, column);
-    lines::pair(b"", k % 62, k / 62);
+    pair(b"", k % 62, k / 62);
 }
 
 // ---- Figures 31 and 36: AF x,y
@@ -107,7 +113,7 @@ pub fn address_cell(n: usize, c: usize) {
     let side = clusters::side(7);
     let aun = Psn(clusters::PSN).aun((unit % 16) as u32);
     let field = address_field::address_field(aun.aun, side[unit % 592]);
-    lines::pair(b"AF", place_in(field, block[c % 24][n % 62]), unit);
+    pair(b"AF", place_in(field, block[c % 24][n % 62]), unit);
 }
 
 // The same in a row and a column of the BIS cluster.

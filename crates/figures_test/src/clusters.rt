@@ -1,8 +1,8 @@
 // ECC clusters to look into: some with a single mark, some of drawn user bytes and side data.
 use address::Psn;
+use test_bytes::draws;
+use test_bytes::hash;
 use test_support::compare;
-use test_support::draws;
-use test_support::hash;
 ghost use mathlib.Core.Path.{_≡_};
 ghost use lib.ListN.{length};
 

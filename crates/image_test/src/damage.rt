@@ -1,8 +1,8 @@
 // Damaged images. A file of records of five bytes: the offset of a byte of the image, high byte first, and its new value. FFFFFFFFh for an
 // offset ends a damaged image, and the next begins with the whole one.
 use crate::reading;
+use test_clusters::files;
 use test_support::compare;
-use test_support::files;
 
 // A damaged image is read where it ends; the whole one then takes its place.
 fn end<'a>(whole: &'a [u8], image: &[u8], offset: u64) -> &'a [u8] {

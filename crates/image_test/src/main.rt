@@ -3,7 +3,7 @@ mod damage;
 mod reading;
 mod writing;
 
-use test_support::compare;
+use test_clusters::cut;
 use test_support::lines;
 
 // A cluster of files, written.
@@ -28,7 +28,7 @@ fn read(psn: u32, given: test_clusters::Cluster) {
 }
 
 fn both_ways(k: usize, psn: u32) {
-    let name = compare::line(b"zero\nzone0\nzone1\nzone2\nones", k);
+    let name = cut::line(b"zero\nzone0\nzone1\nzone2\nones", k);
     io::write_all(1, name);
     lines::end_line();
     let given = test_clusters::load(name, test_clusters::marked());

@@ -1,8 +1,10 @@
 // Images read, or refused with every slice as document 01 has it.
 use reader::Read;
+use test_bytes::lent;
 use test_clusters::Cluster;
+use test_clusters::cut;
+use test_clusters::marks;
 use test_support::compare;
-use test_support::lent;
 use test_support::lines;
 
 // The answer, and whether the PSN is another.
@@ -34,10 +36,10 @@ pub fn read(psn: u32, image: [u8; 119788], blank: Cluster) -> Cluster {
 
 // How many places of the slices are not as a refusal leaves them; every byte of work is then `left`.
 fn touched(user: &[u8], side: &[u8], dc: &[u32], work: &[u8], left: u8) -> u64 {
-    let n = compare::others(user, lent::USER_MARK);
-    let n = std::num::wrapping_add_u64(n, compare::others(side, lent::SIDE_MARK));
-    let n = std::num::wrapping_add_u64(n, compare::other_words(dc, lent::WORD_MARK));
-    std::num::wrapping_add_u64(n, compare::others(work, left))
+    let n = marks::others(user, lent::USER_MARK);
+    let n = std::num::wrapping_add_u64(n, marks::others(side, lent::SIDE_MARK));
+    let n = std::num::wrapping_add_u64(n, marks::other_words(dc, lent::WORD_MARK));
+    std::num::wrapping_add_u64(n, marks::others(work, left))
 }
 
 // A refusal, with slices of these lengths for user, side, dc and work: number and place, no PSN, and whether the slices are not left as they
@@ -51,7 +53,7 @@ fn refuse(image: &[u8], user: usize, side: usize, dc: usize, work: usize, left: 
         image,
         compare::first(&mut users, user),
         compare::first(&mut sides, side),
-        compare::first_words(&mut words, dc),
+        cut::first_words(&mut words, dc),
         compare::first(&mut works, work),
     );
     say(b"", 0, read);

@@ -1,8 +1,10 @@
 // Images written, or refused with both slices untouched.
 use address::Psn;
+use test_bytes::lent;
 use test_clusters::Cluster;
+use test_clusters::cut;
+use test_clusters::marks;
 use test_support::compare;
-use test_support::lent;
 use test_support::lines;
 ghost use mathlib.Core.Path.{_≡_};
 ghost use lib.ListN.{length};
@@ -37,8 +39,8 @@ fn words_with(first: usize) -> [u32; 496]
 }
 
 fn say_touched(image: &[u8], work: &[u8]) {
-    lines::if_others(b"  image touched\n", image, lent::IMAGE_MARK);
-    lines::if_others(b"  work touched\n", work, lent::WORK_MARK);
+    marks::if_others(b"  image touched\n", image, lent::IMAGE_MARK);
+    marks::if_others(b"  work touched\n", work, lent::WORK_MARK);
 }
 
 // A refusal, with slices of these lengths for user, side, dc, image and work: the answer, and whether image and work were touched. Where `first`
@@ -53,7 +55,7 @@ fn refuse(psn: u32, first: usize, user: usize, side: usize, dc: usize, image: us
         compare::part(&users, 0, user),
         Psn(psn),
         compare::part(&sides, 0, side),
-        compare::part_words(&words, dc),
+        cut::part_words(&words, dc),
         compare::first(&mut images, image),
         compare::first(&mut works, work),
     );

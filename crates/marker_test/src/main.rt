@@ -1,8 +1,8 @@
 // Each verdict, on images that the writer makes of drawn user bytes and side data.
 use address::Psn;
+use test_bytes::draws;
+use test_bytes::lent;
 use test_support::compare;
-use test_support::draws;
-use test_support::lent;
 use test_support::lines;
 use verdict::Verdict;
 
@@ -26,6 +26,14 @@ fn print_verdict(verdict: Verdict) {
     }
 }
 
+// The first bytes of a, or of b where a has not so many.
+fn either<'a>(a: &'a [u8], b: &'a [u8], count: usize) -> &'a [u8] {
+    if count <= a.len() {
+        return &a[0..count];
+    }
+    compare::part(b, 0, count)
+}
+
 // With so many bytes for user, side and image, 592 of which are the side data, and a work slice of this length lent.
 fn mark(text: &[u8], given: Given, users: usize, sides: usize, images: usize, works: usize) {
     let user = given.user;
@@ -38,9 +46,9 @@ fn mark(text: &[u8], given: Given, users: usize, sides: usize, images: usize, wo
     io::write_all(1, text);
     print_verdict(marker::mark(
         Psn(given.psn),
-        compare::either(&side, &user, users),
-        compare::either(&side, &user, sides),
-        compare::either(&side, &image, images),
+        either(&side, &user, users),
+        either(&side, &user, sides),
+        either(&side, &image, images),
         &mut bytes,
         &mut control,
         &mut dc,

@@ -1,8 +1,8 @@
 // Error-detection code and scrambling: document 01's trials, and clusters of which an independent program gave the values.
 use address::Psn;
+use test_bytes::draws;
+use test_bytes::hash;
 use test_support::compare;
-use test_support::draws;
-use test_support::hash;
 use test_support::lines;
 ghost use mathlib.Core.Path.{_≡_};
 ghost use Prim.Native.Nat.{_≤_};

@@ -1,8 +1,11 @@
 // Whole clusters for the tests: what an image is made of, the image, and the ECC cluster; loaded, drawn and compared.
+pub mod cut;
+pub mod files;
+pub mod marks;
+
+use test_bytes::draws;
+use test_bytes::lent;
 use test_support::compare;
-use test_support::draws;
-use test_support::files;
-use test_support::lent;
 use test_support::lines;
 
 pub struct Cluster {
@@ -90,24 +93,50 @@ pub fn draw(seed: u64, blank: Cluster) -> Cluster {
     }
 }
 
+// In how many places of a there is another byte in b, or none.
+fn differing_line(text: &[u8], a: &[u8], b: &[u8]) {
+    lines::number_line(text, compare::differing(a, b));
+}
+
+// 1 where place k of a has another word in b, or none.
+fn word_differs(a: &[u32], b: &[u32], k: usize) -> u64 {
+    if k < a.len() {
+        if k < b.len() {
+            if a[k] == b[k] {
+                return 0;
+            }
+        }
+    }
+    1
+}
+
+// In how many places of a there is another word in b, or none.
+fn words_differing(a: &[u32], b: &[u32]) -> u64 {
+    let mut n: u64 = 0;
+    for k in 0..a.len() {
+        n = std::num::wrapping_add_u64(n, word_differs(a, b, k));
+    }
+    n
+}
+
 pub fn compare_images(a: [u8; 119788], b: [u8; 119788]) {
-    lines::differing_line(b"  image bytes that differ ", &a, &b);
+    differing_line(b"  image bytes that differ ", &a, &b);
 }
 
 pub fn compare_works(a: [u8; 76880], b: [u8; 76880]) {
-    lines::differing_line(b"  cluster bytes that differ ", &a, &b);
+    differing_line(b"  cluster bytes that differ ", &a, &b);
 }
 
 fn compare_users(a: [u8; 65536], b: [u8; 65536]) {
-    lines::differing_line(b"  user bytes that differ ", &a, &b);
+    differing_line(b"  user bytes that differ ", &a, &b);
 }
 
 fn compare_sides(a: [u8; 592], b: [u8; 592]) {
-    lines::differing_line(b"  side bytes that differ ", &a, &b);
+    differing_line(b"  side bytes that differ ", &a, &b);
 }
 
 fn compare_words(a: [u32; 496], b: [u32; 496]) {
-    let n = compare::words_differing(&a, &b);
+    let n = words_differing(&a, &b);
     lines::number_line(b"  dc words that differ ", n);
 }
 

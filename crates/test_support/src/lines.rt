@@ -1,5 +1,4 @@
 // What is printed.
-use crate::compare;
 use answer::Answer;
 
 pub fn end_line() {
@@ -10,12 +9,6 @@ pub fn end_line() {
 pub fn number(text: &[u8], value: u64) {
     io::write_all(1, text);
     io::print_decimal(1, value);
-}
-
-// A text and two numbers.
-pub fn pair(text: &[u8], a: usize, b: usize) {
-    number(text, a as u64);
-    number(b",", b as u64);
 }
 
 pub fn number_line(text: &[u8], value: u64) {
@@ -49,16 +42,4 @@ fn wide(byte: u8) -> u64 {
 pub fn answer_line(text: &[u8], answer: Answer) {
     number(text, answer.number() as u64);
     number_line(b" ", answer.place() as u64);
-}
-
-// In how many places of a there is another byte in b, or none.
-pub fn differing_line(text: &[u8], a: &[u8], b: &[u8]) {
-    number_line(text, compare::differing(a, b));
-}
-
-// A text, where a byte is other than `byte`.
-pub fn if_others(text: &[u8], bytes: &[u8], byte: u8) {
-    if compare::others(bytes, byte) != 0 {
-        io::write_all(1, text);
-    }
 }

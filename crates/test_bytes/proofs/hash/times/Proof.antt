@@ -1,10 +1,10 @@
 -- `times` is safe: a product of halves has 64 bits (Product). Assumes nothing.
 use Prim.Native.Nat.{_/_, _%_, _^_}
 use native.Mathlib.Omega.{arith}
-use Rattle.test_support.proofs.Product.{product-lt}
+use Rattle.test_bytes.proofs.Product.{product-lt}
 use borrow.Author.Needs.{needs}
-use Rattle.test_support.proofs.hash.times.Statement.{statement}
-use Rattle.test_support.proofs.hash.times.Tie as tie
+use Rattle.test_bytes.proofs.hash.times.Statement.{statement}
+use Rattle.test_bytes.proofs.hash.times.Tie as tie
 
 div-wrapping-add-u64 : tie.Need-div-wrapping-add-u64
 div-wrapping-add-u64 c = search needs

@@ -2,8 +2,8 @@
 use Prim.Native.Nat.{_≤_, _-_}
 use lib.ListN.{length}
 use borrow.Author.Needs.{needs}
-use Rattle.test_support.proofs.compare.others.Statement.{statement}
-use Rattle.test_support.proofs.compare.others.Tie as tie
+use Rattle.test_clusters.proofs.marks.others.Statement.{statement}
+use Rattle.test_clusters.proofs.marks.others.Tie as tie
 
 abbrev Inv-loop : tie.InvT-loop
 Inv-loop bytes byte n₀ k₀ k-end n k = k ≤ length bytes

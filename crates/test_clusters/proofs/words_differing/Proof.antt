@@ -2,8 +2,8 @@
 use Prim.Native.Nat.{_≤_, _-_}
 use lib.ListN.{length}
 use borrow.Author.Needs.{needs}
-use Rattle.test_support.proofs.compare.words_differing.Statement.{statement}
-use Rattle.test_support.proofs.compare.words_differing.Tie as tie
+use Rattle.test_clusters.proofs.words_differing.Statement.{statement}
+use Rattle.test_clusters.proofs.words_differing.Tie as tie
 
 abbrev Inv-loop : tie.InvT-loop
 Inv-loop a b n₀ k₀ k-end n k = k ≤ length a

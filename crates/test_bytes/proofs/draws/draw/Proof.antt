@@ -3,8 +3,8 @@ use Prim.Native.Nat.{_≤_, _-_}
 use mathlib.Core.Path.{_≡_}
 use lib.ListN.{length}
 use borrow.Author.Needs.{needs}
-use Rattle.test_support.proofs.draws.draw.Statement.{statement}
-use Rattle.test_support.proofs.draws.draw.Tie as tie
+use Rattle.test_bytes.proofs.draws.draw.Statement.{statement}
+use Rattle.test_bytes.proofs.draws.draw.Tie as tie
 
 abbrev Inv-loop : tie.InvT-loop
 Inv-loop state bytes₀ x₀ k₀ k-end bytes x k = (length bytes ≡ length bytes₀) × (k ≤ length bytes₀)

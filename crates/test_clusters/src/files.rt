@@ -1,5 +1,5 @@
 // Files of a program's data folder.
-use crate::compare::copy;
+use test_support::compare::copy;
 ghost use Rattle.io.specs.Counts.{Counts};
 
 // A name and what stands behind it, in a path; how many bytes they have.

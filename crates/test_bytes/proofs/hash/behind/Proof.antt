@@ -2,8 +2,8 @@
 use Prim.Native.Nat.{_≤_, _-_}
 use lib.ListN.{length}
 use borrow.Author.Needs.{needs}
-use Rattle.test_support.proofs.hash.behind.Statement.{statement}
-use Rattle.test_support.proofs.hash.behind.Tie as tie
+use Rattle.test_bytes.proofs.hash.behind.Statement.{statement}
+use Rattle.test_bytes.proofs.hash.behind.Tie as tie
 
 abbrev Inv-loop : tie.InvT-loop
 Inv-loop before bytes h₀ k₀ k-end h k = k ≤ length bytes

@@ -2,8 +2,8 @@
 use Prim.Native.Nat.{_≤_, _-_}
 use lib.ListN.{length}
 use borrow.Author.Needs.{needs}
-use Rattle.test_support.proofs.compare.line.Statement.{statement}
-use Rattle.test_support.proofs.compare.line.Tie as tie
+use Rattle.test_clusters.proofs.cut.line.Statement.{statement}
+use Rattle.test_clusters.proofs.cut.line.Tie as tie
 
 abbrev Inv-loop : tie.InvT-loop
 Inv-loop text k n₀ from₀ i₀ i-end n from i = i ≤ length text
