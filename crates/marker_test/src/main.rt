@@ -26,29 +26,17 @@ fn print_verdict(verdict: Verdict) {
     }
 }
 
-// The first bytes of a, or of b where a has not so many.
-fn either<'a>(a: &'a [u8], b: &'a [u8], count: usize) -> &'a [u8] {
-    if count <= a.len() {
-        return &a[0..count];
-    }
-    compare::part(b, 0, count)
-}
-
-// With so many bytes for user, side and image, 592 of which are the side data, and a work slice of this length lent.
-fn mark(text: &[u8], given: Given, users: usize, sides: usize, images: usize, works: usize) {
-    let user = given.user;
-    let side = given.side;
-    let image = given.image;
+// With slices of these, and a work slice of this length lent.
+fn mark(psn: u32, user: &[u8], side: &[u8], image: &[u8], works: usize) {
     let mut bytes = lent::user();
     let mut control = lent::side();
     let mut dc = lent::words();
     let mut work = lent::work();
-    io::write_all(1, text);
     print_verdict(marker::mark(
-        Psn(given.psn),
-        either(&side, &user, users),
-        either(&side, &user, sides),
-        either(&side, &image, images),
+        Psn(psn),
+        user,
+        side,
+        image,
         &mut bytes,
         &mut control,
         &mut dc,
@@ -57,15 +45,30 @@ fn mark(text: &[u8], given: Given, users: usize, sides: usize, images: usize, wo
 }
 
 fn verdict(text: &[u8], given: Given) {
-    mark(text, given, 65536, 592, 119788, 76880);
+    let user = given.user;
+    let side = given.side;
+    let image = given.image;
+    io::write_all(1, text);
+    mark(given.psn, &user, &side, &image, 76880);
 }
 
 // Slices of other lengths.
-fn lengths(given: Given) {
-    mark(b"side for user: ", given, 592, 592, 119788, 76880);
-    mark(b"user for side: ", given, 65536, 65536, 119788, 76880);
-    mark(b"side for image: ", given, 65536, 592, 592, 76880);
-    mark(b"short work: ", given, 65536, 592, 119788, 10);
+fn lengths(psn: u32, user: &[u8], side: &[u8], image: &[u8]) {
+    io::write_all(1, b"side for user: ");
+    mark(psn, side, side, image, 76880);
+    io::write_all(1, b"user for side: ");
+    mark(psn, user, user, image, 76880);
+    io::write_all(1, b"side for image: ");
+    mark(psn, user, side, side, 76880);
+    io::write_all(1, b"short work: ");
+    mark(psn, user, side, image, 10);
+}
+
+fn other_lengths(given: Given) {
+    let user = given.user;
+    let side = given.side;
+    let image = given.image;
+    lengths(given.psn, &user, &side, &image);
 }
 
 fn with_psn(given: Given, psn: u32) -> Given {
@@ -156,7 +159,7 @@ fn drawn() -> Given {
 
 fn main() {
     let given = images(drawn());
-    lengths(given);
+    other_lengths(given);
     other_psns(given);
     verdict(b"last bit: ", with_last_bit(other_parts(given)));
 }
