@@ -18,10 +18,12 @@ judge-requires-2 c κs =
     lengths-passed (args .user) (args .side) (length (args .dc .now)) (args .image) (args .work) (c .before .before .judge .ensures) (c .before .is-done .ensures) (c .if1 .taken) .0 .dc
 
 returns : tie.Need-returns
-returns c = search (goes-on)
+returns c =
+    let test = c .before in
+    goes-on _ _ _ _ (test .before .before .judge .ensures) (test .before .is-done .ensures) _ (test .if1 .taken) (c .judge2 .ensures)
 
 returns-2 : tie.Need-returns-2
-returns-2 c = search (stops)
+returns-2 c = stops _ _ _ _ (c .before .before .judge .ensures) (c .before .is-done .ensures) (c .if1 .left)
 
 pub judge-spec : {M : Type 1} → statement M
 judge-spec =
