@@ -142,10 +142,10 @@ twos-upto twos = record { within = omega arith; size = twos .size; below = twos 
 
 -- ---- several groups behind one another
 
-pub number-append : (s a : ℕ) (x y : List Three) → numberAfter s a (x ++ y) ≡ numberAfter (stateAfter s x) (numberAfter s a x) y
+pub number-after-append : (s a : ℕ) (x y : List Three) → numberAfter s a (x ++ y) ≡ numberAfter (stateAfter s x) (numberAfter s a x) y
 unfolding numberAfter stateAfter
-number-append s a [] y = refl
-number-append s a (g ∷ x) y = number-append (next s (threeNumber g)) (4 * a + valueAdded s (threeNumber g)) x y
+number-after-append s a [] y = refl
+number-after-append s a (g ∷ x) y = number-after-append (next s (threeNumber g)) (4 * a + valueAdded s (threeNumber g)) x y
 
 pub number-shift : (s a : ℕ) (gs : List Three) → numberAfter s a gs ≡ a * 4 ^ length gs + numberAfter s 0 gs
 unfolding numberAfter
@@ -194,7 +194,7 @@ after-entry gs x e w ew hx ee =
 pub after-more : {gs hs : List Three} {x y r : ℕ} → After gs x y → After hs y r → After (gs ++ hs) x r
 after-more {gs} {hs} {x} {y} {r} a b =
     record {
-      number = b .number ∙ ap₂ (λ (s n : ℕ). numberAfter s n hs) (a .state) (a .number) ∙ sym (number-append (x % 32) (x / 32) gs hs);
+      number = b .number ∙ ap₂ (λ (s n : ℕ). numberAfter s n hs) (a .state) (a .number) ∙ sym (number-after-append (x % 32) (x / 32) gs hs);
       state = b .state ∙ ap (λ (s : ℕ). stateAfter s hs) (a .state) ∙ sym (after-append (x % 32) gs hs);
       small = b .small;
     }

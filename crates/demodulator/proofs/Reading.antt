@@ -22,7 +22,7 @@ use Rattle.demodulator_words.specs.steps.Held.{Held, NextWord, LastWord}
 use Rattle.modulation.specs.Words.{bitsIn, Words, WordsRead}
 use Rattle.automaton.proofs.Complete.{after-append, complete}
 use Rattle.automaton.proofs.Sound.{sound}
-use Rattle.automaton.proofs.Entries.{number-append, number-shift, start-small}
+use Rattle.automaton.proofs.Entries.{number-after-append, number-shift, start-small}
 use Rattle.demodulator_words.proofs.Held.{read-number, read-state, held-first}
 use Rattle.demodulator_groups.proofs.Windows.{groups-append}
 use Rattle.demodulator_groups.proofs.Running.{read-bound}
@@ -90,7 +90,7 @@ module _ (b : List ℕ) (at : ℕ) {before : Bool} {x i word held : ℕ} {ws : L
       let here : word * 70368744177664 + held / 32 ≡ x / 32 * 70368744177664 + p =
       next .number ∙ number-shift (x % 32) (x / 32) gs ∙ ap (λ (n : ℕ). x / 32 * n + p) weight in
       let all : numberAfter s 0 (front ++ gs) ≡ (joined ws i * 70368744177664 + x / 32) * 70368744177664 + p =
-      number-append s 0 front gs
+      number-after-append s 0 front gs
       ∙ ap₂ (λ (t n : ℕ). numberAfter t n gs) (sym (r .state)) (sym (r .number))
       ∙ number-shift (x % 32) (joined ws i * 70368744177664 + x / 32) gs
       ∙ ap (λ (n : ℕ). (joined ws i * 70368744177664 + x / 32) * n + p) weight in

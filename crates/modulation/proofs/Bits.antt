@@ -20,7 +20,7 @@ pub length-bits : (ms : List Three) → length (bits ms) ≡ 3 * length ms
 length-bits [] = refl
 length-bits (m ∷ ms) = omega (arith, length-bits ms)
 
-three-more : (n : ℕ) → 3 * suc n ≡ suc (suc (suc (3 * n)))
+pub three-more : (n : ℕ) → 3 * suc n ≡ suc (suc (suc (3 * n)))
 three-more n = omega arith
 
 -- the first n groups, and those behind them
@@ -59,15 +59,15 @@ length-pairs [] = refl
 length-pairs (x ∷ []) = refl
 length-pairs (x ∷ y ∷ l) = omega (arith, length-pairs l)
 
-two-dataBits : (d : Two) → two (twoNumber d / 2) (twoNumber d % 2) ≡ d
-two-dataBits d00 = refl
-two-dataBits d01 = refl
-two-dataBits d10 = refl
-two-dataBits d11 = refl
+pub two-back : (d : Two) → two (twoNumber d / 2) (twoNumber d % 2) ≡ d
+two-back d00 = refl
+two-back d01 = refl
+two-back d10 = refl
+two-back d11 = refl
 
 pub pairs-dataBits : (ds : List Two) → pairs (dataBits ds) ≡ ds
 pairs-dataBits [] = refl
-pairs-dataBits (d ∷ ds) = ap₂ _∷_ (two-dataBits d) (pairs-dataBits ds)
+pairs-dataBits (d ∷ ds) = ap₂ _∷_ (two-back d) (pairs-dataBits ds)
 
 pub two-number : (x y : ℕ) → x < 2 → y < 2 → twoNumber (two x y) ≡ 2 * x + y
 unfolding all all₂

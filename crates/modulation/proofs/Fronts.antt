@@ -2,27 +2,20 @@
 use mathlib.Core.Bool.{true, _&&_, false≢true}
 use mathlib.Core.List.{List, [], _∷_, _++_}
 use mathlib.Core.Path.{_≡_, refl, sym, ap, ap₂, _∙_}
-use Prim.Native.Nat.{ℕ, zero, suc, _+_, _*_, _/_, _%_, _^_, _<_}
+use Prim.Native.Nat.{ℕ, zero, suc, _+_, _*_, _/_, _%_, _<_}
 use native.Mathlib.Omega.{arith}
 use borrow.Author.Tests.{eqb-true, eq-eqb, leb-true, le-leb}
 use lib.Dec.{eqb, leb}
 use lib.ListN.{length, take, drop, length-append, take-append-drop}
-use lib.Pow.{pow-add}
 use lib.Seq.{take-append-seam, length-take-le}
 use Rattle.bits.specs.Bits.{Bits, number, bitsOfNumber}
 use Rattle.bits.proofs.Number.{bits-of-number}
 use Rattle.modulation.specs.Modulation.{Two, d00, d01, d10, d11, twoNumber, Three, m000, m001, m010, m011, m100, m101, m110, m111, threeNumber, starts}
 use Rattle.modulation.specs.Bits.{two, pairs, dataBits, three, bits}
 use Rattle.laws.proofs.Booleans.{and-left, and-right, and-true, same-tests}
-use Rattle.modulation.proofs.Bits.{pairs-dataBits, length-dataBits}
+use Rattle.modulation.proofs.Bits.{two-back, pairs-dataBits, length-dataBits}
 
 -- ---- pairs and groups are determined by their numbers
-
-two-back : (d : Two) → two (twoNumber d / 2) (twoNumber d % 2) ≡ d
-two-back d00 = refl
-two-back d01 = refl
-two-back d10 = refl
-two-back d11 = refl
 
 pub two-injective : (c d : Two) → twoNumber c ≡ twoNumber d → c ≡ d
 two-injective c d e = sym (two-back c) ∙ ap (λ (n : ℕ). two (n / 2) (n % 2)) e ∙ two-back d
@@ -110,11 +103,3 @@ bits-groups (m ∷ ms) (suc (suc (suc i))) = bits-groups ms i
 
 pub pairs-start : (xs ds : List Two) → starts twoNumber xs ds ≡ (leb (length xs) (length ds) && eqb (number (dataBits (take (length xs) ds))) (number (dataBits xs)))
 pairs-start = starts-number twoNumber two-injective dataBits 2 pairs pairs-dataBits length-dataBits bits-dataBits
-
--- ---- one pair more
-
-number-append : (a b : List ℕ) → number (a ++ b) ≡ number a * 2 ^ length b + number b
-unfolding number
-number-append [] b = omega arith
-number-append (x ∷ a) b =
-    omega (arith, number-append a b, ap (λ (k : ℕ). x * 2 ^ k) (length-append a b) ∙ ap (λ (k : ℕ). x * k) (pow-add 2 (length a) (length b)))

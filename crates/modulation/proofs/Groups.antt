@@ -17,6 +17,7 @@ use Rattle.bits.specs.Step.{enough, stepAt}
 use Rattle.bits.proofs.Bits.{length-bits as length-bitsOf, bits-bits}
 use Rattle.modulation.specs.Modulation.{m000, threeNumber}
 use Rattle.modulation.specs.Bits.{three, bits}
+use Rattle.modulation.proofs.Bits.{three-more}
 use Rattle.modulation.proofs.Fronts.{three-below}
 use Rattle.modulation.specs.Groups.{Inside, groupsAt}
 
@@ -57,9 +58,6 @@ take-three b p n h =
     ap (λ (k : ℕ). take k (drop p b)) (three-more n)
     ∙ rw (add-one, add-two, add-three) (ap (take (suc (suc (suc (3 * n))))) front)
   where
-    three-more : (n : ℕ) → 3 * suc n ≡ suc (suc (suc (3 * n)))
-    three-more n = omega arith
-
     front : drop p b ≡ getD b p 0 ∷ getD b (suc p) 0 ∷ getD b (suc (suc p)) 0 ∷ drop (suc (suc (suc p))) b
     front =
         drop-cons b p 0 (omega arith)
