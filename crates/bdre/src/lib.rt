@@ -1,7 +1,4 @@
-// The operations for programs in other languages, as a static library; include/bdre.h declares them for C. Numbers and slices only.
-use address::Aun;
-use address::Paa;
-use address::Psn;
+// The operations for programs in other languages, as a static library; include/bdre.h declares them for C. Each is one call of its export crate.
 use seen::Answered;
 use seen::Converted;
 use seen::Marking;
@@ -14,7 +11,10 @@ ghost use Rattle.writer.specs.Promise.{WritesExactly};
 ghost use Rattle.reader.specs.Promise.{RightSlices, ReadsExactly};
 ghost use Rattle.marker.specs.Marked.{IsImageOf, marked};
 ghost use Rattle.address.specs.Conversions.{psnToPaa, paaToPsn, psnToAun, aunToPsn};
-ghost use Rattle.bdre.specs.Exported.{writing, reading, marking, psnSeen, aunSeen, paaSeen};
+ghost use Rattle.export_writer.specs.Exported.{writing};
+ghost use Rattle.export_reader.specs.Exported.{reading};
+ghost use Rattle.export_marker.specs.Exported.{marking};
+ghost use Rattle.export_address.specs.Exported.{psnSeen, aunSeen, paaSeen};
 
 // Writes the image of a cluster.
 #[no_mangle]
@@ -31,7 +31,7 @@ pub extern "C" fn bdre_write_image(
     ensures { λ r. ⌜ WritesExactly (record { user = now (user .entry); psn = psn; side = now (side .entry); dc = now (dc .entry) }) (now (image .entry)) (now (work .entry))
         (r .number) (now (image .exit)) (now (work .exit)) ⌝ }
 {
-    Answered::of(writer::write_image(user, Psn(psn), side, dc, image, work))
+    export_writer::write_image(user, psn, side, dc, image, work)
 }
 
 // Reads an image strictly.
@@ -48,10 +48,7 @@ pub extern "C" fn bdre_read_image(
     ensures { λ r. ⌜ ReadsExactly (now (image .entry)) (record { user = now (user .entry); side = now (side .entry); dc = now (dc .entry); work = now (work .entry) })
         (r .number) (r .psn) (record { user = now (user .exit); side = now (side .exit); dc = now (dc .exit); work = now (work .exit) }) ⌝ }
 {
-    let read = reader::read_image(image, user, side, dc, work);
-    let answer = read.answer;
-    let psn = read.psn;
-    ReadAnswered::of(answer, psn)
+    export_reader::read_image(image, user, side, dc, work)
 }
 
 // Marks an image: whether it is that of these user bytes, this side data and this PSN under some dc words. The other slices are lent to read it.
@@ -71,7 +68,7 @@ pub extern "C" fn bdre_mark_image(
     ensures { λ r. ⌜ (RightSlices (record { user = now (bytes .entry); side = now (control .entry); dc = now (dc .entry); work = now (work .entry) })
         → (r .verdict ≡ 0) ↔ IsImageOf psn (now (user .entry)) (now (side .entry)) (now (image .entry))) ⌝ }
 {
-    Marking::of(marker::mark(Psn(psn), user, side, image, bytes, control, dc, work))
+    export_marker::mark_image(psn, user, side, image, bytes, control, dc, work)
 }
 
 // The PAA of the first word of the cluster at a PSN.
@@ -79,9 +76,7 @@ pub extern "C" fn bdre_mark_image(
 pub extern "C" fn bdre_psn_to_paa(psn: u32) -> Converted
     ensures { λ r. ⌜ record { number = r .number; value = r .value } ≡ paaSeen (psnToPaa psn) ⌝ }
 {
-    let found = Psn(psn).paa();
-    let answer = found.answer;
-    Converted::of(answer, found.paa.0)
+    export_address::psn_to_paa(psn)
 }
 
 // The AUN of an address unit, 0 to 15, of the cluster at a PSN; 0 for a unit above 15.
@@ -89,9 +84,7 @@ pub extern "C" fn bdre_psn_to_paa(psn: u32) -> Converted
 pub extern "C" fn bdre_psn_to_aun(psn: u32, unit: u32) -> Converted
     ensures { λ r. ⌜ record { number = r .number; value = r .value } ≡ aunSeen (psnToAun psn unit) ⌝ }
 {
-    let found = Psn(psn).aun(unit);
-    let answer = found.answer;
-    Converted::of(answer, found.aun.0)
+    export_address::psn_to_aun(psn, unit)
 }
 
 // The PSN of the cluster whose first word has a PAA.
@@ -99,9 +92,7 @@ pub extern "C" fn bdre_psn_to_aun(psn: u32, unit: u32) -> Converted
 pub extern "C" fn bdre_paa_to_psn(paa: u32) -> Converted
     ensures { λ r. ⌜ record { number = r .number; value = r .value } ≡ psnSeen (paaToPsn paa) ⌝ }
 {
-    let found = Paa(paa).psn();
-    let answer = found.answer;
-    Converted::of(answer, found.psn.0)
+    export_address::paa_to_psn(paa)
 }
 
 // The PSN of the cluster that holds the address unit with an AUN.
@@ -109,7 +100,5 @@ pub extern "C" fn bdre_paa_to_psn(paa: u32) -> Converted
 pub extern "C" fn bdre_aun_to_psn(aun: u32) -> Converted
     ensures { λ r. ⌜ record { number = r .number; value = r .value } ≡ psnSeen (aunToPsn aun) ⌝ }
 {
-    let found = Aun(aun).psn();
-    let answer = found.answer;
-    Converted::of(answer, found.psn.0)
+    export_address::aun_to_psn(aun)
 }

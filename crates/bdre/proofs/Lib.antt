@@ -1,2 +1,0 @@
--- What the exported functions show of what they call.
-pub mod Exported

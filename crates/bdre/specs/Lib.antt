@@ -1,2 +1,0 @@
--- What a caller in another language sees.
-pub mod Exported
