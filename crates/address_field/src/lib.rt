@@ -2,8 +2,8 @@
 pub mod steps;
 
 use address::Aun;
+use big_endian::word_bytes;
 use steps::partly_inverted;
-use words::word_bytes;
 ghost use mathlib.Core.Path.{_≡_};
 ghost use Rattle.bis.specs.AddressField.{reordered, information, primaryField, addressField};
 

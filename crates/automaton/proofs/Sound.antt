@@ -10,7 +10,7 @@ use lib.Dec.{T, eqb, eqb→eq}
 use lib.ListN.{length, getD, drop}
 use Rattle.laws.proofs.Finite.{both, both-left, both-right}
 use Rattle.modulation.specs.Modulation.{Two, twoNumber, Three, m000, m001, m010, m011, m100, m101, m110, m111, threeNumber, starts, Modulated, modulate}
-use Rattle.modulation.specs.Pairs.{twoOf}
+use Rattle.modulation.specs.steps.Pairs.{twoOf}
 use Rattle.modulation.specs.Machine.{Wait, w, w00, w0000, w000000, w000010, w11, w1101, w110111, w11011100, w1101110000, waitNumber, waitAt, Step, step, stop, put, machine}
 use Rattle.modulation.proofs.Machine.{machine-is}
 use Rattle.laws.proofs.Booleans.{T-true, true-T, beq-same, implies, given}

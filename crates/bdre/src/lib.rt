@@ -1,8 +1,8 @@
 // The operations for programs in other languages, as a static library; include/bdre.h declares them for C. Each is one call of its export crate.
-use seen::Answered;
-use seen::Converted;
-use seen::Marking;
-use seen::ReadAnswered;
+use answer_numbers::Answered;
+use answer_numbers::Converted;
+use answer_numbers::Marking;
+use answer_numbers::ReadAnswered;
 ghost use mathlib.Core.Path.{_≡_};
 ghost use mathlib.Core.Logic.{_↔_};
 ghost use Rattle.writer.specs.Outcome as writer;

@@ -11,8 +11,8 @@ use Rattle.laws.specs.Tabulate.{tabulate}
 use Rattle.laws.proofs.Bytes.{bytes-append, bytes-tabulate}
 use Rattle.laws.proofs.Finite.{all, equal-below, bounded-below}
 use Rattle.laws.proofs.Tabulate.{is-tabulate, getD-tabulate, length-tabulate}
-use Rattle.words.specs.Words.{wordOf, fourBytes}
-use Rattle.words.proofs.Words.{word-back, bytes-back}
+use Rattle.big_endian.specs.Words.{wordOf, fourBytes}
+use Rattle.big_endian.proofs.Words.{word-back, four-bytes-back}
 use Rattle.column.specs.Column.{generator, MultipleOf, hasRoots, parity}
 use Rattle.column.proofs.Parity.{parity-length, parity-bytes, parity-test, test-column}
 use Rattle.column.proofs.Multiple.{parity-multiple}
@@ -146,7 +146,7 @@ module _ (f : List ℕ) (size : length f ≡ 9) (bytes : Bytes f) where
   information-in : take 5 f ≡ information (aunIn f) (flagIn f)
   unfolding tabulate
   information-in =
-      let back = bytes-back (restored (getD f 0 0)) (getD f 1 0) (getD f 2 0) (getD f 3 0) (restored-lt (getD f 0 0) (bytes 0)) (bytes 1) (bytes 2) (bytes 3) in
+      let back = four-bytes-back (restored (getD f 0 0)) (getD f 1 0) (getD f 2 0) (getD f 3 0) (restored-lt (getD f 0 0) (bytes 0)) (bytes 1) (bytes 2) (bytes 3) in
       is-tabulate 0 5 (λ k. getD f k 0) (take 5 f) (length-take-le 5 f (omega arith)) (λ k h. getD-take 5 f k 0 h)
       ∙ ap (λ (high : ℕ). high ∷ getD f 1 0 ∷ getD f 2 0 ∷ getD f 3 0 ∷ flagIn f ∷ []) (sym (reordered-restored (getD f 0 0) (bytes 0)))
       ∙ sym (ap (λ (l : List ℕ). reordered (getD l 0 0) ∷ getD l 1 0 ∷ getD l 2 0 ∷ getD l 3 0 ∷ flagIn f ∷ []) back)

@@ -4,7 +4,7 @@ use mathlib.Core.List.{List, [], _∷_, _++_}
 use Prim.Native.Nat.{ℕ, _+_, _*_, _-_, _/_, _%_, _^_}
 use lib.ListN.{getD}
 use Rattle.laws.specs.Tabulate.{tabulate}
-use Rattle.words.specs.Words.{wordOf}
+use Rattle.big_endian.specs.Words.{wordOf}
 use Rattle.column.specs.Column.{parity}
 
 -- ---- the primary address field

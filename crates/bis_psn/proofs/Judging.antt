@@ -6,7 +6,7 @@ use Prim.Native.Nat.{ℕ, _-_, _<_, _≤_}
 use borrow.Author.Tests.{lt-ltb, le-ltb, eq-eqb, ne-eqb}
 use lib.Dec.{ltb}
 use lib.ListN.{getD}
-use Rattle.words.specs.Words.{wordOf}
+use Rattle.big_endian.specs.Words.{wordOf}
 use Rattle.answer.specs.declared.Answer.the-variants.{Done}
 use Rattle.answer.specs.Answer.{isDone}
 use Rattle.answer.proofs.Tests.{done-is}

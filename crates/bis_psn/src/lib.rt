@@ -1,9 +1,9 @@
 // Test 14: the PSN of a BIS block.
 use address::Aun;
 use address::Psn;
+use big_endian::word;
 use bis::Block;
 use bis::PsnFound;
-use words::word;
 ghost use mathlib.Core.Path.{_≡_};
 ghost use Prim.Native.Nat.{_<_};
 ghost use Rattle.answer.specs.declared.Answer.the-variants.{Done};

@@ -2,7 +2,7 @@
 ghost use mathlib.Core.Path.{_≡_};
 ghost use lib.ListN.{length};
 ghost use Rattle.laws.specs.Zeros.{zeros};
-ghost use Rattle.sizes.specs.Sizes.{workSize, imageSize, sideSize, frameCount, userSize};
+ghost use Rattle.sizes.specs.Sizes.{workSize, imageSize, sideSize, dcSize, frameCount, userSize};
 
 pub fn user_bytes() -> [u8; sizes::USER]
     ensures { λ r. ⌜ (length r ≡ userSize) × (r ≡ zeros userSize) ⌝ }
@@ -22,10 +22,10 @@ pub fn dc_words() -> [u32; sizes::FRAMES]
     [0u32; sizes::FRAMES]
 }
 
-pub fn dc_bytes() -> [u8; 1984]
-    ensures { λ r. ⌜ (length r ≡ 1984) × (r ≡ zeros 1984) ⌝ }
+pub fn dc_bytes() -> [u8; sizes::DC]
+    ensures { λ r. ⌜ (length r ≡ dcSize) × (r ≡ zeros dcSize) ⌝ }
 {
-    [0u8; 1984]
+    [0u8; sizes::DC]
 }
 
 pub fn image_bytes() -> [u8; sizes::IMAGE]

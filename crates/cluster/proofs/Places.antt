@@ -6,7 +6,8 @@ use native.Mathlib.Omega.{arith}
 use Rattle.ldc.specs.LdcCluster.{Origin, shifted}
 use Rattle.ldc.specs.Places.{ldcPlace}
 use Rattle.ldc.proofs.Interleaving.{shifted-word-lt, shifted-byte-lt, place-row, place-column, place-row-lt, place-column-lt, word-at-place, byte-at-place}
-use Rattle.cluster.specs.Multiplex.{ldcIndex, wordIndex, bisIndex}
+use Rattle.cluster.specs.Multiplex.{ldcIndex, bisIndex}
+use Rattle.cluster.specs.steps.Places.{wordIndex}
 use Rattle.cluster.proofs.Multiplex.{ldc-index-lt, ldc-index-row, ldc-index-byte, ldc-column, bis-index-row, bis-index-byte, index-of-ldc}
 
 -- code word and byte of what stands at an index of the LDC cluster

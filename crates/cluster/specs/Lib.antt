@@ -2,3 +2,4 @@
 pub mod Multiplex
 pub mod EccCluster
 pub mod Reading
+pub mod steps

@@ -5,7 +5,6 @@ use Prim.Native.Nat.{ℕ, _+_, _*_, _-_, _/_, _%_}
 use lib.Dec.{eqb}
 use lib.ListN.{getD}
 use Rattle.laws.specs.Tabulate.{tabulate}
-use Rattle.ldc.specs.Places.{ldcPlace}
 use Rattle.bis.specs.BisCluster as Bis
 use Rattle.sizes.specs.Sizes.{workSize, rowSize}
 
@@ -25,10 +24,6 @@ ldcIndex row column = rowSize * row + column + column / 38
 
 abbrev pub bisIndex : ℕ → ℕ → ℕ
 bisIndex row column = rowSize * row + 39 * column + 38
-
--- where byte N of LDC code word L stands
-abbrev pub wordIndex : ℕ → ℕ → ℕ
-wordIndex L N = ldcIndex (ldcPlace L N .row) (ldcPlace L N .column)
 
 -- the LDC cluster by row and column
 abbrev pub ldcIn : List ℕ → ℕ → ℕ → ℕ

@@ -18,7 +18,8 @@ use Rattle.ldc.specs.LdcBlock.{dataByte, codeWord}
 use Rattle.ldc.specs.LdcCluster.{ldcByte}
 use Rattle.bis.specs.BisBlock.{bisBlock}
 use Rattle.bis.specs.BisCluster.{bisByte}
-use Rattle.cluster.specs.Multiplex.{wordIndex, bisIndex, rowByte, multiplexed}
+use Rattle.cluster.specs.Multiplex.{bisIndex, rowByte, multiplexed}
+use Rattle.cluster.specs.steps.Places.{wordIndex}
 use Rattle.cluster.specs.EccCluster.{sectorOf, scrambledFrames, eccCluster}
 use Rattle.bis_cluster.specs.steps.Written.{BisPut}
 use Rattle.ldc_words.specs.steps.Eighth.{LdcPut}

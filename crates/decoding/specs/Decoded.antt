@@ -13,7 +13,7 @@ use Rattle.reader.specs.Outcome as reader
 use Rattle.texts.specs.declared.Text.{Text}
 use Rattle.texts.specs.Text.{textOf}
 use Rattle.report.specs.Words.{answerText, psnText}
-use Rattle.sizes.specs.Sizes.{workSize, frameCount}
+use Rattle.sizes.specs.Sizes.{workSize, dcSize, frameCount}
 
 pub record Decoded : Type 0 where
   pub keep : Bool
@@ -43,7 +43,7 @@ decodedWords image user side words dc = decodedBy (reader.outcome image (record 
 
 -- into a dc slice of 1,984 bytes; into another no words go, and 3 refuses
 unfoldable pub decoded : List ℕ → List ℕ → List ℕ → List ℕ → Decoded
-decoded image user side dc = decodedWords image user side (cond (eqb (length dc) 1984) (zeros frameCount) []) dc
+decoded image user side dc = decodedWords image user side (cond (eqb (length dc) dcSize) (zeros frameCount) []) dc
 
 -- what is said of an answer, a PSN and the words read with it, and what stands in dc then
 pub record SaidOf (a : Answer) (psn : ℕ) (words before : List ℕ) (keep : Bool) (text : Text) (dc : List ℕ) : Type 0 where

@@ -14,12 +14,12 @@ use Rattle.modulation.specs.Modulation.{Two, Three, Modulated, modulate}
 use Rattle.modulation.specs.Bits.{pairs, bits, Gives}
 use Rattle.modulation.proofs.Bits.{bits-injective, pairs-dataBits}
 use Rattle.modulation.proofs.Size.{size}
-use Rattle.modulation.specs.Groups.{Inside, groupsAt, frameAt}
+use Rattle.modulation.specs.steps.Groups.{Inside, groupsAt, frameAt}
 use Rattle.modulation.proofs.Groups.{length-groupsAt, bits-groupsAt}
 use Rattle.automaton.specs.Automaton.{start, ending, stateAfter, numberAfter, accepts, numberRead}
 use Rattle.automaton.specs.steps.Table.{After}
 use Rattle.demodulator_words.specs.steps.Held.{Held, NextWord, LastWord}
-use Rattle.modulation.specs.Words.{bitsIn, Words, WordsRead}
+use Rattle.modulation.specs.steps.Words.{bitsIn, Words, WordsRead}
 use Rattle.automaton.proofs.Complete.{after-append, complete}
 use Rattle.automaton.proofs.Sound.{sound}
 use Rattle.automaton.proofs.Entries.{number-after-append, number-shift, start-small}

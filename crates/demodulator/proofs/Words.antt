@@ -15,7 +15,7 @@ use Rattle.modulation.specs.Bits.{dataBits}
 use Rattle.modulation.proofs.Bits.{length-dataBits}
 use Rattle.modulation.proofs.Fronts.{bits-dataBits}
 use Rattle.automaton.specs.Automaton.{onto}
-use Rattle.modulation.specs.Words.{bitsIn}
+use Rattle.modulation.specs.steps.Words.{bitsIn}
 use Rattle.automaton.proofs.Sound.{plain, onto-shift}
 
 -- ---- the first n words as a number

@@ -8,8 +8,8 @@ ghost use mathlib.Core.Path.{_≡_};
 ghost use Prim.Native.Nat.{_+_, _<_};
 ghost use lib.ListN.{take, drop};
 ghost use Rattle.bits.specs.Bits.{bitsOf};
-ghost use Rattle.modulation.specs.Groups.{Inside};
-ghost use Rattle.modulation.specs.Words.{Words, WordsRead};
+ghost use Rattle.modulation.specs.steps.Groups.{Inside};
+ghost use Rattle.modulation.specs.steps.Words.{Words, WordsRead};
 ghost use Rattle.automaton.specs.steps.Table.{table};
 
 // The data bits of the 634 groups at bit `at`, in words of 46 bits; whether there are data bits that give these groups.

@@ -5,7 +5,7 @@ use Prim.Native.Nat.{ℕ, _+_, _*_, _-_, _/_, _%_, _^_, _<_, _≤_}
 use native.Mathlib.Omega.{arith}
 use lib.ListN.{length}
 use Rattle.modulation.specs.Modulation.{Three}
-use Rattle.modulation.specs.Groups.{groupsAt}
+use Rattle.modulation.specs.steps.Groups.{groupsAt}
 use Rattle.modulation.proofs.Groups.{length-groupsAt}
 use Rattle.automaton.specs.Automaton.{stateAfter, numberAfter}
 use Rattle.automaton.specs.steps.Table.{After}

@@ -12,7 +12,7 @@ use Rattle.bits.proofs.Read.{eight-sum}
 use Rattle.modulation.specs.Modulation.{Three, threeNumber}
 use Rattle.modulation.specs.Bits.{three}
 use Rattle.modulation.proofs.Fronts.{three-injective}
-use Rattle.modulation.specs.Groups.{groupsAt}
+use Rattle.modulation.specs.steps.Groups.{groupsAt}
 use Rattle.automaton.specs.steps.Table.{groupNumbered, twoGroups, threeGroups}
 
 -- ---- groups by number

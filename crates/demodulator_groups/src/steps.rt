@@ -6,7 +6,7 @@ use demodulator_table::steps::two_on;
 ghost use mathlib.Core.Path.{_≡_};
 ghost use Prim.Native.Nat.{_+_, _*_, _<_};
 ghost use Rattle.bits.specs.Bits.{bitsOf};
-ghost use Rattle.modulation.specs.Groups.{Inside, groupsAt};
+ghost use Rattle.modulation.specs.steps.Groups.{Inside, groupsAt};
 ghost use Rattle.automaton.specs.Automaton.{start};
 ghost use Rattle.automaton.specs.steps.Table.{twoGroups, threeGroups, table, After};
 

@@ -7,7 +7,7 @@ use demodulator_table::steps::ending;
 ghost use mathlib.Core.Path.{_≡_};
 ghost use Prim.Native.Nat.{_+_, _*_, _<_};
 ghost use Rattle.bits.specs.Bits.{bitsOf};
-ghost use Rattle.modulation.specs.Groups.{Inside, groupsAt};
+ghost use Rattle.modulation.specs.steps.Groups.{Inside, groupsAt};
 ghost use Rattle.automaton.specs.steps.Table.{table};
 ghost use Rattle.demodulator_words.specs.steps.Held.{Held, NextWord, LastWord};
 

@@ -11,8 +11,8 @@ use Rattle.bits.specs.Bits.{bitsOf, number}
 use Rattle.bits.proofs.Bits.{length-bits, bits-bits}
 use Rattle.bits.proofs.Number.{number-lt}
 use Rattle.edc.specs.Edc.{MultipleOfG, remainderByG, edcOf, edcBytes}
-use Rattle.words.specs.Words.{fourBytes}
-use Rattle.words.proofs.Words.{number-of-four, bytes-word}
+use Rattle.big_endian.specs.Words.{fourBytes}
+use Rattle.big_endian.proofs.Words.{number-of-four, bytes-four}
 use Rattle.laws.proofs.Xor.{xor-equal}
 use Rattle.edc.proofs.Division.{Leaves, leaves-self, leaves-add, leaves-one, leaves-zero, multiple-leaves, leaves-bits}
 use Rattle.bits.proofs.Concat.{number-bytes, bytes-equal}
@@ -42,7 +42,7 @@ length-edc l = refl
 
 pub bytes-edc : (l : List ℕ) → Bytes (edcBytes l)
 unfolding edcBytes
-bytes-edc l = bytes-word (edcOf l)
+bytes-edc l = bytes-four (edcOf l)
 
 -- ---- four bytes behind others
 

@@ -10,8 +10,8 @@ use lib.Seq.{length-take-le, take-add, take-suc, take-all}
 use Rattle.laws.specs.Tabulate.{tabulate}
 use Rattle.bits.specs.Bits.{bitsOf, number}
 use Rattle.edc.specs.Edc.{edcOf}
-use Rattle.words.specs.Words.{wordAt, fourBytes}
-use Rattle.words.proofs.Words.{word-at-number}
+use Rattle.big_endian.specs.Words.{wordAt, fourBytes}
+use Rattle.big_endian.proofs.Words.{word-at-number}
 use Rattle.laws.specs.Bytes.{Bytes}
 use Rattle.edc.proofs.Division.{leaves-self, leaves-one}
 use Rattle.edc.proofs.Detection.{edc-leaves}

@@ -7,7 +7,7 @@ use lib.Bits.{bitXor, xor-comm, xor-self, xor-zero-r, xor-lt, xor-shr}
 use lib.Pow.{pow-pos, split, shr-shr}
 use Rattle.laws.proofs.Xor.{xor-assoc, xor-cancel, xor-left, xor-twice, xor-equal, xor-scaled, raised}
 use Rattle.edc.specs.Edc.{timesG, edcOf}
-use Rattle.words.specs.Words.{fourBytes}
+use Rattle.big_endian.specs.Words.{fourBytes}
 use Rattle.edc.proofs.Division.{Leaves, leaves-one}
 use Rattle.edc.proofs.Register.{four-leaves}
 

@@ -10,8 +10,8 @@ use lib.Pow.{pow-pos}
 use Rattle.laws.proofs.Xor.{xor-assoc, xor-left, xor-twice, xor-scaled, raised}
 use Rattle.bits.specs.Bits.{bitsOf, number}
 use Rattle.edc.specs.Edc.{edcOf}
-use Rattle.words.specs.Words.{fourBytes}
-use Rattle.words.proofs.Words.{number-of-four}
+use Rattle.big_endian.specs.Words.{fourBytes}
+use Rattle.big_endian.proofs.Words.{number-of-four}
 use Rattle.edc.proofs.Division.{Leaves, leaves-self, leaves-add, leaves-one, leaves-multiple, multiple-leaves, multiple-scaled}
 use Rattle.bits.proofs.Concat.{number-bytes, number-byte}
 use Rattle.edc.proofs.Detection.{edc-leaves, edc-lt, four-lt, number-behind}

@@ -7,7 +7,7 @@ use Prim.Native.Nat.{ℕ, _+_, _*_, _^_}
 use lib.Bits.{bitXor}
 use lib.Dec.{leb}
 use Rattle.bits.specs.Bits.{bitsOf}
-use Rattle.words.specs.Words.{fourBytes}
+use Rattle.big_endian.specs.Words.{fourBytes}
 
 -- G(x)
 abbrev pub polynomialG : ℕ

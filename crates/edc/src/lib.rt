@@ -1,11 +1,11 @@
 // 13.3: the error-detection code.
-use words::steps::word_at;
+use big_endian::steps::word_at;
 ghost use mathlib.Core.Path.{_≡_};
 ghost use Prim.Native.Nat.{_*_, _/_, _<_};
 ghost use lib.Bits.{bitXor};
 ghost use lib.ListN.{length, take};
 ghost use Rattle.edc.specs.Edc.{edcOf};
-ghost use Rattle.words.specs.Words.{fourBytes};
+ghost use Rattle.big_endian.specs.Words.{fourBytes};
 
 fn wide(byte: u8) -> u32
     ensures { λ r. ⌜ (r ≡ byte) × (r < 256) ⌝ }

@@ -11,7 +11,7 @@ use Rattle.writer.specs.Outcome as writer
 use Rattle.texts.specs.declared.Text.{Text}
 use Rattle.texts.specs.Text.{textOf}
 use Rattle.report.specs.Words.{answerText}
-use Rattle.sizes.specs.Sizes.{workSize}
+use Rattle.sizes.specs.Sizes.{workSize, dcSize}
 
 pub record Encoded : Type 0 where
   pub keep : Bool
@@ -27,4 +27,4 @@ encodedWords psn user side words image = encodedBy (writer.outcome (record { use
 
 -- the words of dc, which has 1,984 bytes; else none, and 3 refuses
 unfoldable pub encoded : ℕ → List ℕ → List ℕ → List ℕ → List ℕ → Encoded
-encoded psn user side dc image = encodedWords psn user side (cond (eqb (length dc) 1984) (wordsOf dc) []) image
+encoded psn user side dc image = encodedWords psn user side (cond (eqb (length dc) dcSize) (wordsOf dc) []) image

@@ -4,7 +4,7 @@ use Rattle.answer.specs.Answer as Answer
 use Rattle.address.specs.declared.PsnAnswer.{PsnAnswer}
 use Rattle.address.specs.declared.AunAnswer.{AunAnswer}
 use Rattle.address.specs.declared.PaaAnswer.{PaaAnswer}
-use Rattle.seen.specs.declared.Converted.{Converted}
+use Rattle.answer_numbers.specs.declared.Converted.{Converted}
 use Rattle.export_address.specs.Exported.{Number, psnSeen, aunSeen, paaSeen}
 
 abbrev seen : Converted → Number

@@ -2,7 +2,7 @@
 use address::Aun;
 use address::Paa;
 use address::Psn;
-use seen::Converted;
+use answer_numbers::Converted;
 ghost use mathlib.Core.Path.{_≡_};
 ghost use Rattle.address.specs.Conversions.{psnToPaa, paaToPsn, psnToAun, aunToPsn};
 ghost use Rattle.export_address.specs.Exported.{psnSeen, aunSeen, paaSeen};

@@ -7,7 +7,7 @@ use Rattle.verdict.specs.declared.Verdict.{Verdict}
 use Rattle.verdict.specs.declared.Verdict.the-variants.{Pass, Refused, OtherPsn, OtherUser, OtherSide}
 use Rattle.verdict.specs.Verdict.{kindOf, refusalIn, ownPsn, placeIn}
 use Rattle.marker.specs.Marked as marker
-use Rattle.seen.specs.declared.Marking.{Marking}
+use Rattle.answer_numbers.specs.declared.Marking.{Marking}
 use Rattle.export_marker.specs.Exported.{marking}
 
 pass-is : (v : Verdict) → kindOf v ≡ 0 → v ≡ Pass

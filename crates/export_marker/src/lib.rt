@@ -1,6 +1,6 @@
 // The marker for programs in other languages: numbers and slices only.
 use address::Psn;
-use seen::Marking;
+use answer_numbers::Marking;
 ghost use mathlib.Core.Path.{_≡_};
 ghost use mathlib.Core.Logic.{_↔_};
 ghost use Rattle.reader.specs.Promise.{RightSlices};

@@ -6,7 +6,7 @@ use Rattle.answer.specs.declared.Answer.{Answer}
 use Rattle.answer.specs.Answer as Answer
 use Rattle.reader.specs.Outcome as reader
 use Rattle.reader.specs.Promise.{ReadsExactly}
-use Rattle.seen.specs.declared.ReadAnswered.{ReadAnswered}
+use Rattle.answer_numbers.specs.declared.ReadAnswered.{ReadAnswered}
 use Rattle.export_reader.specs.Exported.{reading}
 
 pub same-reading : {r : ReadAnswered} {a : Answer} {psn : ℕ} {lent : reader.Lent} {o : reader.Outcome} {l : List ℕ} {before : reader.Lent}

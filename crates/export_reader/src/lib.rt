@@ -1,5 +1,5 @@
 // The reader for programs in other languages: numbers and slices only.
-use seen::ReadAnswered;
+use answer_numbers::ReadAnswered;
 ghost use mathlib.Core.Path.{_≡_};
 ghost use Rattle.reader.specs.Outcome as reader;
 ghost use Rattle.reader.specs.Promise.{ReadsExactly};

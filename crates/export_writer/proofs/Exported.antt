@@ -7,7 +7,7 @@ use Rattle.answer.specs.Answer as Answer
 use Rattle.image.specs.Image.{Input}
 use Rattle.writer.specs.Outcome as writer
 use Rattle.writer.specs.Promise.{WritesExactly}
-use Rattle.seen.specs.declared.Answered.{Answered}
+use Rattle.answer_numbers.specs.declared.Answered.{Answered}
 use Rattle.export_writer.specs.Exported.{writing}
 
 -- r is what is returned; what is promised of an answer's number is promised of the number that is returned

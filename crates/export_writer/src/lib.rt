@@ -1,6 +1,6 @@
 // The writer for programs in other languages: numbers and slices only.
 use address::Psn;
-use seen::Answered;
+use answer_numbers::Answered;
 ghost use mathlib.Core.Path.{_≡_};
 ghost use Rattle.writer.specs.Outcome as writer;
 ghost use Rattle.writer.specs.Promise.{WritesExactly};

@@ -24,7 +24,7 @@ fn pairs_stand(rows: &PackedRows, k: usize, count: usize, pairs: u32) -> bool
     requires { ⌜ ((now rows ≡ packedRows) × (k < 16)) × ((count ≤ 6) × (pairs < 2 ^ (2 * count))) ⌝ }
     ensures { λ r. ⌜ r ≡ starts twoNumber (rowAt k .pairs) (fewPairs count pairs) ⌝ }
 {
-    let r = rows::steps::row_at(rows, k);
+    let r = conversion_rows::steps::row_at(rows, k);
     if count < r.0 {
         return false;
     }
@@ -53,7 +53,7 @@ fn starts_with_010(rows: &PackedRows, count: usize, pairs: u32) -> bool
 {
     let k = standing_row(rows, count, pairs);
     if k < 16 {
-        rows::steps::leads_010(rows, k)
+        conversion_rows::steps::leads_010(rows, k)
     } else {
         false
     }
@@ -64,7 +64,7 @@ fn allowed_at(rows: &PackedRows, k: usize, count: usize, pairs: u32, before: boo
     requires { ⌜ ((now rows ≡ packedRows) × (k < 16)) × ((count ≤ 6) × ((pairs < 2 ^ (2 * count)) × (length (rowAt k .pairs) ≤ count))) ⌝ }
     ensures { λ r. ⌜ r ≡ allowed (rowAt k) (rowAt k .when) before (fewPairs count pairs) (modulateFrom (tail (fewPairs count pairs))) ⌝ }
 {
-    let r = rows::steps::row_at(rows, k);
+    let r = conversion_rows::steps::row_at(rows, k);
     let len = r.0;
     let when = r.3;
     match when {
@@ -115,10 +115,10 @@ pub fn modulate(rows: &PackedRows, count: usize, pairs: u32, before: bool) -> Fe
     let mut rest = pairs;
     while 0 < left {
         let k = fitting_row(rows, left, rest, bit);
-        value = rows::steps::followed(rows, value, k);
-        terminated |= rows::steps::is_terminating(rows, k);
-        bit = rows::steps::ends_in_one(rows, k);
-        left -= rows::steps::row_len(rows, k);
+        value = conversion_rows::steps::followed(rows, value, k);
+        terminated |= conversion_rows::steps::is_terminating(rows, k);
+        bit = conversion_rows::steps::ends_in_one(rows, k);
+        left -= conversion_rows::steps::row_len(rows, k);
         rest = last_pairs(left, rest);
     }
     Few { value, terminated }

@@ -15,7 +15,7 @@ use Rattle.modulation.specs.Bits.{pairs, dataBits, groups, bits, Gives}
 use Rattle.modulation.specs.Sync.{FS, syncId}
 use Rattle.modulation.specs.Stream.{modulated}
 use Rattle.modulation.specs.Demodulator.{demodulate}
-use Rattle.modulation.specs.Words.{bitsIn, WordsRead}
+use Rattle.modulation.specs.steps.Words.{bitsIn, WordsRead}
 use Rattle.modulation.proofs.Bits.{length-bits, groups-bits, length-pairs, length-dataBits, pairs-dataBits}
 use Rattle.modulation.proofs.Fronts.{bits-dataBits}
 use Rattle.modulation.proofs.Size.{size}
@@ -26,7 +26,8 @@ use Rattle.frame.specs.Frame.{framePairs, nextHash}
 use Rattle.laws.specs.Same.{same}
 use Rattle.frame.specs.declared.FrameRead.{FrameRead}
 use Rattle.frame.specs.declared.FrameRead.the-variants.{Found, NoFrame}
-use Rattle.frame.specs.Reading.{BitsGive, RowGives, StrictlyRead, Taken, bitsRead, readable, frameRead, rowLeft}
+use Rattle.frame.specs.Reading.{BitsGive, RowGives, StrictlyRead, bitsRead, readable, frameRead, rowLeft}
+use Rattle.frame.specs.steps.Taken.{Taken}
 use Rattle.laws.proofs.Same.{same-true, same-refl}
 use Rattle.frame_bits.proofs.FrameBits.{length-frame-bits, frame-bits-bits, frame-bits-back, frame-bits-inj, length-row, bytes-row, dc-word-lt}
 use Rattle.frame_bits.proofs.Unweaving.{length-words-bits, words-bits-bits}

@@ -12,7 +12,6 @@ use Rattle.modulation.specs.Bits.{pairs, dataBits, groups, bits, Gives}
 use Rattle.modulation.specs.Sync.{FS, syncId}
 use Rattle.modulation.specs.Stream.{modulated}
 use Rattle.modulation.specs.Demodulator.{demodulate}
-use Rattle.modulation.specs.Words.{bitsIn}
 use Rattle.laws.specs.Same.{same}
 use Rattle.frame_bits.specs.FrameBits.{rowFrom, dcFrom}
 use Rattle.frame.specs.Frame.{framePairs, nextHash}
@@ -39,11 +38,6 @@ pub record RowGives (n : FS) (row : List ℕ) (dc : ℕ) (m : List ℕ) (hash : 
 pub record StrictlyRead (n : FS) (m : List ℕ) (hash : Bool) (before : List ℕ) (answer : FrameRead) (after : List ℕ) : Type 0 where
   pub found : (dc : ℕ) → answer ≡ Found dc → RowGives n after dc m hash
   pub none : answer ≡ NoFrame → (after ≡ before) × ((b : List ℕ) → BitsGive n b m hash → ⊥)
-
--- the frame that stands in words, if it was found
-pub record Taken (ws : List ℕ) (found : Bool) (before : List ℕ) (answer : FrameRead) (after : List ℕ) : Type 0 where
-  pub there : found ≡ true → (answer ≡ Found (dcFrom (bitsIn ws))) × (after ≡ rowFrom (bitsIn ws))
-  pub none : found ≡ false → (answer ≡ NoFrame) × (after ≡ before)
 
 -- ---- the same, computed
 

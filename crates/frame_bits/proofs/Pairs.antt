@@ -10,7 +10,7 @@ use Rattle.bits.specs.Bits.{bitsOfNumber}
 use Rattle.bits.proofs.Number.{length-bits-of, getD-bits-of}
 use Rattle.modulation.specs.Modulation.{Two}
 use Rattle.modulation.specs.Bits.{two, pairs}
-use Rattle.modulation.specs.Pairs.{twoOf, nibblePairs, bytePairs}
+use Rattle.modulation.specs.steps.Pairs.{twoOf, nibblePairs, bytePairs}
 use Rattle.frame_bits.specs.steps.Words.{Word, LastTwo}
 
 -- ---- pairs of a part

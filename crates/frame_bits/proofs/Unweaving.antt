@@ -18,7 +18,7 @@ use Rattle.laws.proofs.Fill.{Upto, upto-more, upto-all}
 use Rattle.bits.specs.Bits.{Bits, number, bitsOfNumber}
 use Rattle.bits.proofs.Number.{length-bits-of, getD-bits-of, number-of-bits}
 use Rattle.bits.proofs.Pack.{getD-packed}
-use Rattle.modulation.specs.Words as words
+use Rattle.modulation.specs.steps.Words as words
 use Rattle.frame_bits.specs.FrameBits.{dataPlace, dcPlace, rowFrom, dcFrom}
 use Rattle.frame_bits.specs.steps.Slices.{FiveBytes}
 use Rattle.frame_bits.proofs.FrameBits.{length-row}

@@ -12,11 +12,11 @@ use Rattle.laws.specs.Bytes.{Bytes}
 use Rattle.laws.proofs.Tabulate.{is-tabulate}
 use Rattle.bits.specs.Bits.{bitsOf}
 use Rattle.bits.proofs.Bits.{bit-in}
-use Rattle.modulation.specs.Words as words
+use Rattle.modulation.specs.steps.Words as words
 use Rattle.frame_bits.specs.FrameBits.{frameBit, frameBits}
 use Rattle.frame_bits.specs.steps.Words.{Word, GroupData, SixteenFrom, SixteenOn, bitOf, LastTwo}
 use Rattle.modulation.specs.Bits.{pairs}
-use Rattle.modulation.specs.Pairs.{bytePairs}
+use Rattle.modulation.specs.steps.Pairs.{bytePairs}
 use Rattle.frame_bits.proofs.FrameBits.{data-bit, dc-bit}
 use Rattle.frame_bits.proofs.Pairs.{eight-pairs, last-pairs}
 use Rattle.frame_bits.proofs.Unweaving.{word-bit, length-words-bits}

@@ -1,7 +1,7 @@
 // What weaving and unweaving share.
 ghost use mathlib.Core.Path.{_≡_};
 ghost use Prim.Native.Nat.{_<_};
-ghost use Rattle.modulation.specs.Words.{Words};
+ghost use Rattle.modulation.specs.steps.Words.{Words};
 
 // 29 words, all 0.
 pub fn no_words() -> [u64; 29]

@@ -11,8 +11,8 @@ use lib.Seq.{take-all}
 use Rattle.laws.specs.Bytes.{Bytes}
 use Rattle.laws.proofs.Booleans.{and-false}
 use Rattle.laws.proofs.Bytes.{bytes-cons, bytes-append}
-use Rattle.words.specs.Words.{fourBytes}
-use Rattle.words.proofs.Words.{word-back, bytes-word}
+use Rattle.big_endian.specs.Words.{fourBytes}
+use Rattle.big_endian.proofs.Words.{word-back, bytes-four}
 use Rattle.frame_sync.specs.Sync.{fs}
 use Rattle.frame.specs.Frame.{frame}
 use Rattle.frame.proofs.Frame.{length-frame}
@@ -95,7 +95,7 @@ module _ (hash : Bool) (number : ℕ) (row : List ℕ) (dc : ℕ) (size : length
   -- and they are bytes
   pub bytes-input : Bytes row → Bytes (inputOf hash number row dc)
   bytes-input rest =
-      bytes-cons (cond hash 1 0) (number ∷ (fourBytes dc ++ row)) (bit hash) (bytes-cons number (fourBytes dc ++ row) (omega arith) (bytes-append (fourBytes dc) row (bytes-word dc) rest))
+      bytes-cons (cond hash 1 0) (number ∷ (fourBytes dc ++ row)) (bit hash) (bytes-cons number (fourBytes dc ++ row) (omega arith) (bytes-append (fourBytes dc) row (bytes-four dc) rest))
     where
       bit : (t : Bool) → cond t 1 0 < 256
       bit true = omega arith

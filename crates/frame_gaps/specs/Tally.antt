@@ -4,7 +4,7 @@ use mathlib.Core.List.{List, _∷_, _++_}
 use Prim.Native.Nat.{ℕ, _^_}
 use lib.Dec.{eqb, ltb}
 use lib.ListN.{length, getD, drop, replicate}
-use Rattle.words.specs.Words.{wordAt, fourBytes}
+use Rattle.big_endian.specs.Words.{wordAt, fourBytes}
 use Rattle.frame_sync.specs.Sync.{fs}
 use Rattle.frame.specs.Frame.{frame}
 use Rattle.gaps.specs.declared.Tally.{Tally}

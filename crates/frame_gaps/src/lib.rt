@@ -1,7 +1,7 @@
 // How often each gap length occurs in a frame: the answer of the tally program (document 01).
+use big_endian::steps::word_at;
 use frame::State;
 use gaps::Tally;
-use words::steps::word_at;
 ghost use mathlib.Core.Path.{_≡_};
 ghost use Prim.Native.Nat.{_<_};
 ghost use lib.ListN.{length};

@@ -4,7 +4,7 @@ use mathlib.Core.Path.{_≡_}
 use Prim.Native.Nat.{ℕ, _%_, _<_}
 use lib.ListN.{length}
 use Rattle.modulation.specs.Bits.{pairs}
-use Rattle.modulation.specs.Words as words
+use Rattle.modulation.specs.steps.Words as words
 use Rattle.modulator.proofs.Turning.{Turning, turning-none, turning-small}
 use Rattle.frame_bits.specs.steps.Words.{SixteenFrom}
 use Rattle.frame_bits.proofs.Weaving.{At, at-none, at-inside}

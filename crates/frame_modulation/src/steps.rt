@@ -6,7 +6,7 @@ ghost use Rattle.frame.specs.Frame.{framePairs};
 ghost use Rattle.modulator.specs.steps.Table.{lentTable};
 ghost use Rattle.modulator.specs.steps.Put.{FramePut};
 ghost use Rattle.modulation.specs.Bits.{pairs};
-ghost use Rattle.modulation.specs.Words.{bitsIn, Words};
+ghost use Rattle.modulation.specs.steps.Words.{bitsIn, Words};
 ghost use Rattle.frame_modulation.specs.steps.Around.{Around};
 ghost use Rattle.sizes.specs.Sizes.{rowSize};
 

@@ -9,9 +9,10 @@ ghost use Prim.Native.Nat.{_+_, _*_, _<_, _≤_};
 ghost use lib.ListN.{length, take, drop};
 ghost use Rattle.bits.specs.Bits.{bitsOf};
 ghost use Rattle.automaton.specs.steps.Table.{table};
-ghost use Rattle.modulation.specs.Words.{Words};
+ghost use Rattle.modulation.specs.steps.Words.{Words};
 ghost use Rattle.frame_sync.specs.Sync.{fs};
-ghost use Rattle.frame.specs.Reading.{StrictlyRead, Taken};
+ghost use Rattle.frame.specs.Reading.{StrictlyRead};
+ghost use Rattle.frame.specs.steps.Taken.{Taken};
 ghost use Rattle.sizes.specs.Sizes.{frameSize, rowSize};
 
 // The frame of the words, if it was found: then its row is left in the slice.
@@ -57,8 +58,8 @@ fn take_two(words: &[u64; 29], more: &[u64; 29], found: Found, rows: &mut [u8]) 
     ensures { λ r. ⌜ Taken (now (words .entry)) (found .first) (take rowSize (now (rows .entry))) (r .first) (take rowSize (now (rows .exit)))
         × Taken (now (more .entry)) (found .second) (drop rowSize (now (rows .entry))) (r .second) (drop rowSize (now (rows .exit))) ⌝ }
 {
-    let one = take_frame(words, found.first, &mut rows[0..155]);
-    let two = take_frame(more, found.second, &mut rows[155..310]);
+    let one = take_frame(words, found.first, &mut rows[0..sizes::ROW]);
+    let two = take_frame(more, found.second, &mut rows[sizes::ROW..310]);
     TwoRead {
         first: one,
         second: two,

@@ -19,7 +19,7 @@ use Rattle.modulation.specs.Sync.{FS, sync}
 use Rattle.modulation.proofs.Bits.{bits-injective}
 use Rattle.modulation.proofs.Fronts.{three-injective}
 use Rattle.modulation.proofs.Streams.{length-sync}
-use Rattle.modulation.specs.Groups.{Inside, groupsAt}
+use Rattle.modulation.specs.steps.Groups.{Inside, groupsAt}
 use Rattle.modulation.proofs.Groups.{length-groupsAt, bits-groupsAt, group-read}
 use Rattle.frame_sync.specs.Sync.{groupOf, hashAt, syncRight}
 use Rattle.laws.specs.Same.{same}

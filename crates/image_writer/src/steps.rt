@@ -15,7 +15,7 @@ fn put_image(work: &[u8], dc: &[u32], image: &mut [u8])
     ensures { λ _. ⌜ ImageWritten (now (work .entry)) (now (dc .entry)) (now (image .exit)) ⌝ }
 {
     let state = recording_writer::steps::put_frames(work, dc, State { hash: false }, image, 0);
-    frame_sync::steps::write_sync(state.hash, 0, image, 958272);
+    frame_sync::steps::write_sync(state.hash, 0, image, sizes::RECORDING);
     bit_writer::write_bit(image, 958302, 0);
     bit_writer::write_bit(image, 958303, 0);
 }

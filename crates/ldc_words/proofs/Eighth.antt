@@ -25,7 +25,8 @@ use Rattle.ldc.specs.LdcBlock.{dataByte, information, codeWord}
 use Rattle.ldc.specs.Places.{ldcPlace, wordIn, dataIn, frameIn}
 use Rattle.ldc.proofs.CodeWords.{length-frame-in}
 use Rattle.ldc.proofs.Interleaving.{place-column-lt}
-use Rattle.cluster.specs.Multiplex.{ldcIndex, wordIndex, ldcIn}
+use Rattle.cluster.specs.Multiplex.{ldcIndex, ldcIn}
+use Rattle.cluster.specs.steps.Places.{wordIndex}
 use Rattle.cluster.specs.Reading.{wrongWord, dataFrameIn, wrongSector, userByteIn}
 use Rattle.ldc_words.specs.steps.Eighth.{RunOf, BytesTaken, BytesPut, WordsTaken, WordsPut, LdcPut, eighthWord, eighthFrame, informationOf, completed, completedWords, framesOf, wrongOf, wrongFrame, userOf}
 use Rattle.cluster.proofs.Places.{word-index-lt, word-index-inj}

@@ -4,7 +4,7 @@ use crate::Words;
 ghost use mathlib.Core.Path.{_≡_};
 ghost use Prim.Native.Nat.{ℕ, _+_, _*_, _<_, _≤_};
 ghost use lib.ListN.{length};
-ghost use Rattle.cluster.specs.Multiplex.{wordIndex};
+ghost use Rattle.cluster.specs.steps.Places.{wordIndex};
 ghost use Rattle.ldc_words.specs.steps.Eighth.{RunOf, BytesTaken, WordsTaken, BytesPut, WordsPut, informationOf};
 ghost use Rattle.sizes.specs.Sizes.{workSize};
 

@@ -19,7 +19,7 @@ use Rattle.modulation.specs.Modulation.{m000, threeNumber}
 use Rattle.modulation.specs.Bits.{three, bits}
 use Rattle.modulation.proofs.Bits.{three-more}
 use Rattle.modulation.proofs.Fronts.{three-below}
-use Rattle.modulation.specs.Groups.{Inside, groupsAt}
+use Rattle.modulation.specs.steps.Groups.{Inside, groupsAt}
 
 pub length-groupsAt : (b : List ℕ) (p n : ℕ) → length (groupsAt b p n) ≡ n
 unfolding groupsAt

@@ -14,7 +14,7 @@ use Rattle.bits.proofs.Concat.{number-append}
 use Rattle.bits.proofs.Number.{number-lt}
 use Rattle.modulation.specs.Modulation.{Two, Modulated, modulate}
 use Rattle.modulation.specs.Bits.{dataBits, bits}
-use Rattle.modulation.specs.Pairs.{twoOf}
+use Rattle.modulation.specs.steps.Pairs.{twoOf}
 use Rattle.modulation.proofs.Bits.{bits-append, length-bits}
 use Rattle.modulation.proofs.Fronts.{bits-groups}
 use Rattle.modulation.specs.Machine.{waiting, stop, put}

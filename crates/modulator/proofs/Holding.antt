@@ -20,7 +20,7 @@ use Rattle.modulation.proofs.Bits.{bits-append, length-bits}
 use Rattle.modulation.proofs.Fronts.{bits-groups}
 use Rattle.modulation.specs.Machine.{stop, put}
 use Rattle.modulator.specs.steps.Table.{waitOf, stateBit, waits, stopEntry, nibbleEntry, lastEntry}
-use Rattle.modulation.specs.Pairs.{nibblePairs}
+use Rattle.modulation.specs.steps.Pairs.{nibblePairs}
 use Rattle.modulator.proofs.Runs.{shifted, from, Moves, moves-on, nibble-moves}
 
 -- ---- a number cut in two

@@ -12,7 +12,7 @@ use Rattle.bits.specs.Bits.{number}
 use Rattle.bits.proofs.Concat.{number-append}
 use Rattle.modulation.specs.Modulation.{Two, Three, Modulated}
 use Rattle.modulation.specs.Bits.{bits}
-use Rattle.modulation.specs.Pairs.{twoOf, nibblePairs, bytePairs}
+use Rattle.modulation.specs.steps.Pairs.{twoOf, nibblePairs, bytePairs}
 use Rattle.modulation.proofs.Bits.{bits-append, length-bits}
 use Rattle.modulation.specs.Machine.{Wait, w, w00, w0000, w000000, w000010, w11, w1101, w110111, w11011100, w1101110000, waiting, Step, step, put, machine}
 use Rattle.modulator.specs.steps.Table.{waitOf, stateBit, stateNumber, waits, stepEntry, joined, nibbleEntry, byteEntry}

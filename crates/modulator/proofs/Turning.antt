@@ -15,7 +15,7 @@ use Rattle.modulation.specs.Modulation.{Two, Modulated, modulate}
 use Rattle.modulation.specs.Bits.{bits}
 use Rattle.modulation.proofs.Machine.{machine-is}
 use Rattle.modulator.specs.steps.Table.{byteEntry, lastEntry}
-use Rattle.modulation.specs.Pairs.{nibblePairs, bytePairs}
+use Rattle.modulation.specs.steps.Pairs.{nibblePairs, bytePairs}
 use Rattle.modulator.specs.steps.Put.{Put, FramePut}
 use Rattle.modulator.proofs.Runs.{from, byte-moves}
 use Rattle.modulator.proofs.Holding.{Holding, hold-none, hold-more, hold-put, hold-lt, last-bits, last-lt, last-end}

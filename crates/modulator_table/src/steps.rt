@@ -152,7 +152,7 @@ pub fn fill_table(table: &mut Table)
     requires { ⌜ length (now table) ≡ 5440 ⌝ }
     ensures { λ _. ⌜ now (table .exit) ≡ lentTable ⌝ }
 {
-    let rows = rows::steps::packed_rows();
+    let rows = conversion_rows::steps::packed_rows();
     let nibbles = make_nibbles(&rows);
     let stops = make_stops(&rows);
     let mut k = 0;

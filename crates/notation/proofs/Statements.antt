@@ -16,8 +16,8 @@ use Rattle.laws.proofs.Tabulate.{is-tabulate, getD-tabulate}
 use Rattle.notation.specs.declared.PsnText.the-variants.{Number, NoNumber}
 use Rattle.notation.specs.Psn.{digitOf, valueTo, noDigit, psnOf}
 use Rattle.notation.proofs.Digits.{a-digit, eight-digits}
-use Rattle.words.specs.Words.{wordAt, fourBytes}
-use Rattle.words.proofs.Words.{word-back, byte-of-word}
+use Rattle.big_endian.specs.Words.{wordAt, fourBytes}
+use Rattle.big_endian.proofs.Words.{word-back, byte-of-word}
 use Rattle.notation.specs.Words.{wordsOf, dcByte, bytesOf}
 
 -- ---- dc words

@@ -8,7 +8,7 @@ use lib.ListN.{length, getD}
 use Rattle.laws.proofs.Fill.{Upto, upto-all}
 use Rattle.laws.proofs.Tabulate.{length-tabulate}
 use Rattle.notation.specs.Words.{wordCount, wordsOf, dcByte, bytesOf, wordsRead, bytesRead}
-use Rattle.words.specs.Words.{wordAt, fourBytes}
+use Rattle.big_endian.specs.Words.{wordAt, fourBytes}
 
 -- ---- how many
 

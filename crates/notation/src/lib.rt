@@ -1,7 +1,7 @@
 // How the programs' arguments and files write a PSN and the dc words.
 use address::Psn;
-use words::steps::word_at;
-use words::word_bytes;
+use big_endian::steps::word_at;
+use big_endian::word_bytes;
 ghost use mathlib.Core.Path.{_≡_};
 ghost use Prim.Native.Nat.{_≤_};
 ghost use Rattle.sizes.specs.Sizes.{frameCount};
@@ -50,7 +50,7 @@ pub fn psn_of(text: &[u8]) -> PsnText
 pub fn word_count(bytes: usize) -> usize
     ensures { λ r. ⌜ (r ≤ frameCount) × (r ≡ wordCount bytes) ⌝ }
 {
-    if bytes != 1984 {
+    if bytes != sizes::DC {
         return 0;
     }
     sizes::FRAMES
@@ -60,7 +60,7 @@ pub fn word_count(bytes: usize) -> usize
 pub fn words_of(bytes: &[u8], words: &mut [u32])
     ensures { λ _. ⌜ now (words .exit) ≡ wordsRead (now (bytes .entry)) (now (words .entry)) ⌝ }
 {
-    if bytes.len() != 1984 {
+    if bytes.len() != sizes::DC {
         return;
     }
     if words.len() != sizes::FRAMES {
@@ -80,11 +80,11 @@ pub fn bytes_of(words: &[u32], bytes: &mut [u8])
     if words.len() != sizes::FRAMES {
         return;
     }
-    if bytes.len() != 1984 {
+    if bytes.len() != sizes::DC {
         return;
     }
     let mut k = 0;
-    while k < 1984 {
+    while k < sizes::DC {
         let four = word_bytes(words[k / 4]);
         bytes[k] = four[k % 4];
         k += 1;

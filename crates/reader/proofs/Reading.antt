@@ -19,7 +19,7 @@ use Rattle.strict_cluster.specs.Outcome.{accepted, cleared, outcomeBy}
 use Rattle.cluster_tests.specs.steps.Tested.{clusterAnswer}
 use Rattle.strict_cluster.specs.steps.Given.{clusterOutcome}
 use Rattle.reader.specs.Outcome.{Lent, Outcome, imageAnswer, imageOutcome, sizesAnswer, outcome}
-use Rattle.reader.specs.Read.{RecordingTested}
+use Rattle.reader.specs.steps.Read.{RecordingTested}
 
 -- ---- tests 9 to 11; a is what 9 and 10 answer, d whether it is `Done`
 

@@ -8,7 +8,7 @@ ghost use Rattle.bits.specs.Bits.{bitsOf};
 ghost use Rattle.answer.specs.Answer.{numberOf};
 ghost use Rattle.reader.specs.Outcome.{outcome};
 ghost use Rattle.reader.specs.Promise.{ReadsExactly};
-ghost use Rattle.reader.specs.Read.{RecordingTested};
+ghost use Rattle.reader.specs.steps.Read.{RecordingTested};
 
 // What the reader answers; the PSN is 0 on refusal.
 pub struct Read {

@@ -9,7 +9,7 @@ ghost use Rattle.modulator.specs.steps.Table.{lentTable};
 ghost use Rattle.frame_writer.specs.steps.Written.{FrameWritten};
 ghost use Rattle.cluster.specs.EccCluster.{rowOf};
 ghost use Rattle.recording_writer.specs.steps.Written.{FramesWritten};
-ghost use Rattle.sizes.specs.Sizes.{workSize, frameCount, frameSize};
+ghost use Rattle.sizes.specs.Sizes.{workSize, frameCount, frameSize, recordingSize};
 
 // Frame n from the row that is shown of the cluster, in its place in a recording from bit `at` on.
 fn put_frame(
@@ -21,7 +21,7 @@ fn put_frame(
     image: &mut [u8],
     at: usize,
 ) -> State
-    requires { ⌜ ((now table ≡ lentTable) × ((length (now work) ≡ workSize) × (length (now dc) ≡ frameCount))) × ((n < frameCount) × (at + 958272 < 18446744073709551616)) ⌝ }
+    requires { ⌜ ((now table ≡ lentTable) × ((length (now work) ≡ workSize) × (length (now dc) ≡ frameCount))) × ((n < frameCount) × (at + recordingSize < 18446744073709551616)) ⌝ }
     ensures { λ r. ⌜ FrameWritten (syncNumber n) (state .hash) (rowOf (now (work .entry)) n) (getD (now (dc .entry)) n 0) (now (image .entry)) (at + frameSize * n) (now (image .exit)) (r .hash) ⌝ }
 {
     let row = cluster::row(work, n);
@@ -39,7 +39,7 @@ fn put_frame(
 
 // The 496 frames, from bit `at` on. `first` has # of the first sync, and the answer # of the sync behind them.
 pub fn put_frames(work: &[u8], dc: &[u32], first: State, image: &mut [u8], at: usize) -> State
-    requires { ⌜ ((length (now work) ≡ workSize) × (length (now dc) ≡ frameCount)) × (at + 958272 < 18446744073709551616) ⌝ }
+    requires { ⌜ ((length (now work) ≡ workSize) × (length (now dc) ≡ frameCount)) × (at + recordingSize < 18446744073709551616) ⌝ }
     ensures { λ r. ⌜ FramesWritten (first .hash) (now (work .entry)) (now (dc .entry)) (now (image .entry)) at frameCount (now (image .exit)) (r .hash) ⌝ }
 {
     let mut table = modulator_table::steps::no_table();

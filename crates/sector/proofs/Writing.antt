@@ -9,8 +9,8 @@ use lib.Dec.{eqb}
 use lib.ListN.{length, take, drop, length-drop, drop-of-length-le}
 use lib.Seq.{take-all, take-at, drop-at}
 use Rattle.laws.specs.Bytes.{Bytes}
-use Rattle.words.specs.Words.{wordAt, fourBytes}
-use Rattle.words.proofs.Words.{word-at-number}
+use Rattle.big_endian.specs.Words.{wordAt, fourBytes}
+use Rattle.big_endian.proofs.Words.{word-at-number}
 use Rattle.edc.specs.Edc.{edcOf, edcBytes}
 use Rattle.scrambling.specs.Scrambling.{scrambled}
 use Rattle.sector.specs.DataFrame.{dataFrame, edcRight, framed, framedOf}

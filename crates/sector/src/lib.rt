@@ -1,9 +1,9 @@
 // 13.2 to 13.4: data frames of sectors.
+use big_endian::steps::word_at;
+use big_endian::word_bytes;
 use edc::edc;
 use scrambling::scramble;
 use slices::steps::copy_bytes;
-use words::steps::word_at;
-use words::word_bytes;
 ghost use mathlib.Core.Path.{_≡_};
 ghost use lib.ListN.{length};
 ghost use Rattle.sector.specs.DataFrame.{dataFrame, edcRight, framed, framedOf};

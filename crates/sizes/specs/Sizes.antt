@@ -13,6 +13,10 @@ sideSize = 592
 abbrev pub frameCount : ℕ
 frameCount = 496
 
+-- the dc words as bytes, four each
+abbrev pub dcSize : ℕ
+dcSize = 1984
+
 -- a row of the ECC cluster, in bytes
 abbrev pub rowSize : ℕ
 rowSize = 155
@@ -24,6 +28,10 @@ workSize = 76880
 -- a modulated frame with its sync, in bits
 abbrev pub frameSize : ℕ
 frameSize = 1932
+
+-- the frames of a cluster, in bits
+abbrev pub recordingSize : ℕ
+recordingSize = 958272
 
 -- the image, in bytes
 abbrev pub imageSize : ℕ

@@ -9,6 +9,9 @@ pub const SIDE: usize = 592;
 // The recording frames of a cluster: as many rows has the ECC cluster, and as many dc words there are.
 pub const FRAMES: usize = 496;
 
+// The dc words as bytes, four each.
+pub const DC: usize = 1984;
+
 // A row of the ECC cluster, in bytes.
 pub const ROW: usize = 155;
 
@@ -17,6 +20,9 @@ pub const WORK: usize = 76880;
 
 // A modulated frame with its sync, in bits.
 pub const FRAME: usize = 1932;
+
+// The frames of a cluster, in bits.
+pub const RECORDING: usize = 958272;
 
 // The image, in bytes.
 pub const IMAGE: usize = 119788;

@@ -4,7 +4,7 @@ ghost use Prim.Native.Nat.{_<_};
 ghost use lib.ListN.{length};
 ghost use Rattle.frame_bits.specs.FrameBits.{rowFrom, dcFrom};
 ghost use Rattle.frame_bits.specs.steps.Slices.{FiveBytes};
-ghost use Rattle.modulation.specs.Words.{bitsIn, Words};
+ghost use Rattle.modulation.specs.steps.Words.{bitsIn, Words};
 ghost use Rattle.sizes.specs.Sizes.{rowSize};
 
 // The five bytes of a frame's row at 5 m, as a number: 40 of the 45 data bits from 40 m on, out of two words. 35184372088832 is 2^45.

@@ -6,7 +6,7 @@ ghost use Rattle.bits.specs.Bits.{bitsOf};
 ghost use Rattle.modulation.specs.Bits.{pairs};
 ghost use Rattle.frame_bits.specs.FrameBits.{frameBits};
 ghost use Rattle.frame_bits.specs.steps.Words.{Word, GroupData, SixteenFrom, SixteenOn, bitOf, LastTwo};
-ghost use Rattle.modulation.specs.Words.{bitsIn, Words};
+ghost use Rattle.modulation.specs.steps.Words.{bitsIn, Words};
 ghost use Rattle.sizes.specs.Sizes.{rowSize};
 
 // Four bytes of a row, from byte i on.

@@ -13,7 +13,7 @@ use Rattle.lengths.proofs.RightLengths.{lengths-done}
 use Rattle.address.specs.Judged.{judged}
 use Rattle.image.specs.Image.{Input, cluster, image}
 use Rattle.image_writer.specs.steps.Written.{Filled}
-use Rattle.parts.specs.Parts.{firstTooLarge, partsAnswer}
+use Rattle.input_tests.specs.Parts.{firstTooLarge, partsAnswer}
 use Rattle.writer.specs.Outcome.{answer, written, outcome}
 
 -- ---- an input that passes; its lengths, and those of image and work

@@ -16,7 +16,7 @@ use Rattle.answer.specs.declared.Answer.the-variants.{Done, DcWord}
 use Rattle.answer.specs.Answer.{numberOf, placeOf, isDone, lowest}
 use Rattle.answer.proofs.Tests.{number-zero, done-or-not, then-next, lowest-none}
 use Rattle.lengths.proofs.RightLengths.{lengths-right}
-use Rattle.parts.specs.Parts.{tooLarge, firstTooLarge, partsAnswer}
+use Rattle.input_tests.specs.Parts.{tooLarge, firstTooLarge, partsAnswer}
 use Rattle.writer.specs.Outcome.{answer, Outcome, outcome}
 use Rattle.writer.specs.Promise.{WellFormed, WritesExactly}
 use Rattle.writer.proofs.Judging.{passed-all}

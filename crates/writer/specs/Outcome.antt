@@ -6,7 +6,7 @@ use lib.ListN.{length}
 use Rattle.answer.specs.declared.Answer.{Answer}
 use Rattle.answer.specs.Answer.{isDone, andThen}
 use Rattle.lengths.specs.Lengths.{lengthsAnswer}
-use Rattle.parts.specs.Parts.{partsAnswer}
+use Rattle.input_tests.specs.Parts.{partsAnswer}
 use Rattle.image.specs.Image.{Input, cluster, image}
 
 -- ---- the tests 1 to 8, in rising order

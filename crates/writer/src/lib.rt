@@ -5,7 +5,7 @@ ghost use mathlib.Core.Path.{_≡_};
 ghost use lib.ListN.{length};
 ghost use Rattle.answer.specs.Answer.{numberOf, andThen};
 ghost use Rattle.lengths.specs.Lengths.{lengthsAnswer};
-ghost use Rattle.parts.specs.Parts.{partsAnswer};
+ghost use Rattle.input_tests.specs.Parts.{partsAnswer};
 ghost use Rattle.writer.specs.Outcome.{outcome};
 ghost use Rattle.writer.specs.Promise.{WritesExactly};
 
@@ -15,7 +15,7 @@ fn judge(user: usize, psn: Psn, side: usize, dc: &[u32], image: usize, work: usi
 {
     let given = lengths::judge(user, side, dc.len(), image, work);
     if given.is_done() {
-        return parts::steps::judge(psn, dc);
+        return input_tests::steps::judge(psn, dc);
     }
     given
 }

@@ -5,7 +5,7 @@ use Prim.Native.Nat.{ℕ, _+_, _*_, _-_, _/_, _%_, _^_, _<_, _≤_}
 use lib.ListN.{getD, drop}
 use Rattle.bits.specs.Bits.{bitsOf}
 use Rattle.modulation.specs.Modulation.{Two}
-use Rattle.modulation.specs.Pairs.{nibblePairs}
+use Rattle.modulation.specs.steps.Pairs.{nibblePairs}
 
 -- a number of n bits: those of f from p on
 pub record Word (n : ℕ) (f : ℕ → ℕ) (p w : ℕ) : Type 0 where

@@ -12,7 +12,7 @@ use Rattle.column.specs.Column.{parity, hasRoots}
 use Rattle.sector.specs.DataFrame.{edcRight}
 use Rattle.scrambling.specs.Scrambling.{scrambled}
 use Rattle.ldc.specs.LdcBlock.{dataByte, codeWord}
-use Rattle.cluster.specs.Multiplex.{wordIndex}
+use Rattle.cluster.specs.steps.Places.{wordIndex}
 use Rattle.sizes.specs.Sizes.{workSize}
 
 -- ---- code words in the cluster

@@ -4,7 +4,7 @@ use native.Mathlib.Omega.{arith}
 use mathlib.Core.Path.{_≡_}
 use lib.ListN.{length}
 use Rattle.laws.proofs.Fill.{Upto, upto-none, upto-more}
-use Rattle.words.specs.Words.{wordAt}
+use Rattle.big_endian.specs.Words.{wordAt}
 use Rattle.notation.proofs.Words.{words-other-bytes, words-other-length, words-read}
 use borrow.Author.Needs.{needs}
 use Rattle.notation.proofs.words_of.Statement.{statement}

@@ -4,7 +4,7 @@ use Prim.Native.Nat.{ℕ, _+_}
 use native.Mathlib.Omega.{arith}
 use borrow.Author.Needs.{needs}
 use Rattle.bits.specs.Bits.{bitsOf}
-use Rattle.modulation.specs.Groups.{groupsAt}
+use Rattle.modulation.specs.steps.Groups.{groupsAt}
 use Rattle.automaton.specs.steps.Table.{After}
 use Rattle.demodulator_groups.proofs.Running.{more-read, still-small}
 use Rattle.demodulator_groups.proofs.steps.begin.Statement.{statement}

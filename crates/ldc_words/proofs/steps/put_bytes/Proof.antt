@@ -5,7 +5,7 @@ use borrow.Author.Needs.{needs}
 use lib.ListN.{getD, length-set}
 use Rattle.laws.specs.Scatter.{Scattered}
 use Rattle.laws.proofs.Scatter.{scattered-none, scattered-end}
-use Rattle.cluster.specs.Multiplex.{wordIndex}
+use Rattle.cluster.specs.steps.Places.{wordIndex}
 use Rattle.ldc_words.proofs.Eighth.{run-inside, put-turn}
 use Rattle.ldc_words.proofs.steps.put_bytes.Statement.{statement}
 use Rattle.ldc_words.proofs.steps.put_bytes.Tie as tie

@@ -2,7 +2,7 @@
 use Prim.Native.Nat.{_-_}
 use native.Mathlib.Omega.{arith}
 use borrow.Author.Needs.{needs}
-use Rattle.modulation.specs.Words.{bitsIn}
+use Rattle.modulation.specs.steps.Words.{bitsIn}
 use Rattle.frame_bits.proofs.Unweaving.{dcBit, NumberTo, number-none, number-more, number-all, number-room, dc-word, dc-of-word}
 use Rattle.unweaving.proofs.steps.dc_in.Statement.{statement}
 use Rattle.unweaving.proofs.steps.dc_in.Tie as tie

@@ -4,7 +4,7 @@ use native.Mathlib.Omega.{arith}
 use borrow.Author.Needs.{needs}
 use lib.ListN.{getD, length-set}
 use Rattle.laws.proofs.Fill.{Upto, upto-none}
-use Rattle.modulation.specs.Words.{bitsIn}
+use Rattle.modulation.specs.steps.Words.{bitsIn}
 use Rattle.frame_bits.specs.FrameBits.{rowFrom}
 use Rattle.frame_bits.proofs.Unweaving.{row-five, row-all, words-bits-bits}
 use Rattle.unweaving.proofs.steps.row_in.Statement.{statement}

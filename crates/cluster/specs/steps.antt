@@ -1,0 +1,2 @@
+-- What only steps need.
+pub mod Places

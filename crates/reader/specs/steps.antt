@@ -1,0 +1,2 @@
+-- What the steps leave.
+pub mod Read
