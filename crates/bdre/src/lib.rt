@@ -13,7 +13,7 @@ ghost use Rattle.marker.specs.Marked.{IsImageOf, marked};
 ghost use Rattle.address.specs.Conversions.{psnToPaa, paaToPsn, psnToAun, aunToPsn};
 ghost use Rattle.export_writer.specs.Exported.{writing};
 ghost use Rattle.export_reader.specs.Exported.{reading};
-ghost use Rattle.export_marker.specs.Exported.{marking};
+ghost use Rattle.export_marker.specs.Exported.{markedNumbers};
 ghost use Rattle.export_address.specs.Exported.{psnSeen, aunSeen, paaSeen};
 
 // Writes the image of a cluster.
@@ -64,7 +64,7 @@ pub extern "C" fn bdre_mark_image(
     work: &mut [u8],
 ) -> Marking
     ensures { λ r. ⌜ record { verdict = r .verdict; number = r .number; psn = r .psn; place = r .place; lent = record { user = now (bytes .exit); side = now (control .exit); dc = now (dc .exit); work = now (work .exit) } }
-        ≡ marking (marked psn (now (user .entry)) (now (side .entry)) (now (image .entry)) (record { user = now (bytes .entry); side = now (control .entry); dc = now (dc .entry); work = now (work .entry) })) ⌝ }
+        ≡ markedNumbers (marked psn (now (user .entry)) (now (side .entry)) (now (image .entry)) (record { user = now (bytes .entry); side = now (control .entry); dc = now (dc .entry); work = now (work .entry) })) ⌝ }
     ensures { λ r. ⌜ (RightSlices (record { user = now (bytes .entry); side = now (control .entry); dc = now (dc .entry); work = now (work .entry) })
         → (r .verdict ≡ 0) ↔ IsImageOf psn (now (user .entry)) (now (side .entry)) (now (image .entry))) ⌝ }
 {
@@ -74,7 +74,7 @@ pub extern "C" fn bdre_mark_image(
 // The PAA of the first word of the cluster at a PSN.
 #[no_mangle]
 pub extern "C" fn bdre_psn_to_paa(psn: u32) -> Converted
-    ensures { λ r. ⌜ record { number = r .number; value = r .value } ≡ paaSeen (psnToPaa psn) ⌝ }
+    ensures { λ r. ⌜ r ≡ paaSeen (psnToPaa psn) ⌝ }
 {
     export_address::psn_to_paa(psn)
 }
@@ -82,7 +82,7 @@ pub extern "C" fn bdre_psn_to_paa(psn: u32) -> Converted
 // The AUN of an address unit, 0 to 15, of the cluster at a PSN; 0 for a unit above 15.
 #[no_mangle]
 pub extern "C" fn bdre_psn_to_aun(psn: u32, unit: u32) -> Converted
-    ensures { λ r. ⌜ record { number = r .number; value = r .value } ≡ aunSeen (psnToAun psn unit) ⌝ }
+    ensures { λ r. ⌜ r ≡ aunSeen (psnToAun psn unit) ⌝ }
 {
     export_address::psn_to_aun(psn, unit)
 }
@@ -90,7 +90,7 @@ pub extern "C" fn bdre_psn_to_aun(psn: u32, unit: u32) -> Converted
 // The PSN of the cluster whose first word has a PAA.
 #[no_mangle]
 pub extern "C" fn bdre_paa_to_psn(paa: u32) -> Converted
-    ensures { λ r. ⌜ record { number = r .number; value = r .value } ≡ psnSeen (paaToPsn paa) ⌝ }
+    ensures { λ r. ⌜ r ≡ psnSeen (paaToPsn paa) ⌝ }
 {
     export_address::paa_to_psn(paa)
 }
@@ -98,7 +98,7 @@ pub extern "C" fn bdre_paa_to_psn(paa: u32) -> Converted
 // The PSN of the cluster that holds the address unit with an AUN.
 #[no_mangle]
 pub extern "C" fn bdre_aun_to_psn(aun: u32) -> Converted
-    ensures { λ r. ⌜ record { number = r .number; value = r .value } ≡ psnSeen (aunToPsn aun) ⌝ }
+    ensures { λ r. ⌜ r ≡ psnSeen (aunToPsn aun) ⌝ }
 {
     export_address::aun_to_psn(aun)
 }

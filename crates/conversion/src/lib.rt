@@ -1,4 +1,4 @@
-// Data bits to modulation bits by the rows of Figure 38 (13.17.2), a few pairs at a time: types and definitions. `rows` has the rows, `few_pairs` the
+// Data bits to modulation bits by the rows of Figure 38 (13.17.2), a few pairs at a time: types and definitions. `conversion_rows` has the rows, `few_pairs` the
 // conversion.
 
 // When a row may be taken.

@@ -5,7 +5,7 @@ use demodulator_groups::steps::begin;
 use demodulator_words::steps::last_word;
 use demodulator_words::steps::next_word;
 ghost use mathlib.Core.Path.{_≡_};
-ghost use Prim.Native.Nat.{_+_, _<_};
+ghost use Prim.Native.Nat.{_<_};
 ghost use lib.ListN.{take, drop};
 ghost use Rattle.bits.specs.Bits.{bitsOf};
 ghost use Rattle.modulation.specs.steps.Groups.{Inside};

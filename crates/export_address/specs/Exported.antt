@@ -1,23 +1,15 @@
 -- What a caller in another language sees of a conversion: document 01's number instead of an enum, bare numbers instead of PSN, AUN and PAA.
-use Prim.Native.Nat.{ℕ}
-use Rattle.answer.specs.declared.Answer.{Answer}
-use Rattle.answer.specs.Answer as Answer
 use Rattle.address.specs.declared.PsnAnswer.{PsnAnswer}
 use Rattle.address.specs.declared.AunAnswer.{AunAnswer}
 use Rattle.address.specs.declared.PaaAnswer.{PaaAnswer}
+use Rattle.answer_numbers.specs.declared.Converted.{Converted}
+use Rattle.answer_numbers.specs.Numbers.{converted}
 
-pub record Number : Type 0 where
-  pub number : ℕ
-  pub value : ℕ
+abbrev pub psnSeen : PsnAnswer → Converted
+psnSeen a = converted (a .answer) (a .psn .0)
 
-abbrev pub numbered : Answer → ℕ → Number
-numbered a value = record { number = Answer.numberOf a; value = value }
+abbrev pub aunSeen : AunAnswer → Converted
+aunSeen a = converted (a .answer) (a .aun .0)
 
-abbrev pub psnSeen : PsnAnswer → Number
-psnSeen a = numbered (a .answer) (a .psn .0)
-
-abbrev pub aunSeen : AunAnswer → Number
-aunSeen a = numbered (a .answer) (a .aun .0)
-
-abbrev pub paaSeen : PaaAnswer → Number
-paaSeen a = numbered (a .answer) (a .paa .0)
+abbrev pub paaSeen : PaaAnswer → Converted
+paaSeen a = converted (a .answer) (a .paa .0)

@@ -8,7 +8,7 @@ use Rattle.verdict.specs.declared.Verdict.the-variants.{Pass, Refused, OtherPsn
 use Rattle.verdict.specs.Verdict.{kindOf, refusalIn, ownPsn, placeIn}
 use Rattle.marker.specs.Marked as marker
 use Rattle.answer_numbers.specs.declared.Marking.{Marking}
-use Rattle.export_marker.specs.Exported.{marking}
+use Rattle.export_marker.specs.Exported.{markedNumbers}
 
 pass-is : (v : Verdict) → kindOf v ≡ 0 → v ≡ Pass
 pass-is Pass e = refl
@@ -24,8 +24,8 @@ same-pass kind v P hk h = (λ e. h .0 (pass-is v (sym hk ∙ e)), λ p. hk ∙ a
 pub same-marking : {r : Marking} {v : Verdict} {lent : reader.Lent} {m : marker.Marked} {F P : Type 0}
     → r ≡ record { verdict = kindOf v; number = refusalIn v; psn = ownPsn v; place = placeIn v }
     → (record { verdict = v; lent = lent } ≡ m) × (F → (v ≡ Pass) ↔ P)
-    → (record { verdict = r .verdict; number = r .number; psn = r .psn; place = r .place; lent = lent } ≡ marking m) × (F → (r .verdict ≡ 0) ↔ P)
+    → (record { verdict = r .verdict; number = r .number; psn = r .psn; place = r .place; lent = lent } ≡ markedNumbers m) × (F → (r .verdict ≡ 0) ↔ P)
 same-marking {r} {v} {lent} {P = P} hr h = (
-  ap (λ (r : Marking). record { verdict = r .verdict; number = r .number; psn = r .psn; place = r .place; lent = lent }) hr ∙ ap marking (h .0),
+  ap (λ (r : Marking). record { verdict = r .verdict; number = r .number; psn = r .psn; place = r .place; lent = lent }) hr ∙ ap markedNumbers (h .0),
   λ f. same-pass (r .verdict) v P (ap (λ (r : Marking). r .verdict) hr) (h .1 f),
 )

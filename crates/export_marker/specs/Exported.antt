@@ -5,12 +5,12 @@ use Rattle.verdict.specs.Verdict.{kindOf, refusalIn, ownPsn, placeIn}
 use Rattle.marker.specs.Marked as marker
 
 -- the verdict as a number, its parts, and the four slices that it is lent
-pub record Marking : Type 0 where
+pub record MarkedNumbers : Type 0 where
   pub verdict : ℕ
   pub number : ℕ
   pub psn : ℕ
   pub place : ℕ
   pub lent : reader.Lent
 
-abbrev pub marking : marker.Marked → Marking
-marking m = record { verdict = kindOf (m .verdict); number = refusalIn (m .verdict); psn = ownPsn (m .verdict); place = placeIn (m .verdict); lent = m .lent }
+abbrev pub markedNumbers : marker.Marked → MarkedNumbers
+markedNumbers m = record { verdict = kindOf (m .verdict); number = refusalIn (m .verdict); psn = ownPsn (m .verdict); place = placeIn (m .verdict); lent = m .lent }

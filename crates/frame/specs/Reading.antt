@@ -1,5 +1,5 @@
 -- A frame read strictly: the row and the dc word, if any, that give the 1,902 modulation bits behind its sync and # of the next sync.
-use mathlib.Core.Bool.{Bool, true, false, _&&_, Bool·beq, cond}
+use mathlib.Core.Bool.{Bool, false, _&&_, Bool·beq, cond}
 use mathlib.Core.List.{List}
 use mathlib.Core.Path.{_≡_}
 use Prim.Native.Nat.{ℕ, _^_, _<_}

@@ -1,10 +1,10 @@
 -- Document 01's tests 9 to 16, each as an answer: `Done`, or the refusal with the lowest place that fails.
 use mathlib.Core.Bool.{Bool, _&&_, cond}
 use mathlib.Core.List.{List}
-use Prim.Native.Nat.{ℕ}
+use Prim.Native.Nat.{ℕ, _+_}
 use lib.Dec.{eqb}
 use lib.ListN.{getD}
-use Rattle.sizes.specs.Sizes.{frameCount}
+use Rattle.sizes.specs.Sizes.{frameCount, recordingSize}
 use Rattle.answer.specs.declared.Answer.{Answer}
 use Rattle.answer.specs.declared.Answer.the-variants.{Done, LastBits, Sync, Frame, BisColumn, AddressUnit, NoPsn, LdcColumn, Sector}
 use Rattle.answer.specs.Answer.{lowest}
@@ -20,7 +20,7 @@ use Rattle.recording.specs.Reading.{firstWrongSync, firstNoFrame}
 
 -- 9: the last two are zero
 unfoldable pub lastBitsAnswer : List ℕ → Answer
-lastBitsAnswer b = cond (eqb (getD b 958302 0) 0 && eqb (getD b 958303 0) 0) Done LastBits
+lastBitsAnswer b = cond (eqb (getD b (recordingSize + 30) 0) 0 && eqb (getD b (recordingSize + 31) 0) 0) Done LastBits
 
 -- ---- in the bits b of a recording, from its first on
 

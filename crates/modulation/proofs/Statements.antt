@@ -3,7 +3,7 @@ use mathlib.Core.Bool.{Bool, Bool·beq}
 use mathlib.Core.List.{List, _∷_, _++_, append-assoc}
 use mathlib.Core.Logic.{_↔_}
 use mathlib.Core.Path.{_≡_, refl, ap, subst, _∙_}
-use Prim.Native.Nat.{ℕ, zero, suc, _*_, _-_, _%_, _<_, _≤_}
+use Prim.Native.Nat.{ℕ, zero, suc, _*_, _%_, _<_, _≤_}
 use native.Mathlib.Omega.{arith}
 use borrow.Author.Tests.{lt-ltb}
 use lib.Dec.{leb, leb→le, ltb}
@@ -12,7 +12,7 @@ use Rattle.laws.proofs.Finite.{all, all-at, all₂, all₂-at}
 use Rattle.bits.specs.Bits.{Bits}
 use Rattle.modulation.specs.Modulation.{Two, rows, rowAt, fits, choose, terminates, Modulated, modulateFrom, modulate}
 use Rattle.modulation.specs.Bits.{pairs, dataBits, bits, ones}
-use Rattle.modulation.specs.Sync.{FS, FS0, sync, syncNumber}
+use Rattle.modulation.specs.Sync.{FS, sync}
 use Rattle.modulation.specs.Stream.{Recording, modulated, run, stream, Full}
 use Rattle.modulation.specs.Gaps.{LongGaps, Spaced, EndsLong, NoSeven}
 use Rattle.modulation.specs.Demodulator.{demodulate}
@@ -23,8 +23,6 @@ use Rattle.modulation.proofs.Words
 use Rattle.modulation.proofs.Size
 use Rattle.modulation.proofs.Demodulator
 use Rattle.modulation.proofs.Limits
-use Rattle.modulation.proofs.Unique
-use Rattle.modulation.proofs.Syncs
 
 -- ---- the table (13.17.2)
 
@@ -127,20 +125,3 @@ module _ (hash : Bool) (n : FS) (ds : List Two) (next : FS) (full : length ds �
   pub frame-no-seven : NoSeven (framed hash n ds next)
   unfolding one
   frame-no-seven = subst NoSeven is-stream (no-seven one 1 (λ k h. full))
-
--- ---- uniqueness
-
--- equal runs of full frames behind the same syncs have equal first # and equal data bits
-pub unique : (c d : Recording) (n : ℕ) → ((k : ℕ) → k < n → c .number k ≡ d .number k) → Full c n → Full d n → bits (stream c n) ≡ bits (stream d n)
-    → (c .first ≡ d .first) × ((k : ℕ) → k < n → c .frames k ≡ d .frames k)
-unique = Unique.unique
-
--- ---- the order of the frame syncs (13.17.4; Figure 41 itself: proofs/Syncs `figure-41`)
-
--- Figure 40: a recording frame is identified, in its address unit, by its own frame sync and that of the frame 1, 2, 3 or 4 before it
-pub identified : (k m n : ℕ) → 1 ≤ k → k ≤ 4 → k ≤ m → k ≤ n → syncNumber m ≡ syncNumber n → syncNumber (m - k) ≡ syncNumber (n - k) → m % 31 ≡ n % 31
-identified = Syncs.identified
-
--- the first recording frame of each address unit has a unique frame sync, FS0
-pub first-unique : (n : ℕ) → (syncNumber n ≡ FS0) ↔ (n % 31 ≡ 0)
-first-unique = Syncs.first-unique

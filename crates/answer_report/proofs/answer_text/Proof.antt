@@ -1,4 +1,4 @@
--- `answer_text` meets its contract: number, place and meaning (Words).
+-- `answer_text` meets its contract: number, place and meaning (report, Words).
 use Rattle.report.proofs.Words.{answer-is}
 use Rattle.texts.specs.Pieces.{piece}
 use borrow.Author.Needs.{needs}

@@ -1,4 +1,4 @@
--- `put_meaning` meets its contract: each answer's piece is computed (Words).
+-- `put_meaning` meets its contract: each answer's piece is computed (report, Words).
 use mathlib.Core.Path.{refl}
 use Rattle.answer.specs.declared.Answer.the-variants.{Done, WrongUser, WrongSide, WrongDc, WrongImage, WrongWork, NoMultiple, NoZone, DcWord, LastBits, Sync, Frame, BisColumn, AddressUnit, NoPsn, LdcColumn, Sector}
 use Rattle.texts.specs.Pieces.{piece}

@@ -1,4 +1,4 @@
--- `psn_text` meets its contract: a text that has room (Words).
+-- `psn_text` meets its contract: a text that has room (report, Words).
 use Rattle.report.proofs.Words.{psn-is}
 use borrow.Author.Needs.{needs}
 use Rattle.psn_report.proofs.psn_text.Statement.{statement}

@@ -1,4 +1,4 @@
--- `verdict_text` meets its contract: the words of each verdict (Words).
+-- `verdict_text` meets its contract: the words of each verdict (report, Words).
 use Rattle.report.proofs.Words.{verdict-is, refused-is}
 use Rattle.report.specs.Words.{verdictText}
 use Rattle.texts.specs.Pieces.{piece}

@@ -1,4 +1,4 @@
--- `pushed_eight` meets its contract: the loop adds what the eight bytes leave (remainders, Eight). Assumes nothing.
+-- `pushed_eight` meets its contract: the loop adds what the eight bytes leave (register, Eight). Assumes nothing.
 use Prim.Native.Nat.{_+_, _-_}
 use lib.ListN.{getD}
 use native.Mathlib.Omega.{arith}

@@ -1,4 +1,4 @@
--- `fill_table` meets its contract: behind the entries for two groups those for three are made one by one (Entries). Assumes nothing.
+-- `fill_table` meets its contract: behind the entries for two groups those for three are made one by one (automaton, Entries). Assumes nothing.
 use mathlib.Core.Path.{_≡_}
 use Prim.Native.Nat.{_-_, _≤_}
 use native.Mathlib.Omega.{arith}

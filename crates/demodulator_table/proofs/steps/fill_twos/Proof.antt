@@ -1,4 +1,4 @@
--- `fill_twos` meets its contract: the entries are made one by one (Entries). Assumes nothing.
+-- `fill_twos` meets its contract: the entries are made one by one (automaton, Entries). Assumes nothing.
 use Prim.Native.Nat.{_-_}
 use native.Mathlib.Omega.{arith}
 use borrow.Author.Needs.{needs}

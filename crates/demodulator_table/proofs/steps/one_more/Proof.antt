@@ -1,4 +1,4 @@
--- `one_more` meets its contract: an entry of the automaton, which leaves room for the number (Entries). Assumes nothing.
+-- `one_more` meets its contract: an entry of the automaton, which leaves room for the number (automaton, Entries). Assumes nothing.
 use mathlib.Core.List.{List}
 use mathlib.Core.Path.{ap}
 use Prim.Native.Nat.{ℕ, _+_, _*_, _/_, _%_}

@@ -1,4 +1,4 @@
--- `three_at` meets its contract: the entry for two groups stands, and one group more (Entries). Assumes nothing.
+-- `three_at` meets its contract: the entry for two groups stands, and one group more (automaton, Entries). Assumes nothing.
 use mathlib.Core.Path.{_∙_}
 use Prim.Native.Nat.{_+_, _*_, _-_, _/_, _%_}
 use native.Mathlib.Omega.{arith}

@@ -1,4 +1,4 @@
--- `two_at` meets its contract: two groups, one by one, by a test (Entries). Assumes nothing.
+-- `two_at` meets its contract: two groups, one by one, by a test (automaton, Entries). Assumes nothing.
 use mathlib.Core.Path.{sym, ap, subst, _∙_}
 use Prim.Native.Nat.{ℕ, _/_, _%_, _<_}
 use native.Mathlib.Omega.{arith}

@@ -1,4 +1,4 @@
--- `two_on` meets its contract: a look-up moves state and number on (Entries). Assumes nothing.
+-- `two_on` meets its contract: a look-up moves state and number on (automaton, Entries). Assumes nothing.
 use mathlib.Core.List.{List}
 use mathlib.Core.Path.{refl, ap, _∙_}
 use Prim.Native.Nat.{ℕ, _+_, _*_, _%_}

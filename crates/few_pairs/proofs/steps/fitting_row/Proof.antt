@@ -1,4 +1,4 @@
--- `fitting_row` meets its contract: a search through the rows (conversion, Search), of which some row fits (Modulating). Assumes nothing.
+-- `fitting_row` meets its contract: a search through the rows (conversion, Search), of which some row fits (conversion, Modulating). Assumes nothing.
 use mathlib.Core.List.{tail}
 use Prim.Native.Nat.{_-_}
 use borrow.Author.Needs.{needs}

@@ -1,4 +1,4 @@
--- `psn_behind` meets its contract: three pieces (Words).
+-- `psn_behind` meets its contract: three pieces (report, Words).
 use Rattle.report.proofs.Words.{psn-behind-is}
 use borrow.Author.Needs.{needs}
 use Rattle.psn_report.proofs.steps.psn_behind.Statement.{statement}
