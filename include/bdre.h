@@ -1,4 +1,4 @@
-/* BD-RE clusters (ISO/IEC 30193:2021, clause 13) written, strictly read and marked: the functions of libbdre.a.
+/* BD-RE clusters (ISO/IEC 30193:2021, clause 13) written, strictly read and marked, and the parity of columns: the functions of libbdre.a.
  *
  * A slice is a pointer and the number of its elements. Two things are asked of a caller, here and nowhere else: each pointer is valid
  * (not null, even for 0 elements) for that many elements, and a slice that a call writes overlaps no other slice of that call. Every
@@ -17,6 +17,7 @@
  *    6  the PSN is no multiple of 32            14  no PSN in a data zone has these 16 address unit numbers
  *    7  the PSN lies in no data zone            15  the parity of LDC column `place` is wrong
  *    8  dc word `place` is above 0FFFFFFFh      16  the error-detection code of sector `place` is wrong
+ *   22  the data are not 1 to 223 bytes, or the parity slice is not 32 bytes long
  */
 #ifndef BDRE_H
 #define BDRE_H
@@ -35,6 +36,8 @@ extern "C" {
 #define BDRE_DC 496       /* dc words, one for each frame; bit 27 is the frame's first dc-control bit, bit 0 its last */
 #define BDRE_IMAGE 119788 /* image: 496 frames of 1,932 bits, the sync that follows, two zero bits; msb first */
 #define BDRE_WORK 76880   /* work: the ECC cluster */
+#define BDRE_COLUMN 223   /* the most data bytes of a column */
+#define BDRE_PARITY 32    /* the parity bytes of a column */
 
 struct bdre_answer {
     uint32_t number;
@@ -89,6 +92,11 @@ struct bdre_conversion bdre_psn_to_aun(uint32_t psn, uint32_t unit);
 
 /* The PSN of the cluster that holds the address unit with an AUN. 6: the AUN is odd. 7: the PSN lies in no data zone. */
 struct bdre_conversion bdre_aun_to_psn(uint32_t aun);
+
+/* The parity of a Reed-Solomon column with 1 to 223 data bytes (LDC columns have 216, BIS columns 30; a plant's embossed clusters have
+ * others). 0: parity holds the only 32 bytes that, behind the data, give the column its roots alpha^0 to alpha^31. 22: no data, more than
+ * 223 bytes of it, or a parity slice that is not 32 long; the slice is as it was. */
+struct bdre_answer bdre_parity(const uint8_t *data, size_t data_length, uint8_t *parity, size_t parity_length);
 
 #ifdef __cplusplus
 }

@@ -1,5 +1,5 @@
-//! BD-RE clusters (ISO/IEC 30193:2021, clause 13) written, strictly read and marked: safe calls of the functions of libbdre.a. Nothing is asked of
-//! the caller. bdre.h lists the numbers that are answered.
+//! BD-RE clusters (ISO/IEC 30193:2021, clause 13) written, strictly read and marked, and the parity of columns: safe calls of the functions of
+//! libbdre.a. Nothing is asked of the caller. bdre.h lists the numbers that are answered.
 
 /// User data: 32 sectors of 2,048 bytes.
 pub const USER: usize = 65_536;
@@ -11,6 +11,10 @@ pub const DC: usize = 496;
 pub const IMAGE: usize = 119_788;
 /// Work: the ECC cluster.
 pub const WORK: usize = 76_880;
+/// The most data bytes of a column.
+pub const COLUMN: usize = 223;
+/// The parity bytes of a column.
+pub const PARITY: usize = 32;
 
 #[repr(C)]
 #[derive(Clone, Copy, Debug, PartialEq, Eq)]
@@ -100,6 +104,7 @@ mod c {
         pub fn bdre_paa_to_psn(paa: u32) -> Conversion;
         pub fn bdre_psn_to_aun(psn: u32, unit: u32) -> Conversion;
         pub fn bdre_aun_to_psn(aun: u32) -> Conversion;
+        pub fn bdre_parity(data: *const u8, data_length: usize, parity: *mut u8, parity_length: usize) -> Answer;
     }
 }
 
@@ -197,4 +202,10 @@ pub fn psn_to_aun(psn: u32, unit: u32) -> Conversion {
 /// The PSN of the cluster that holds the address unit with an AUN. 6: the AUN is odd. 7: the PSN lies in no data zone.
 pub fn aun_to_psn(aun: u32) -> Conversion {
     unsafe { c::bdre_aun_to_psn(aun) }
+}
+
+/// The parity of a column with 1 to 223 data bytes. 0: `parity` holds the only 32 bytes that, behind the data, give the column its roots alpha^0
+/// to alpha^31. 22: no data, more than 223 bytes of it, or a parity slice that is not 32 long; the slice is as it was.
+pub fn parity(data: &[u8], parity: &mut [u8]) -> Answer {
+    unsafe { c::bdre_parity(data.as_ptr(), data.len(), parity.as_mut_ptr(), parity.len()) }
 }

@@ -6,8 +6,10 @@ use bench::both::{self, agree};
 use bench::clusters::{Cluster, Filled, Lent, LARGEST, ZONES};
 use bench::damage::{damage, Written};
 use bench::random::Random;
+use bench::reference::columns;
 use bench::reference::fast::Fast;
 use bench::reference::plain;
+use std::collections::BTreeMap;
 use std::time::Instant;
 
 // ---- refusals
@@ -115,6 +117,28 @@ fn conversions(r: &Random, count: usize) {
     println!("conversions: {} numbers in each of four", numbers.len());
 }
 
+// ---- columns
+
+/// Data of every length from 0 to 300 into parity slices of several lengths, then of random ones; the slice holds random bytes before.
+fn parities(r: &Random, count: usize) {
+    let every = (0..=300).flat_map(|n| [0, 31, 32, 33].map(|size| (n, size)));
+    let random: Vec<(usize, usize)> = (0..count).map(|_| (r.below(260), r.pick(&[32, 32, 32, r.below(300)]))).collect();
+    let mut calls = BTreeMap::new();
+    for (n, size) in every.chain(random) {
+        let (data, before) = (r.bytes(n), r.bytes(size));
+        let what = || format!("parity of {n} bytes {data:02X?} in {size}");
+        let (mut ours, mut theirs) = (before.clone(), before.clone());
+        let a = bdre::parity(&data, &mut ours);
+        let b = columns::parity_any(&data, &mut theirs);
+        agree((a.number, a.place) == b && ours == theirs, what);
+        agree(a.number == 0 || ours == before, what);
+        agree(a.number != 0 || columns::right(&[data.clone(), ours].concat(), 32), what);
+        *calls.entry(a.number).or_insert(0) += 1;
+    }
+    println!("parities: answered {calls:?} times");
+    agree(calls.keys().eq(&[0, 22]), || "an answer did not occur".into());
+}
+
 // ---- clusters and images
 
 fn clusters(r: &Random, fast: &mut Fast, count: usize, plain_every: usize) {
@@ -185,6 +209,7 @@ fn main() {
     lengths(r, &mut fast);
     refused_inputs(r, if short { 200 } else { 2000 });
     conversions(r, 1_000_000);
+    parities(r, if short { 1000 } else { 10_000 });
     clusters(r, &mut fast, if short { 30 } else { 240 }, if short { 4 } else { 1 });
     damaged(r, &mut fast, if short { 200 } else { 2000 }, if short { 10 } else { 1 });
     marks(r, &mut fast, if short { 30 } else { 300 });

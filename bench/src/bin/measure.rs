@@ -1,10 +1,12 @@
 //! Times writing, reading and marking of clusters by the library and by the reference's two paths and prints the medians; then how the time
-//! grows with the number of clusters. Library and fast path run in turn on each cluster, each first on every other, so that load falls on
-//! both; the plain path, which is slow, runs on some only. A word on the command line: how many clusters (default 400).
+//! grows with the number of clusters, and the time for a column's parity. Library and fast path run in turn on each cluster, each first on
+//! every other, so that load falls on both; the plain path, which is slow, runs on some only. A word on the command line: how many clusters
+//! (default 400).
 use bench::bdre;
 use bench::clusters::{Cluster, Filled, Lent};
 use bench::numbers;
 use bench::random::Random;
+use bench::reference::columns;
 use bench::reference::fast::Fast;
 use bench::reference::plain;
 use std::ops::Range;
@@ -149,6 +151,20 @@ fn growth(bench: &mut Bench, r: &Random) {
     }
 }
 
+/// Microseconds for the parity of a column, by the library and by the reference.
+fn parities(r: &Random) {
+    println!("us for a column's parity, medians of 1001");
+    println!("{:<12}{:>10}{:>12}", "data bytes", "library", "reference");
+    for n in [1, 30, 216, 223] {
+        let data = r.bytes(n);
+        let mut parity = [0; bdre::PARITY];
+        let median = |times: Vec<f64>| quantile(&mut times.clone(), 0.5) * 1000.0;
+        let library = median((0..1001).map(|_| timed(|| bdre::parity(&data, &mut parity)).1).collect());
+        let reference = median((0..1001).map(|_| timed(|| columns::parity_any(&data, &mut parity)).1).collect());
+        println!("{n:<12}{library:>10.1}{reference:>12.1}");
+    }
+}
+
 fn main() {
     let count = numbers("bench/run [CLUSTERS]").first().map_or(400, |&n| n.max(1));
     let r = &Random::new(0x7135);
@@ -167,4 +183,6 @@ fn main() {
     }
     println!();
     growth(bench, r);
+    println!();
+    parities(r);
 }

@@ -12,11 +12,12 @@ use std::collections::BTreeMap;
 const LIMIT: usize = 131_072;
 const ROOM: usize = 4 * LIMIT;
 
-/// The answers of writer, reader and conversions, and the marker's verdicts.
+/// The answers of writer, reader, conversions and parity, and the marker's verdicts.
 const WRITTEN: [u32; 9] = [0, 1, 2, 3, 4, 5, 6, 7, 8];
 const READ: [u32; 14] = [0, 1, 2, 3, 4, 5, 9, 10, 11, 12, 13, 14, 15, 16];
 const MARKED: [u32; 5] = [0, 1, 2, 3, 4];
 const CONVERTED: [u32; 3] = [0, 6, 7];
+const COMPLETED: [u32; 2] = [0, 22];
 
 /// Runs `call` with the stack pointer at `top`, which is a multiple of 16.
 unsafe fn call_at<F: FnMut()>(top: *mut u8, call: &mut F) {
@@ -152,12 +153,24 @@ fn conversions(stack: &mut Stack) -> usize {
     most.into_iter().max().unwrap()
 }
 
+fn parities(stack: &mut Stack, r: &Random) -> usize {
+    let mut parity = Operation::new("parity");
+    let data = r.bytes(255);
+    for n in 0..=255 {
+        for size in [0, 31, 32, 33] {
+            let mut lent = r.bytes(size);
+            parity.run(stack, || bdre::parity(&data[..n], &mut lent).number);
+        }
+    }
+    parity.most(&COMPLETED)
+}
+
 fn main() {
     let r = &Random::new(0x57AC);
     let stack = &mut Stack(vec![0; ROOM]);
     println!("bytes of stack");
     println!("{:<12}{:>10}{:>10}", "", "answer 0", "others");
-    let most = writes(stack, r).max(reads(stack, r)).max(conversions(stack));
+    let most = writes(stack, r).max(reads(stack, r)).max(conversions(stack)).max(parities(stack, r));
     println!("at most {most}; {LIMIT} are allowed");
     if most > LIMIT {
         std::process::exit(1);

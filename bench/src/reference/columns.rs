@@ -72,6 +72,15 @@ pub fn parity(data: &[u8], n: usize) -> Vec<u8> {
     buf[data.len()..].to_vec()
 }
 
+/// W-207: answers 0 or 22; nothing written on 22.
+pub fn parity_any(data: &[u8], par: &mut [u8]) -> (u32, usize) {
+    if data.is_empty() || data.len() > 223 || par.len() != 32 {
+        return (22, 0);
+    }
+    par.copy_from_slice(&parity(data, 32));
+    (0, 0)
+}
+
 /// S_i = col(alpha^i), i < n; byte j of a column of length m has degree m-1-j.
 pub fn syndromes(col: &[u8], n: usize) -> Vec<u8> {
     (0..n)

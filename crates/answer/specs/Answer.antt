@@ -1,9 +1,9 @@
--- The numbers and places of document 01, and tests one after the other.
+-- The numbers and places of documents 01 and 02, and tests one after the other.
 use mathlib.Core.Bool.{Bool, cond}
 use Prim.Native.Nat.{ℕ}
 use lib.Dec.{eqb, ltb}
 use Rattle.answer.specs.declared.Answer.{Answer}
-use Rattle.answer.specs.declared.Answer.the-variants.{Done, WrongUser, WrongSide, WrongDc, WrongImage, WrongWork, NoMultiple, NoZone, DcWord, LastBits, Sync, Frame, BisColumn, AddressUnit, NoPsn, LdcColumn, Sector}
+use Rattle.answer.specs.declared.Answer.the-variants.{Done, WrongUser, WrongSide, WrongDc, WrongImage, WrongWork, NoMultiple, NoZone, DcWord, LastBits, Sync, Frame, BisColumn, AddressUnit, NoPsn, LdcColumn, Sector, WrongColumn}
 
 abbrev pub numberOf : Answer → ℕ
 numberOf Done = 0
@@ -23,6 +23,7 @@ numberOf (AddressUnit n) = 13
 numberOf NoPsn = 14
 numberOf (LdcColumn n) = 15
 numberOf (Sector n) = 16
+numberOf WrongColumn = 22
 
 abbrev pub placeOf : Answer → ℕ
 placeOf Done = 0
@@ -42,6 +43,7 @@ placeOf (AddressUnit n) = n
 placeOf NoPsn = 0
 placeOf (LdcColumn n) = n
 placeOf (Sector n) = n
+placeOf WrongColumn = 0
 
 abbrev pub isDone : Answer → Bool
 isDone a = eqb (numberOf a) 0

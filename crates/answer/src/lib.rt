@@ -1,4 +1,4 @@
-// What operations answer: a case for each row of document 01's table of returned numbers.
+// What operations answer: a case for each row of document 01's table of returned numbers, and for each of document 02's that has landed.
 ghost use mathlib.Core.Path.{_≡_};
 ghost use Rattle.answer.specs.Answer.{numberOf, placeOf, isDone, andThen};
 
@@ -25,10 +25,12 @@ pub enum Answer {
     NoPsn,
     LdcColumn(usize),
     Sector(usize),
+    // The data and parity slices of a column (document 02).
+    WrongColumn,
 }
 
 impl Answer {
-    // Document 01's number.
+    // The documents' number.
     pub fn number(self) -> u32
         ensures { λ r. ⌜ r ≡ numberOf self ⌝ }
     {
@@ -50,10 +52,11 @@ impl Answer {
             Answer::NoPsn => 14,
             Answer::LdcColumn(_) => 15,
             Answer::Sector(_) => 16,
+            Answer::WrongColumn => 22,
         }
     }
 
-    // Its place, 0 where the table names none.
+    // Its place, 0 where they name none.
     pub fn place(self) -> usize
         ensures { λ r. ⌜ r ≡ placeOf self ⌝ }
     {
@@ -75,6 +78,7 @@ impl Answer {
             Answer::NoPsn => 0,
             Answer::LdcColumn(n) => n,
             Answer::Sector(n) => n,
+            Answer::WrongColumn => 0,
         }
     }
 

@@ -12,7 +12,7 @@ ghost use Rattle.report.specs.Words.{meaning, answerText};
 fn put_meaning(text: Text, answer: Answer) -> Text
     ensures { λ r. ⌜ r ≡ added text (meaning answer) ⌝ }
 {
-    // The piece of the answer's number, with its place.
+    // The piece of the answer's number, with its place. No answer has 17 to 21.
     let pieces = b"\
         |the user data are not 65536 bytes\n\
         |the side data are not 592 bytes\n\
@@ -29,7 +29,9 @@ fn put_meaning(text: Text, answer: Answer) -> Text
         |the address field of unit * has a wrong parity\n\
         |no accepted PSN has these address unit numbers\n\
         |LDC column * has a wrong parity\n\
-        |sector * has a wrong error-detection code\n";
+        |sector * has a wrong error-detection code\n\
+        |||||\
+        |the data are not 1 to 223 bytes, or the parity is not 32\n";
     put_piece(text, pieces, answer.number() as usize, answer.place())
 }
 

@@ -15,6 +15,9 @@ ghost use Rattle.export_writer.specs.Exported.{writing};
 ghost use Rattle.export_reader.specs.Exported.{reading};
 ghost use Rattle.export_marker.specs.Exported.{markedNumbers};
 ghost use Rattle.export_address.specs.Exported.{psnSeen, aunSeen, paaSeen};
+ghost use Rattle.column_parity.specs.Outcome as column_parity;
+ghost use Rattle.column_parity.specs.Promise.{CompletesExactly};
+ghost use Rattle.export_parity.specs.Exported.{completing};
 
 // Writes the image of a cluster.
 #[no_mangle]
@@ -101,4 +104,13 @@ pub extern "C" fn bdre_aun_to_psn(aun: u32) -> Converted
     ensures { λ r. ⌜ r ≡ psnSeen (aunToPsn aun) ⌝ }
 {
     export_address::aun_to_psn(aun)
+}
+
+// Writes the 32 parity bytes of a column's data.
+#[no_mangle]
+pub extern "C" fn bdre_parity(message: &[u8], parity: &mut [u8]) -> Answered
+    ensures { λ r. ⌜ record { number = r .number; place = r .place; parity = now (parity .exit) } ≡ completing (column_parity.outcome (now (message .entry)) (now (parity .entry))) ⌝ }
+    ensures { λ r. ⌜ CompletesExactly (now (message .entry)) (now (parity .entry)) (r .number) (now (parity .exit)) ⌝ }
+{
+    export_parity::write_parity(message, parity)
 }

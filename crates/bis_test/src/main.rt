@@ -116,7 +116,7 @@ fn with_parity(column: [u8; 62], parity: [u8; 32]) -> [u8; 62] {
 // The column with the parity of its first 30 bytes.
 fn recoded(column: [u8; 62]) -> [u8; 62] {
     let mut parity = [0u8; 32];
-    parity::parity_32(compare::part(&column, 0, 30), &mut parity);
+    column_parity::write_parity(compare::part(&column, 0, 30), &mut parity);
     with_parity(column, parity)
 }
 

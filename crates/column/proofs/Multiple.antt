@@ -15,7 +15,7 @@ use Rattle.laws.proofs.Tabulate.{length-tabulate}
 use Rattle.galois.specs.Field.{α, sum, product, power}
 use Rattle.galois.proofs.Sum.{sum-assoc, sum-comm, sum-zero, zero-sum, sum-self, sum-byte, sum-cancel}
 use Rattle.galois.proofs.Product.{product-byte, product-comm, product-assoc, sum-product, product-zero, zero-product, one-product, product-one}
-use Rattle.column.specs.Column.{valueFrom, value, Roots, hasRoots, sums, scaled, timesRoot, generator, multiplied, MultipleOf, pushed, remainder, parity}
+use Rattle.column.specs.Column.{valueFrom, value, Roots, hasRoots, sums, scaled, timesRoot, generator, multiplied, MultipleOf, OnlyParity, pushed, remainder, parity}
 use Rattle.column.proofs.Sums.{length-snoc, length-sums, length-scaled, bytes-sums, bytes-snoc, bytes-scaled}
 use Rattle.column.proofs.Value.{value-append, value-cons, value-sums, value-scaled, value-zeros}
 use Rattle.column.proofs.Generator.{generator-roots, generator-first, coefficients-length}
@@ -23,7 +23,7 @@ use Rattle.column.proofs.Division.{length-pushed, bytes-pushed}
 use Rattle.column.proofs.Unique.{value-out}
 use Rattle.column.proofs.Roots.{has-roots}
 use Rattle.column.proofs.Linear.{zeros-sums}
-use Rattle.column.proofs.Parity.{parity-length, roots-parity, test-column}
+use Rattle.column.proofs.Parity.{parity-length, parity-only, roots-parity, test-column}
 
 abbrev zeros : ℕ → List ℕ
 zeros n = tabulate n (λ _. 0)
@@ -266,6 +266,17 @@ module _ (r : ℕ) (few : r ≤ 255) where
   -- only the parity, behind a message, makes a multiple
   pub multiple-parity : (message p : List ℕ) → Bytes message → Bytes p → length p ≡ r → MultipleOf (generator r) (message ++ p) → p ≡ parity r message
   multiple-parity message p bm bp size m = roots-parity r few message p bm bp size (multiple-roots r (message ++ p) m)
+
+  -- THE PARITY OF A MESSAGE OF ANY LENGTH (13.7, 13.12; document 02, W-207)
+  pub only-parity : (message : List ℕ) → Bytes message → OnlyParity r message (parity r message)
+  only-parity message bytes =
+      record {
+        roots = parity-only r few message bytes;
+        multiple-iff = λ q size bq. (
+          multiple-parity message q bytes bq size,
+          λ e. subst (λ (p : List ℕ). MultipleOf (generator r) (message ++ p)) (sym e) (parity-multiple r message bytes),
+        );
+      }
 
   -- a column of n bytes and r more that passes is one
   pub right-multiple : (n : ℕ) (column : List ℕ) → Bytes column → length column ≡ n + r → hasRoots r column ≡ true → MultipleOf (generator r) column

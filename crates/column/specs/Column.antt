@@ -2,6 +2,7 @@
 use mathlib.Core.Path.{_≡_}
 use mathlib.Core.Bool.{Bool, true, false, cond}
 use mathlib.Core.List.{List, [], _∷_, _++_}
+use mathlib.Core.Logic.{_↔_}
 use Prim.Native.Nat.{ℕ, zero, suc, _-_, _<_}
 use lib.Dec.{eqb}
 use lib.ListN.{length, drop}
@@ -77,6 +78,12 @@ pub record MultipleOf (g column : List ℕ) : Type 0 where
   pub bytes : Bytes quotient
   pub product : column ≡ multiplied quotient g
 
+-- what is promised of a parity, whatever the message's length: p is the only r bytes that, behind it, give the column its roots, and of all r
+-- bytes exactly p makes it a multiple of the generator
+pub record OnlyParity (r : ℕ) (message p : List ℕ) : Type 0 where
+  pub roots : IsParity r message p
+  pub multiple-iff : (q : List ℕ) → length q ≡ r → Bytes q → MultipleOf (generator r) (message ++ q) ↔ (q ≡ p)
+
 -- One byte into the register that divides by the polynomial 1 ∷ g: it moves by one place, and the byte that comes out, with d, takes that
 -- multiple of g off.
 unfoldable pub pushed : List ℕ → List ℕ → ℕ → List ℕ
@@ -88,7 +95,7 @@ unfoldable pub remainder : List ℕ → List ℕ → List ℕ → List ℕ
 remainder g register [] = register
 remainder g register (d ∷ ds) = remainder g (pushed g register d) ds
 
--- the remainder of the message, times x^r, divided by the generator; the only r bytes that complete a multiple of it (proofs/Multiple:
--- multiple-parity), with the roots α^0 to α^(r - 1) (proofs/Parity: parity-only)
+-- the remainder of the message, times x^r, divided by the generator; the only r bytes with which the column has the roots α^0 to α^(r - 1), and
+-- with which it is a multiple of the generator (proofs/Multiple: only-parity)
 unfoldable pub parity : ℕ → List ℕ → List ℕ
 parity r message = remainder (drop 1 (generator r)) (tabulate r (λ _. 0)) message

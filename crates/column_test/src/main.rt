@@ -1,6 +1,6 @@
 // Columns of clusters that an independent program encoded, from standard input: three LDC columns, the first of them again with one root
 // taken from it, two BIS columns and four primary address fields, each with its parity. Prints the parity of what stands before it,
-// whether the column has its roots, and how many changes of one byte go unseen; of 32 roots also by the table of remainders.
+// whether the column has its roots, and how many changes of one byte go unseen; of 32 roots also by the lent table of remainders.
 use remainders::Remainders;
 use test_support::compare;
 use test_support::lines;
@@ -62,7 +62,7 @@ fn parity_32(table: &Remainders, message: &[u8], looked: bool) -> [u8; 32]
     if looked {
         code_word::steps::parity_32_by(table, message, &mut parity);
     } else {
-        parity::parity_32(message, &mut parity);
+        column_parity::write_parity(message, &mut parity);
     }
     parity
 }
@@ -112,7 +112,7 @@ fn report(table: &Remainders, column: Column, roots: u8, looked: bool)
     lines::number_line(b", changes unseen ", count);
 }
 
-// A column of 32 roots, by the division and by the table.
+// A column of 32 roots, by `column_parity` and its roots one by one, and by the lent table.
 fn report_twice(table: &Remainders, name: &[u8], size: usize)
     requires { ⌜ AreRemainders (now table) × (size ≤ 248) ⌝ }
 {
@@ -152,19 +152,30 @@ fn addresses(table: &Remainders)
     address(table, b"address field 15, seed 1: ");
 }
 
-fn differing(a: [u8; 32], b: [u8; 32]) -> u64 {
-    compare::differing(&a, &b)
-}
-
-// Whether the table gives the parity that the division gives, of byte n % 256 with n / 256 zeros behind it, for which it reads row n.
-fn is_right(table: &Remainders, n: usize) -> bool
-    requires { ⌜ AreRemainders (now table) × (n < 2048) ⌝ }
+// Byte n % 256 with n / 256 zeros behind it, for which the table's row n is read.
+fn message_at(n: usize) -> [u8; 8]
+    requires { ⌜ n < 2048 ⌝ }
 {
     let mut message = [0u8; 8];
     message[7 - n / 256] = (n % 256) as u8;
-    let divided = parity_32(table, &message, false);
-    let looked = parity_32(table, &message, true);
-    differing(divided, looked) == 0
+    message
+}
+
+// The column of a message and its parity.
+fn joined(message: [u8; 8], parity: [u8; 32]) -> [u8; 40] {
+    let mut column = [0u8; 40];
+    compare::copy(&message, &mut column, 0);
+    compare::copy(&parity, &mut column, 8);
+    column
+}
+
+// Whether the parity by row n gives the column its roots, one by one.
+fn is_right(table: &Remainders, n: usize) -> bool
+    requires { ⌜ AreRemainders (now table) × (n < 2048) ⌝ }
+{
+    let message = message_at(n);
+    let parity = parity_32(table, &message, true);
+    roots::has_roots(&joined(message, parity), 32)
 }
 
 fn right_rows(table: &Remainders) -> u64
@@ -184,7 +195,7 @@ fn report_all(table: &Remainders)
 {
     columns(table);
     addresses(table);
-    let text = b"rows of the table that agree with the division: ";
+    let text = b"rows of the table that give a column its roots: ";
     lines::number_line(text, right_rows(table));
 }
 

@@ -10,9 +10,9 @@ use lib.Seq.{getD-take, length-take-le}
 use Rattle.laws.specs.Bytes.{Bytes}
 use Rattle.laws.proofs.Bytes.{bytes-tabulate, bytes-append}
 use Rattle.laws.proofs.Tabulate.{length-tabulate, getD-tabulate, is-tabulate}
-use Rattle.column.specs.Column.{generator, MultipleOf, parity, hasRoots}
+use Rattle.column.specs.Column.{generator, MultipleOf, OnlyParity, parity, hasRoots}
 use Rattle.column.proofs.Parity.{parity-length, parity-bytes, parity-test, test-column}
-use Rattle.column.proofs.Multiple.{parity-multiple}
+use Rattle.column.proofs.Multiple.{parity-multiple, only-parity}
 use Rattle.ldc.specs.LdcBlock.{dataByte, information, codeWord}
 use Rattle.ldc.specs.LdcCluster.{shifted, ldcByte}
 use Rattle.ldc.specs.Places.{ldcPlace, at, wordIn, dataIn, frameIn}
@@ -61,6 +61,10 @@ module _ (frames : ℕ → List ℕ) (L : ℕ) (bytes : (F : ℕ) → Bytes (fra
   pub word-multiple : MultipleOf (generator 32) (codeWord frames L)
   unfolding codeWord
   word-multiple = parity-multiple 32 (information frames L) bytes-information
+
+  -- and its parity the only bytes that make it one
+  pub word-parity : OnlyParity 32 (information frames L) (parity 32 (information frames L))
+  word-parity = only-parity 32 (omega arith) (information frames L) bytes-information
 
 -- ---- what a cluster was made of comes out again
 

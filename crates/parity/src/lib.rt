@@ -1,4 +1,4 @@
-// 13.7, 13.12, 13.9.2.2: the parity of columns, byte by byte. `steps` is for the crates of this repository.
+// 13.9.2.2: the parity of primary address fields, byte by byte. `steps` is for the crates of this repository.
 pub mod steps;
 
 ghost use mathlib.Core.Path.{_≡_};
@@ -20,14 +20,6 @@ fn divide(generator: &[u8], message: &[u8], register: &mut [u8])
         steps::push(&powers, &logs, generator, register, message[i]);
         i += 1;
     }
-}
-
-// The parity of an LDC or a BIS column's message: behind it they make a multiple of the generator (column, proofs/Multiple: parity-multiple).
-pub fn parity_32(message: &[u8], out: &mut [u8; 32])
-    ensures { λ r. ⌜ now (out .exit) ≡ parity 32 (now (message .entry)) ⌝ }
-{
-    let generator = steps::generator_32();
-    divide(&generator, message, out);
 }
 
 // The generator with 4 roots (formula 33), without its first coefficient.

@@ -2,7 +2,7 @@
 use mathlib.Core.List.{List, [], _++_}
 use Prim.Native.Nat.{ℕ}
 use Rattle.answer.specs.declared.Answer.{Answer}
-use Rattle.answer.specs.declared.Answer.the-variants.{Done, WrongUser, WrongSide, WrongDc, WrongImage, WrongWork, NoMultiple, NoZone, DcWord, LastBits, Sync, Frame, BisColumn, AddressUnit, NoPsn, LdcColumn, Sector}
+use Rattle.answer.specs.declared.Answer.the-variants.{Done, WrongUser, WrongSide, WrongDc, WrongImage, WrongWork, NoMultiple, NoZone, DcWord, LastBits, Sync, Frame, BisColumn, AddressUnit, NoPsn, LdcColumn, Sector, WrongColumn}
 use Rattle.answer.specs.Answer.{numberOf, placeOf}
 use Rattle.verdict.specs.declared.Verdict.{Verdict}
 use Rattle.verdict.specs.declared.Verdict.the-variants.{Pass, Refused, OtherPsn, OtherUser, OtherSide}
@@ -30,6 +30,7 @@ meaning (AddressUnit n) = the "the address field of unit " ++ decimal n ++ the "
 meaning NoPsn = the "no accepted PSN has these address unit numbers\n"
 meaning (LdcColumn n) = the "LDC column " ++ decimal n ++ the " has a wrong parity\n"
 meaning (Sector n) = the "sector " ++ decimal n ++ the " has a wrong error-detection code\n"
+meaning WrongColumn = the "the data are not 1 to 223 bytes, or the parity is not 32\n"
 
 -- number and place in a line, then what they mean
 unfoldable pub answerText : Answer → List ℕ

@@ -31,6 +31,10 @@ fn images() {
     print_answer(Answer::Sector(31));
 }
 
+fn columns() {
+    print_answer(Answer::WrongColumn);
+}
+
 // The longest place.
 fn longest() {
     print_answer(Answer::AddressUnit(18446744073709551615));
@@ -64,6 +68,7 @@ fn tallies() {
 fn main() {
     lengths_and_psn();
     images();
+    columns();
     longest();
     verdicts();
     psns();

@@ -1,6 +1,6 @@
 -- `put_meaning` meets its contract: each answer's piece is computed (report, Words).
 use mathlib.Core.Path.{refl}
-use Rattle.answer.specs.declared.Answer.the-variants.{Done, WrongUser, WrongSide, WrongDc, WrongImage, WrongWork, NoMultiple, NoZone, DcWord, LastBits, Sync, Frame, BisColumn, AddressUnit, NoPsn, LdcColumn, Sector}
+use Rattle.answer.specs.declared.Answer.the-variants.{Done, WrongUser, WrongSide, WrongDc, WrongImage, WrongWork, NoMultiple, NoZone, DcWord, LastBits, Sync, Frame, BisColumn, AddressUnit, NoPsn, LdcColumn, Sector, WrongColumn}
 use Rattle.texts.specs.Pieces.{piece}
 use Rattle.report.proofs.Words.{EachMeans, means}
 use borrow.Author.Needs.{needs}
@@ -38,6 +38,7 @@ each c (AddressUnit n) = refl
 each c NoPsn = refl
 each c (LdcColumn n) = refl
 each c (Sector n) = refl
+each c WrongColumn = refl
 
 returns : tie.Need-returns
 returns c =

@@ -1,0 +1,28 @@
+-- `complete` meets its contract: the parity, copied.
+use mathlib.Core.Path.{_∙_}
+use borrow.Author.Needs.{needs}
+use Rattle.column_parity.proofs.complete.Statement.{statement}
+use Rattle.column_parity.proofs.complete.Tie as tie
+
+divided-requires : tie.Need-divided-requires
+divided-requires c κs = search needs
+
+slice-aggregate-copy-bytes : tie.Need-slice-aggregate-copy-bytes
+slice-aggregate-copy-bytes c = search needs
+
+copy-bytes-requires : tie.Need-copy-bytes-requires
+copy-bytes-requires c κs = search needs
+
+same-length : tie.Need-same-length
+same-length c = search needs
+
+returns : tie.Need-returns
+returns c =
+    let copy = c .before .before in
+    let start = copy .before .before .before in
+    copy .copy-bytes .ensures ∙ start .divided .ensures
+
+pub complete-spec : {M : Type 1} → statement M
+complete-spec =
+    tie.close
+    (tie.spec divided-requires slice-aggregate-copy-bytes copy-bytes-requires same-length returns)

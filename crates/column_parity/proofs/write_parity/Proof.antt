@@ -1,0 +1,57 @@
+-- `write_parity` meets its contract: what was judged decides between the parity and the slice as it was (Statements).
+use denote.Ref.{now}
+use borrow.Author.Needs.{needs}
+use Rattle.column_parity.proofs.Statements.{may-complete, is-completed, is-refused}
+use Rattle.column_parity.proofs.write_parity.Statement.{statement}
+use Rattle.column_parity.proofs.write_parity.Tie as tie
+
+sized-requires : tie.Need-sized-requires
+sized-requires c κs = search needs
+
+judge-requires : tie.Need-judge-requires
+judge-requires c κs = search needs
+
+and-then-requires : tie.Need-and-then-requires
+and-then-requires c κs = search needs
+
+is-done-requires : tie.Need-is-done-requires
+is-done-requires c κs = search needs
+
+complete-requires : tie.Need-complete-requires
+complete-requires c κs =
+    let test = c .before in
+    let answered = test .before .before in
+    let lent = answered .before .before .before .before .before .args in
+    may-complete (now (lent .message)) (now (lent .parity)) (answered .before .judge .ensures) (answered .before .before .sized .ensures) (answered .and-then .ensures) (test .before .is-done .ensures) (test .if1 .taken)
+
+same-length : tie.Need-same-length
+same-length c = search needs
+
+returns : tie.Need-returns
+returns c =
+    let call = c .before .before in
+    let test = call .before .before in
+    let answered = test .before .before in
+    let sides = answered .before .before .before in
+    is-completed _ _ (answered .before .judge .ensures) (answered .before .before .sized .ensures) (answered .and-then .ensures) (test .before .is-done .ensures)
+    (λ k. sides .before .shared-slice-known .given k .fits) (test .if1 .taken) (call .complete .ensures)
+
+returns-2 : tie.Need-returns-2
+returns-2 c =
+    let answered = c .before .before in
+    let sides = answered .before .before .before in
+    is-refused _ _ (answered .before .judge .ensures) (answered .before .before .sized .ensures) (answered .and-then .ensures) (c .before .is-done .ensures)
+    (λ k. sides .before .shared-slice-known .given k .fits) (c .if1 .left)
+
+pub write-parity-spec : {M : Type 1} → statement M
+write-parity-spec =
+    tie.close
+    (tie.spec
+    sized-requires
+    judge-requires
+    and-then-requires
+    is-done-requires
+    complete-requires
+    same-length
+    returns
+    returns-2)

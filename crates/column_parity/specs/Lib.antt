@@ -1,0 +1,3 @@
+-- What is answered and left for a column's data, and what is promised of it.
+pub mod Outcome
+pub mod Promise
