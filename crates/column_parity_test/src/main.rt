@@ -4,9 +4,9 @@
 use test_support::compare;
 use test_support::lines;
 
-fn vector(data: &[u8], n: usize) {
+fn vector(bytes: &[u8], n: usize) {
     let mut parity = [0u8; 32];
-    let answer = column_parity::write_parity(compare::part(data, 0, n), &mut parity);
+    let answer = column_parity::write_parity(compare::part(bytes, 0, n), &mut parity);
     if answer.number() != 0 {
         lines::answer_line(b"refused: ", answer);
     }
@@ -14,18 +14,18 @@ fn vector(data: &[u8], n: usize) {
     lines::bytes_line(b" ", &parity);
 }
 
-fn vectors(data: &[u8]) {
+fn vectors(bytes: &[u8]) {
     for n in 1..224usize {
-        vector(data, n);
+        vector(bytes, n);
     }
 }
 
 // n data bytes, and a parity slice of `size` bytes.
-fn refusal(data: &[u8], n: usize, size: usize) {
+fn refusal(bytes: &[u8], n: usize, size: usize) {
     let before = [0xA5u8; 40];
     let mut parity = before;
     let answer = column_parity::write_parity(
-        compare::part(data, 0, n),
+        compare::part(bytes, 0, n),
         compare::first(&mut parity, size),
     );
     lines::number(b"data ", n as u64);
@@ -34,21 +34,21 @@ fn refusal(data: &[u8], n: usize, size: usize) {
     lines::number_line(b"changed: ", compare::differing(&before, &parity));
 }
 
-fn refusals(data: &[u8]) {
-    refusal(data, 0, 32);
-    refusal(data, 224, 32);
-    refusal(data, 255, 32);
-    refusal(data, 1, 31);
-    refusal(data, 223, 31);
-    refusal(data, 1, 33);
-    refusal(data, 223, 33);
-    refusal(data, 216, 0);
-    refusal(data, 0, 0);
+fn refusals(bytes: &[u8]) {
+    refusal(bytes, 0, 32);
+    refusal(bytes, 224, 32);
+    refusal(bytes, 255, 32);
+    refusal(bytes, 1, 31);
+    refusal(bytes, 223, 31);
+    refusal(bytes, 1, 33);
+    refusal(bytes, 223, 33);
+    refusal(bytes, 216, 0);
+    refusal(bytes, 0, 0);
 }
 
 fn main() {
-    let mut data = [0u8; 255];
-    io::read_full(0, &mut data);
-    vectors(&data);
-    refusals(&data);
+    let mut bytes = [0u8; 255];
+    io::read_full(0, &mut bytes);
+    vectors(&bytes);
+    refusals(&bytes);
 }

@@ -1,6 +1,7 @@
 -- What is returned are the parts of the outcome. Assumes nothing.
 use mathlib.Core.Path.{_≡_, sym, ap, subst, _∙_}
 use mathlib.Core.List.{List}
+use Prim.Native.Nat.{ℕ}
 use Rattle.answer.specs.declared.Answer.{Answer}
 use Rattle.answer.specs.Answer as Answer
 use Rattle.answer_numbers.specs.declared.Answered.{Answered}
