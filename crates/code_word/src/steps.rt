@@ -84,7 +84,7 @@ fn divided(table: &Remainders, message: &[u8]) -> Register
     register
 }
 
-// The parity of an LDC or a BIS column's message.
+// The parity of a message, whatever its length: LDC's of 216 bytes, BIS's of 30, those of `column_parity`.
 pub fn parity_32_by(table: &Remainders, message: &[u8], out: &mut [u8; 32])
     requires { ⌜ AreRemainders (now table) × (length (now out) ≡ 32) ⌝ }
     ensures { λ _. ⌜ now (out .exit) ≡ parity 32 (now (message .entry)) ⌝ }
@@ -112,7 +112,7 @@ fn ends_in(column: &[u8], n: usize, parity: &[u8; 32]) -> bool
     true
 }
 
-// Whether an LDC or a BIS column has its 32 roots: whether its last 32 bytes are the parity of those before.
+// Whether a column, LDC's, BIS's or another, has its 32 roots: whether its last 32 bytes are the parity of those before.
 pub fn is_code_word(table: &Remainders, column: &[u8]) -> bool
     requires { ⌜ AreRemainders (now table) × (32 ≤ length (now column)) ⌝ }
     ensures { λ r. ⌜ r ≡ hasRoots 32 (now (column .entry)) ⌝ }
