@@ -36,8 +36,8 @@ extern "C" {
 #define BDRE_DC 496       /* dc words, one for each frame; bit 27 is the frame's first dc-control bit, bit 0 its last */
 #define BDRE_IMAGE 119788 /* image: 496 frames of 1,932 bits, the sync that follows, two zero bits; msb first */
 #define BDRE_WORK 76880   /* work: the ECC cluster */
-#define BDRE_COLUMN 223   /* the most data bytes of a column */
-#define BDRE_PARITY 32    /* the parity bytes of a column */
+#define BDRE_COLUMN_DATA 223 /* the most data bytes of a column */
+#define BDRE_PARITY 32       /* the parity bytes of a column */
 
 struct bdre_answer {
     uint32_t number;

@@ -12,7 +12,7 @@ pub const IMAGE: usize = 119_788;
 /// Work: the ECC cluster.
 pub const WORK: usize = 76_880;
 /// The most data bytes of a column.
-pub const COLUMN: usize = 223;
+pub const COLUMN_DATA: usize = 223;
 /// The parity bytes of a column.
 pub const PARITY: usize = 32;
 

@@ -1,7 +1,7 @@
 //! Compares the library with the reference, and says how much was compared. Stops at the first difference, with status 1.
 //! Damaged images are read by both paths of the reference; bin/soak reads many more by the fast one alone.
 //! With the word `short`: fewer of each, and the reference's plain path, which is slow, on some clusters only.
-use bench::bdre::{self, DC, IMAGE, SIDE, USER, WORK};
+use bench::bdre::{self, COLUMN_DATA, DC, IMAGE, PARITY, SIDE, USER, WORK};
 use bench::both::{self, agree};
 use bench::clusters::{Cluster, Filled, Lent, LARGEST, ZONES};
 use bench::damage::{damage, Written};
@@ -131,6 +131,7 @@ fn parities(r: &Random, count: usize) {
         let a = bdre::parity(&data, &mut ours);
         let b = columns::parity_any(&data, &mut theirs);
         agree((a.number, a.place) == b && ours == theirs, what);
+        agree((a.number == 0) == ((1..=COLUMN_DATA).contains(&n) && size == PARITY), what);
         agree(a.number == 0 || ours == before, what);
         agree(a.number != 0 || columns::right(&[data.clone(), ours].concat(), 32), what);
         *calls.entry(a.number).or_insert(0) += 1;

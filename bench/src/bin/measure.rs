@@ -158,7 +158,7 @@ fn parities(r: &Random) {
     for n in [1, 30, 216, 223] {
         let data = r.bytes(n);
         let mut parity = [0; bdre::PARITY];
-        let median = |times: Vec<f64>| quantile(&mut times.clone(), 0.5) * 1000.0;
+        let median = |mut times: Vec<f64>| quantile(&mut times, 0.5) * 1000.0;
         let library = median((0..1001).map(|_| timed(|| bdre::parity(&data, &mut parity)).1).collect());
         let reference = median((0..1001).map(|_| timed(|| columns::parity_any(&data, &mut parity)).1).collect());
         println!("{n:<12}{library:>10.1}{reference:>12.1}");

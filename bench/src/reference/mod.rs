@@ -1,4 +1,4 @@
-//! An independent implementation of documents 01 and 02 to compare with, written from them and ISO/IEC 30193:2021 alone. It shares no code
+//! An independent implementation of document 01 and of what has landed of document 02, written from them and ISO/IEC 30193:2021 alone. It shares no code
 //! with anything: `plain` says each step as the standard does, `fast` works by tables and gives the same answers.
 pub mod code;
 pub mod columns;

@@ -1,4 +1,4 @@
--- The numbers and places of documents 01 and 02, and tests one after the other.
+-- The numbers and places of document 01, and those of document 02 that have landed; and tests one after the other.
 use mathlib.Core.Bool.{Bool, cond}
 use Prim.Native.Nat.{ℕ}
 use lib.Dec.{eqb, ltb}

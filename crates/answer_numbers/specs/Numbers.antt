@@ -1,4 +1,4 @@
--- What a caller in another language sees of an answer: document 01's number and place instead of an enum.
+-- What a caller in another language sees of an answer: the documents' number and place instead of an enum.
 use Prim.Native.Nat.{ℕ}
 use Rattle.answer.specs.declared.Answer.{Answer}
 use Rattle.answer.specs.Answer.{numberOf, placeOf}

@@ -5,7 +5,7 @@ use verdict::Verdict;
 ghost use mathlib.Core.Path.{_≡_};
 ghost use Rattle.answer_numbers.specs.Numbers.{answered, readAnswered, marking, converted};
 
-// Document 01's number and place.
+// The documents' number and place.
 #[repr(C)]
 pub struct Answered {
     pub number: u32,

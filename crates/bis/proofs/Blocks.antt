@@ -6,7 +6,7 @@ use Prim.Native.Nat.{ℕ, _+_, _-_, _<_, _≤_}
 use native.Mathlib.Decide.{decLt}
 use native.Mathlib.Omega.{arith}
 use borrow.Author.Tests.{lt-ltb, le-ltb, not-false}
-use lib.ListN.{length, getD, take, length-append, List·getD-append}
+use lib.ListN.{length, getD, take, drop, length-append, List·getD-append}
 use lib.Seq.{getD-take, length-take-le}
 use Rattle.laws.specs.Bytes.{Bytes}
 use Rattle.laws.proofs.Bytes.{bytes-append, bytes-tabulate}
@@ -15,9 +15,9 @@ use Rattle.laws.proofs.First.{first-none, first-all}
 use Rattle.answer.specs.declared.Answer.the-variants.{Done}
 use Rattle.address.specs.Judged.{judged}
 use Rattle.address.specs.Conversions.{aunOf}
-use Rattle.column.specs.Column.{generator, MultipleOf, OnlyParity, parity, hasRoots}
+use Rattle.column.specs.Column.{generator, MultipleOf, ParityExactly, parity, hasRoots}
 use Rattle.column.proofs.Parity.{parity-length, parity-bytes, parity-test, test-column}
-use Rattle.column.proofs.Multiple.{parity-multiple, only-parity}
+use Rattle.column.proofs.Multiple.{parity-multiple, multiple-right, column-exactly}
 use Rattle.bis.specs.AddressField.{primaryField, partlyInverted, addressField, aunIn, flagIn}
 use Rattle.bis.specs.AccessBlock.{Side, fieldOf, addressFields, rowOfAF, columnOfAF, fieldAt, byteAt, rowOfUC, columnOfUC, controlAt, accessByte}
 use Rattle.bis.specs.BisBlock.{accessColumn, codeWord, bisBlock, Block}
@@ -100,10 +100,11 @@ module _ (psn : ℕ) (side : List ℕ) (accepted : judged psn ≡ Done) (bytes :
   pub column-multiple : (C : ℕ) → C < 24 → MultipleOf (generator 32) (getD (bisBlock psn side) C [])
   column-multiple C h = rw (column-is C h) (written-multiples C h)
 
-  -- and its parity the only bytes that make it one
-  pub column-parity : (C : ℕ) → C < 24
-      → OnlyParity 32 (accessColumn (addressFields psn side) side C) (parity 32 (accessColumn (addressFields psn side) side C))
-  column-parity C h = only-parity 32 (omega arith) (accessColumn (addressFields psn side) side C) (bytes-access C h)
+  -- and its last 32 bytes are the only ones that make it one
+  pub written-parity : (C : ℕ) → C < 24 → ParityExactly 32 (take 30 (getD (bisBlock psn side) C [])) (drop 30 (getD (bisBlock psn side) C []))
+  written-parity C h =
+      column-exactly 32 (omega arith) 30 (getD (bisBlock psn side) C []) (written-block .bytes C h) (written-block .size C h)
+      (multiple-right 32 (getD (bisBlock psn side) C []) (column-multiple C h))
 
   -- an information byte of the block
   byte-is : (C row : ℕ) → C < 24 → row < 30 → getD (getD (bisBlock psn side) C []) row 0 ≡ accessByte (addressFields psn side) side row C

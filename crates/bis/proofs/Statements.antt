@@ -5,21 +5,21 @@ use mathlib.Core.Bool.{true}
 use mathlib.Core.List.{List, []}
 use Prim.Native.Nat.{ℕ, _^_, _<_}
 use native.Mathlib.Omega.{arith}
-use lib.ListN.{length, getD}
+use lib.ListN.{length, getD, take, drop}
 use Rattle.laws.specs.Bytes.{Bytes}
 use Rattle.answer.specs.declared.Answer.the-variants.{Done}
 use Rattle.address.specs.declared.Psn.{Psn}
 use Rattle.address.specs.Judged.{judged}
-use Rattle.column.specs.Column.{generator, MultipleOf, OnlyParity, parity, hasRoots}
+use Rattle.column.specs.Column.{generator, MultipleOf, ParityExactly, hasRoots}
 use Rattle.bis.specs.declared.PsnFound.{PsnFound}
 use Rattle.bis.specs.declared.PsnFound.the-variants.{Found, NotFound}
 use Rattle.bis.specs.AddressField.{primaryField, partlyInverted, addressField, aunIn, flagIn}
-use Rattle.bis.specs.AccessBlock.{Side, addressFields}
-use Rattle.bis.specs.BisBlock.{accessColumn, bisBlock, Block}
+use Rattle.bis.specs.AccessBlock.{Side}
+use Rattle.bis.specs.BisBlock.{bisBlock, Block}
 use Rattle.bis.specs.Reading.{IsPsnOf, psnIn, sideIn, Reads}
 use Rattle.bis.proofs.AddressFields.{aun-back, flag-back, primary-roots, primary-multiple, primary-back, inverted-back, field-only}
 use Rattle.bis.proofs.Psn.{found-is, is-there}
-use Rattle.bis.proofs.Blocks.{written-block, written-columns, column-multiple, column-parity, written-fields, written-psn, written-side, side-in, block-is}
+use Rattle.bis.proofs.Blocks.{written-block, written-columns, column-multiple, written-parity, written-fields, written-psn, written-side, side-in, block-is}
 
 -- ---- 13.9.2.2: partial inversion undoes itself; with it undone an address field has its roots, its AUN and its flag byte, and nine bytes
 -- that have the roots are an address field
@@ -47,10 +47,10 @@ field-multiple = primary-multiple
 pub word-multiple : (psn : ℕ) (side : List ℕ) → judged psn ≡ Done → Side side → (C : ℕ) → C < 24 → MultipleOf (generator 32) (getD (bisBlock psn side) C [])
 word-multiple psn side accepted is = column-multiple psn side accepted (is .bytes)
 
--- and the code word's parity the only bytes that make it one
+-- and the code word's last 32 bytes are the only ones that make it one
 pub word-parity : (psn : ℕ) (side : List ℕ) → judged psn ≡ Done → Side side → (C : ℕ) → C < 24
-    → OnlyParity 32 (accessColumn (addressFields psn side) side C) (parity 32 (accessColumn (addressFields psn side) side C))
-word-parity psn side accepted is = column-parity psn side accepted (is .bytes)
+    → ParityExactly 32 (take 30 (getD (bisBlock psn side) C [])) (drop 30 (getD (bisBlock psn side) C []))
+word-parity psn side accepted is = written-parity psn side accepted (is .bytes)
 
 -- ---- 14: the PSN that is found is accepted and has the sixteen AUNs, and such a PSN is found; none is found exactly where there is none
 

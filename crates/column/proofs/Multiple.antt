@@ -15,7 +15,7 @@ use Rattle.laws.proofs.Tabulate.{length-tabulate}
 use Rattle.galois.specs.Field.{α, sum, product, power}
 use Rattle.galois.proofs.Sum.{sum-assoc, sum-comm, sum-zero, zero-sum, sum-self, sum-byte, sum-cancel}
 use Rattle.galois.proofs.Product.{product-byte, product-comm, product-assoc, sum-product, product-zero, zero-product, one-product, product-one}
-use Rattle.column.specs.Column.{valueFrom, value, Roots, hasRoots, sums, scaled, timesRoot, generator, multiplied, MultipleOf, OnlyParity, pushed, remainder, parity}
+use Rattle.column.specs.Column.{valueFrom, value, Roots, hasRoots, sums, scaled, timesRoot, generator, multiplied, MultipleOf, ParityExactly, pushed, remainder, parity}
 use Rattle.column.proofs.Sums.{length-snoc, length-sums, length-scaled, bytes-sums, bytes-snoc, bytes-scaled}
 use Rattle.column.proofs.Value.{value-append, value-cons, value-sums, value-scaled, value-zeros}
 use Rattle.column.proofs.Generator.{generator-roots, generator-first, coefficients-length}
@@ -23,7 +23,7 @@ use Rattle.column.proofs.Division.{length-pushed, bytes-pushed}
 use Rattle.column.proofs.Unique.{value-out}
 use Rattle.column.proofs.Roots.{has-roots}
 use Rattle.column.proofs.Linear.{zeros-sums}
-use Rattle.column.proofs.Parity.{parity-length, parity-only, roots-parity, test-column}
+use Rattle.column.proofs.Parity.{parity-length, parity-only, roots-parity, test-parity, test-column}
 
 abbrev zeros : ℕ → List ℕ
 zeros n = tabulate n (λ _. 0)
@@ -268,17 +268,23 @@ module _ (r : ℕ) (few : r ≤ 255) where
   multiple-parity message p bm bp size m = roots-parity r few message p bm bp size (multiple-roots r (message ++ p) m)
 
   -- THE PARITY OF A MESSAGE OF ANY LENGTH (13.7, 13.12; document 02, W-207)
-  pub only-parity : (message : List ℕ) → Bytes message → OnlyParity r message (parity r message)
-  only-parity message bytes =
+  pub parity-exactly : (message : List ℕ) → Bytes message → ParityExactly r message (parity r message)
+  parity-exactly message bytes =
       record {
-        roots = parity-only r few message bytes;
-        multiple-iff = λ q size bq. (
+        is-parity = parity-only r few message bytes;
+        multiples = λ q size bq. (
           multiple-parity message q bytes bq size,
           λ e. subst (λ (p : List ℕ). MultipleOf (generator r) (message ++ p)) (sym e) (parity-multiple r message bytes),
         );
       }
 
-  -- a column of n bytes and r more that passes is one
+  -- a column of n bytes and r more that passes ends in the parity of those before
+  pub column-exactly : (n : ℕ) (column : List ℕ) → Bytes column → length column ≡ n + r → hasRoots r column ≡ true
+      → ParityExactly r (take n column) (drop n column)
+  column-exactly n column bytes size test =
+      subst (ParityExactly r (take n column)) (sym (test-parity r few n column bytes size test)) (parity-exactly (take n column) (bytes-take n column bytes))
+
+  -- and is a multiple
   pub right-multiple : (n : ℕ) (column : List ℕ) → Bytes column → length column ≡ n + r → hasRoots r column ≡ true → MultipleOf (generator r) column
   right-multiple n column bytes size test =
       subst (MultipleOf (generator r)) (sym (test-column r few n column bytes size test)) (parity-multiple r (take n column) (bytes-take n column bytes))

@@ -80,9 +80,9 @@ pub record MultipleOf (g column : List ℕ) : Type 0 where
 
 -- what is promised of a parity, whatever the message's length: p is the only r bytes that, behind it, give the column its roots, and of all r
 -- bytes exactly p makes it a multiple of the generator
-pub record OnlyParity (r : ℕ) (message p : List ℕ) : Type 0 where
-  pub roots : IsParity r message p
-  pub multiple-iff : (q : List ℕ) → length q ≡ r → Bytes q → MultipleOf (generator r) (message ++ q) ↔ (q ≡ p)
+pub record ParityExactly (r : ℕ) (message p : List ℕ) : Type 0 where
+  pub is-parity : IsParity r message p
+  pub multiples : (q : List ℕ) → length q ≡ r → Bytes q → MultipleOf (generator r) (message ++ q) ↔ (q ≡ p)
 
 -- One byte into the register that divides by the polynomial 1 ∷ g: it moves by one place, and the byte that comes out, with d, takes that
 -- multiple of g off.
@@ -96,6 +96,6 @@ remainder g register [] = register
 remainder g register (d ∷ ds) = remainder g (pushed g register d) ds
 
 -- the remainder of the message, times x^r, divided by the generator; the only r bytes with which the column has the roots α^0 to α^(r - 1), and
--- with which it is a multiple of the generator (proofs/Multiple: only-parity)
+-- with which it is a multiple of the generator (proofs/Multiple: parity-exactly)
 unfoldable pub parity : ℕ → List ℕ → List ℕ
 parity r message = remainder (drop 1 (generator r)) (tabulate r (λ _. 0)) message

@@ -5,10 +5,9 @@ use Prim.Native.Nat.{ℕ, _<_, _≤_}
 use native.Mathlib.Omega.{arith}
 use borrow.Author.Tests.{eq-eqb, ne-eqb, eqb-false, lt-ltb, le-ltb, ltb-false}
 use lib.Dec.{eqb, ltb}
-use Rattle.answer.specs.declared.Answer.{Answer}
 use Rattle.answer.specs.declared.Answer.the-variants.{Done, WrongColumn}
 use Rattle.answer.specs.Answer.{isDone, andThen}
-use Rattle.answer.proofs.Tests.{done-not, then-next, then-both, then-done}
+use Rattle.answer.proofs.Tests.{done-not, then-both, then-done}
 use Rattle.lengths.specs.Lengths.{sized}
 use Rattle.lengths.proofs.RightLengths.{sized-right, sized-done}
 use Rattle.column_parity.specs.Outcome.{dataAnswer, answer}

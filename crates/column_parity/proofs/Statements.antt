@@ -1,6 +1,6 @@
 -- What is promised of a column's parity, on the outcome, for data of any length. Assumes nothing.
 use mathlib.Core.Path.{_≡_, sym, ap, ap₂, subst, _∙_}
-use mathlib.Core.Bool.{Bool, true, false}
+use mathlib.Core.Bool.{Bool, true, false, cond}
 use mathlib.Core.List.{List}
 use Prim.Native.Nat.{ℕ}
 use native.Mathlib.Omega.{arith}
@@ -11,9 +11,9 @@ use Rattle.answer.specs.declared.Answer.the-variants.{Done, WrongColumn}
 use Rattle.answer.specs.Answer.{numberOf, isDone, andThen}
 use Rattle.answer.proofs.Tests.{number-zero, done-or-not, done-told}
 use Rattle.lengths.specs.Lengths.{sized}
-use Rattle.column.specs.Column.{OnlyParity, parity}
-use Rattle.column.proofs.Multiple.{only-parity}
-use Rattle.column_parity.specs.Outcome.{dataAnswer, answer, Outcome, completed, outcome}
+use Rattle.column.specs.Column.{ParityExactly, parity}
+use Rattle.column.proofs.Multiple.{parity-exactly}
+use Rattle.column_parity.specs.Outcome.{dataAnswer, answer, Outcome, outcome}
 use Rattle.column_parity.specs.Promise.{RightColumn, CompletesExactly}
 use Rattle.column_parity.proofs.Lengths.{column-right, column-done, column-refused}
 
@@ -21,17 +21,17 @@ module _ (message before : List ℕ) where
   -- 1 to 223 data bytes and a parity slice of 32: the parity is left
   completed-is : RightColumn (length message) (length before) → outcome message before ≡ record { answer = Done; parity = parity 32 message }
   unfolding outcome
-  completed-is right = ap (λ (a : Answer). completed message a before) (column-right (length message) (length before) right)
+  completed-is right = ap (λ (a : Answer). record { answer = a; parity = cond (isDone a) (parity 32 message) before }) (column-right (length message) (length before) right)
 
   -- else 22, and the slice as it was
   refused-is : isDone (answer (length message) (length before)) ≡ false → outcome message before ≡ record { answer = WrongColumn; parity = before }
   unfolding outcome
-  refused-is h = ap (λ (a : Answer). completed message a before) (column-refused (length message) (length before) h)
+  refused-is h = ap (λ (a : Answer). record { answer = a; parity = cond (isDone a) (parity 32 message) before }) (column-refused (length message) (length before) h)
 
   -- FROM 1 TO 223 DATA BYTES: what is left is the only 32 bytes that give the column the roots α^0 to α^31, and exactly they make it a
   -- multiple of the generator
-  pub left-only : Bytes message → RightColumn (length message) (length before) → OnlyParity 32 message (outcome message before .parity)
-  left-only bytes right = subst (λ (o : Outcome). OnlyParity 32 message (o .parity)) (sym (completed-is right)) (only-parity 32 (omega arith) message bytes)
+  pub left-only : Bytes message → RightColumn (length message) (length before) → ParityExactly 32 message (outcome message before .parity)
+  left-only bytes right = subst (λ (o : Outcome). ParityExactly 32 message (o .parity)) (sym (completed-is right)) (parity-exactly 32 (omega arith) message bytes)
 
   answered : (numberOf (outcome message before .answer) ≡ 0) → RightColumn (length message) (length before)
   unfolding outcome

@@ -22,10 +22,8 @@ pub record Outcome : Type 0 where
   pub answer : Answer
   pub parity : List ℕ
 
--- done: the 32 parity bytes of the data; refused: the slice as it was
-abbrev pub completed : List ℕ → Answer → List ℕ → Outcome
-completed message a before = record { answer = a; parity = cond (isDone a) (parity 32 message) before }
-
--- from the data, the column's message, and the parity slice at entry
+-- From the data, the column's message, and the parity slice at entry. Done: the 32 parity bytes of the data; refused: the slice as it was.
 unfoldable pub outcome : List ℕ → List ℕ → Outcome
-outcome message before = completed message (answer (length message) (length before)) before
+outcome message before =
+    let a = answer (length message) (length before) in
+    record { answer = a; parity = cond (isDone a) (parity 32 message) before }

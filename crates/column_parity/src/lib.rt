@@ -12,7 +12,7 @@ const MOST: usize = 223;
 
 const PARITY: usize = 32;
 
-// The number of data bytes.
+// Whether a column may have so many data bytes.
 fn judge(n: usize) -> Answer
     ensures { λ r. ⌜ r ≡ dataAnswer n ⌝ }
 {
@@ -26,7 +26,7 @@ fn judge(n: usize) -> Answer
 }
 
 // The parity, by a table of remainders of its own.
-fn divided(message: &[u8]) -> [u8; 32]
+fn parity_of(message: &[u8]) -> [u8; 32]
     ensures { λ r. ⌜ r ≡ column.parity 32 (now (message .entry)) ⌝ }
 {
     let mut table = remainders::steps::no_remainders();
@@ -36,11 +36,12 @@ fn divided(message: &[u8]) -> [u8; 32]
     made
 }
 
-fn complete(message: &[u8], parity: &mut [u8])
+// The same into a slice of 32.
+fn put_parity(message: &[u8], parity: &mut [u8])
     requires { ⌜ length (now parity) ≡ 32 ⌝ }
     ensures { λ _. ⌜ now (parity .exit) ≡ column.parity 32 (now (message .entry)) ⌝ }
 {
-    let made = divided(message);
+    let made = parity_of(message);
     slices::steps::copy_bytes(&made, parity);
 }
 
@@ -53,7 +54,7 @@ pub fn write_parity(message: &[u8], parity: &mut [u8]) -> Answer
     let room = lengths::sized(parity.len(), PARITY, Answer::WrongColumn);
     let answer = judge(message.len()).and_then(room);
     if answer.is_done() {
-        complete(message, parity);
+        put_parity(message, parity);
     }
     answer
 }

@@ -5,14 +5,14 @@ use mathlib.Core.Bool.{true}
 use mathlib.Core.List.{List, _++_}
 use Prim.Native.Nat.{ℕ, _+_, _*_, _/_, _%_, _<_}
 use native.Mathlib.Omega.{arith}
-use lib.ListN.{length, getD, take, length-append, List·getD-append}
+use lib.ListN.{length, getD, take, drop, length-append, List·getD-append}
 use lib.Seq.{getD-take, length-take-le}
 use Rattle.laws.specs.Bytes.{Bytes}
 use Rattle.laws.proofs.Bytes.{bytes-tabulate, bytes-append}
 use Rattle.laws.proofs.Tabulate.{length-tabulate, getD-tabulate, is-tabulate}
-use Rattle.column.specs.Column.{generator, MultipleOf, OnlyParity, parity, hasRoots}
+use Rattle.column.specs.Column.{generator, MultipleOf, ParityExactly, parity, hasRoots}
 use Rattle.column.proofs.Parity.{parity-length, parity-bytes, parity-test, test-column}
-use Rattle.column.proofs.Multiple.{parity-multiple, only-parity}
+use Rattle.column.proofs.Multiple.{parity-multiple, column-exactly}
 use Rattle.ldc.specs.LdcBlock.{dataByte, information, codeWord}
 use Rattle.ldc.specs.LdcCluster.{shifted, ldcByte}
 use Rattle.ldc.specs.Places.{ldcPlace, at, wordIn, dataIn, frameIn}
@@ -62,9 +62,9 @@ module _ (frames : ℕ → List ℕ) (L : ℕ) (bytes : (F : ℕ) → Bytes (fra
   unfolding codeWord
   word-multiple = parity-multiple 32 (information frames L) bytes-information
 
-  -- and its parity the only bytes that make it one
-  pub word-parity : OnlyParity 32 (information frames L) (parity 32 (information frames L))
-  word-parity = only-parity 32 (omega arith) (information frames L) bytes-information
+  -- and its last 32 bytes are the only ones that make it one
+  pub word-parity : ParityExactly 32 (take 216 (codeWord frames L)) (drop 216 (codeWord frames L))
+  word-parity = column-exactly 32 (omega arith) 216 (codeWord frames L) bytes-word length-word word-roots
 
 -- ---- what a cluster was made of comes out again
 

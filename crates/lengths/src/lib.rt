@@ -1,4 +1,4 @@
-// Answers 1 to 5: the lengths of lent slices.
+// A length that is tested; answers 1 to 5, the lengths of lent slices.
 use answer::Answer;
 ghost use mathlib.Core.Path.{_≡_};
 ghost use Rattle.lengths.specs.Lengths.{sized, lengthsAnswer};

@@ -1,4 +1,5 @@
-// 13.9.2.2: the parity of primary address fields, byte by byte. `steps` is for the crates of this repository.
+// 13.9.2.2: the parity of primary address fields, byte by byte. `steps`, for the crates of this repository, has the generator of 32 roots (13.7,
+// 13.12) too, and a byte into the register, of which the table of remainders is made.
 pub mod steps;
 
 ghost use mathlib.Core.Path.{_≡_};

@@ -17,12 +17,13 @@ and-then-requires c κs = search needs
 is-done-requires : tie.Need-is-done-requires
 is-done-requires c κs = search needs
 
-complete-requires : tie.Need-complete-requires
-complete-requires c κs =
+put-parity-requires : tie.Need-put-parity-requires
+put-parity-requires c κs =
     let test = c .before in
     let answered = test .before .before in
     let lent = answered .before .before .before .before .before .args in
-    may-complete (now (lent .message)) (now (lent .parity)) (answered .before .judge .ensures) (answered .before .before .sized .ensures) (answered .and-then .ensures) (test .before .is-done .ensures) (test .if1 .taken)
+    may-complete (now (lent .message)) (now (lent .parity))
+    (answered .before .judge .ensures) (answered .before .before .sized .ensures) (answered .and-then .ensures) (test .before .is-done .ensures) (test .if1 .taken)
 
 same-length : tie.Need-same-length
 same-length c = search needs
@@ -34,7 +35,7 @@ returns c =
     let answered = test .before .before in
     let sides = answered .before .before .before in
     is-completed _ _ (answered .before .judge .ensures) (answered .before .before .sized .ensures) (answered .and-then .ensures) (test .before .is-done .ensures)
-    (λ k. sides .before .shared-slice-known .given k .fits) (test .if1 .taken) (call .complete .ensures)
+    (λ k. sides .before .shared-slice-known .given k .fits) (test .if1 .taken) (call .put-parity .ensures)
 
 returns-2 : tie.Need-returns-2
 returns-2 c =
@@ -51,7 +52,7 @@ write-parity-spec =
     judge-requires
     and-then-requires
     is-done-requires
-    complete-requires
+    put-parity-requires
     same-length
     returns
     returns-2)
