@@ -31,11 +31,11 @@ extern "C" {
 
 #define BDRE_VERSION "1.2.0"
 
-#define BDRE_USER 65536   /* user data: 32 sectors of 2,048 bytes */
-#define BDRE_SIDE 592     /* side data: 16 flag bytes, then 32 x 18 bytes of user control data */
-#define BDRE_DC 496       /* dc words, one for each frame; bit 27 is the frame's first dc-control bit, bit 0 its last */
-#define BDRE_IMAGE 119788 /* image: 496 frames of 1,932 bits, the sync that follows, two zero bits; msb first */
-#define BDRE_WORK 76880   /* work: the ECC cluster */
+#define BDRE_USER 65536      /* user data: 32 sectors of 2,048 bytes */
+#define BDRE_SIDE 592        /* side data: 16 flag bytes, then 32 x 18 bytes of user control data */
+#define BDRE_DC 496          /* dc words, one for each frame; bit 27 is the frame's first dc-control bit, bit 0 its last */
+#define BDRE_IMAGE 119788    /* image: 496 frames of 1,932 bits, the sync that follows, two zero bits; msb first */
+#define BDRE_WORK 76880      /* work: the ECC cluster */
 #define BDRE_COLUMN_DATA 223 /* the most data bytes of a column */
 #define BDRE_PARITY 32       /* the parity bytes of a column */
 

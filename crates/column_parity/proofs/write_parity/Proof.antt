@@ -20,10 +20,13 @@ is-done-requires c κs = search needs
 put-parity-requires : tie.Need-put-parity-requires
 put-parity-requires c κs =
     let test = c .before in
-    let answered = test .before .before in
-    let lent = answered .before .before .before .before .before .args in
-    may-complete (now (lent .message)) (now (lent .parity))
-    (answered .before .judge .ensures) (answered .before .before .sized .ensures) (answered .and-then .ensures) (test .before .is-done .ensures) (test .if1 .taken)
+    let joined = test .before .before in
+    let judged = joined .before in
+    let room = judged .before in
+    let known = room .before .before in
+    let lent = known .before .args in
+    may-complete (now (lent .message)) (now (lent .parity)) (judged .judge .ensures) (room .sized .ensures) (joined .and-then .ensures)
+    (test .before .is-done .ensures) (test .if1 .taken)
 
 same-length : tie.Need-same-length
 same-length c = search needs
@@ -32,17 +35,21 @@ returns : tie.Need-returns
 returns c =
     let call = c .before .before in
     let test = call .before .before in
-    let answered = test .before .before in
-    let sides = answered .before .before .before in
-    is-completed _ _ (answered .before .judge .ensures) (answered .before .before .sized .ensures) (answered .and-then .ensures) (test .before .is-done .ensures)
-    (λ k. sides .before .shared-slice-known .given k .fits) (test .if1 .taken) (call .put-parity .ensures)
+    let joined = test .before .before in
+    let judged = joined .before in
+    let room = judged .before in
+    let known = room .before .before in
+    is-completed _ _ (judged .judge .ensures) (room .sized .ensures) (joined .and-then .ensures) (test .before .is-done .ensures)
+    (λ k. known .shared-slice-known .given k .fits) (test .if1 .taken) (call .put-parity .ensures)
 
 returns-2 : tie.Need-returns-2
 returns-2 c =
-    let answered = c .before .before in
-    let sides = answered .before .before .before in
-    is-refused _ _ (answered .before .judge .ensures) (answered .before .before .sized .ensures) (answered .and-then .ensures) (c .before .is-done .ensures)
-    (λ k. sides .before .shared-slice-known .given k .fits) (c .if1 .left)
+    let joined = c .before .before in
+    let judged = joined .before in
+    let room = judged .before in
+    let known = room .before .before in
+    is-refused _ _ (judged .judge .ensures) (room .sized .ensures) (joined .and-then .ensures) (c .before .is-done .ensures)
+    (λ k. known .shared-slice-known .given k .fits) (c .if1 .left)
 
 pub write-parity-spec : {M : Type 1} → statement M
 write-parity-spec =
