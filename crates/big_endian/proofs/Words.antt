@@ -1,14 +1,16 @@
--- A word and its four bytes give each other, and the word is the number that their bits make. Assumes nothing.
+-- A word and its four bytes give each other, the word is the number that their bits make, and sums of words have sums of bytes. Assumes nothing.
 use mathlib.Core.Path.{_≡_, refl, sym, ap, _∙_}
 use mathlib.Core.List.{List, [], _∷_}
 use Prim.Native.Nat.{ℕ, zero, suc, _+_, _*_, _/_, _%_, _^_, _<_, _≤_}
 use native.Mathlib.Nat.{mod-lt, mod-eq-of-lt, zero-lt-suc}
 use native.Mathlib.Omega.{arith}
 use lib.Arith.{digits-mod}
+use lib.Bits.{bitXor, xor-shr, xor-mod}
 use lib.ListN.{length, getD, take, drop}
 use lib.Pow.{split, shr-shr, shr-mod}
 use lib.Seq.{drop-cons}
 use Rattle.laws.specs.Bytes.{Bytes}
+use Rattle.laws.specs.Combined.{combined}
 use Rattle.bits.specs.Bits.{bitsOf, number}
 use Rattle.bits.proofs.Concat.{number-bytes, number-byte}
 use Rattle.big_endian.specs.Words.{wordOf, wordAt, fourBytes}
@@ -58,6 +60,14 @@ word-back v h =
 pub number-of-four : (v : ℕ) → v < 2 ^ 32 → number (bitsOf (fourBytes v)) ≡ v
 number-of-four v h =
     number-four (v / 2 ^ 24 % 256) (v / 2 ^ 16 % 256) (v / 2 ^ 8 % 256) (v % 256) (byte (v / 2 ^ 24)) (byte (v / 2 ^ 16)) (byte (v / 2 ^ 8)) (byte v) ∙ word-back v h
+
+-- the bytes of two words combined
+pub four-combined : (v w : ℕ) → fourBytes (bitXor v w) ≡ combined (fourBytes v) (fourBytes w)
+unfolding combined
+four-combined v w =
+    let byte-at : (k : ℕ) → bitXor v w / 2 ^ k % 256 ≡ bitXor (v / 2 ^ k % 256) (w / 2 ^ k % 256) =
+    λ k. ap (λ (x : ℕ). x % 256) (xor-shr v w k) ∙ xor-mod (v / 2 ^ k) (w / 2 ^ k) 8 in
+    cc (byte-at 24, byte-at 16, byte-at 8, xor-mod v w 8)
 
 -- ---- four bytes of a list
 

@@ -4,3 +4,4 @@ pub mod Number
 pub mod Read
 pub mod Pack
 pub mod Concat
+pub mod Combined

@@ -7,6 +7,6 @@ pub mod Register
 pub mod Powers
 pub mod Unique
 pub mod Roots
-pub mod Parity
 pub mod Linear
+pub mod Parity
 pub mod Multiple

@@ -1,16 +1,19 @@
--- The division is linear in the register and the message. Assumes nothing.
+-- The division is linear in the register and the message, and so is the parity. Assumes nothing.
 use mathlib.Core.Path.{_≡_, refl, sym, ap, ap₂, _∙_}
 use mathlib.Core.List.{List, [], _∷_, _++_}
 use Prim.Native.Nat.{ℕ, zero, suc}
 use native.Mathlib.Nat.{suc-inj}
 use native.Mathlib.Omega.{arith}
-use lib.ListN.{length}
+use lib.ListN.{length, drop}
+use Rattle.laws.specs.Combined.{combined}
 use Rattle.laws.specs.Tabulate.{tabulate}
+use Rattle.laws.proofs.Tabulate.{length-tabulate}
 use Rattle.galois.specs.Field.{sum}
 use Rattle.galois.proofs.Sum.{sum-zero, zero-sum, sum-self, sum-swap}
 use Rattle.galois.proofs.Product.{sum-product}
-use Rattle.column.specs.Column.{sums, scaled, pushed, remainder}
+use Rattle.column.specs.Column.{sums, scaled, generator, pushed, remainder, parity}
 use Rattle.column.proofs.Sums.{length-snoc, length-scaled}
+use Rattle.column.proofs.Generator.{coefficients-length}
 use Rattle.column.proofs.Division.{length-pushed}
 
 sums-swap : (a b c d : List ℕ) → sums (sums a b) (sums c d) ≡ sums (sums a c) (sums b d)
@@ -43,18 +46,26 @@ pushed-sums g (x ∷ r) (y ∷ s) d e h =
     ap₂ sums (sym (sums-snoc r s (suc-inj h))) (ap (λ (u : ℕ). scaled u g) (sum-swap d e x y) ∙ scaled-sum (sum d x) (sum e y) g)
     ∙ sums-swap (r ++ 0 ∷ []) (s ++ 0 ∷ []) (scaled (sum d x) g) (scaled (sum e y) g)
 
-remainder-sums : (g r s ms : List ℕ) → length r ≡ length g → length s ≡ length g
-    → remainder g (sums r s) ms ≡ sums (remainder g r ms) (remainder g s (tabulate (length ms) (λ _. 0)))
-unfolding remainder tabulate
-remainder-sums g r s [] hr hs = refl
-remainder-sums g r s (m ∷ ms) hr hs =
-    ap (λ (l : List ℕ). remainder g l ms) (ap (pushed g (sums r s)) (sym (sum-zero m)) ∙ pushed-sums g r s m 0 (hr ∙ sym hs))
-    ∙ remainder-sums g (pushed g r m) (pushed g s 0) ms (length-pushed g r m hr) (length-pushed g s 0 hs)
+-- what two messages of one length leave, together
+remainder-sums : (g r s ms ns : List ℕ) → length r ≡ length g → length s ≡ length g → length ms ≡ length ns
+    → remainder g (sums r s) (sums ms ns) ≡ sums (remainder g r ms) (remainder g s ns)
+unfolding remainder sums
+remainder-sums g r s [] [] hr hs e = refl
+remainder-sums g r s [] (n ∷ ns) hr hs e = absurd (omega arith)
+remainder-sums g r s (m ∷ ms) [] hr hs e = absurd (omega arith)
+remainder-sums g r s (m ∷ ms) (n ∷ ns) hr hs e =
+    ap (λ (l : List ℕ). remainder g l (sums ms ns)) (pushed-sums g r s m n (hr ∙ sym hs))
+    ∙ remainder-sums g (pushed g r m) (pushed g s n) ms ns (length-pushed g r m hr) (length-pushed g s n hs) (suc-inj e)
 
 pub zeros-snoc : (n : ℕ) → _++_ {A = ℕ} (tabulate n (λ _. 0)) (0 ∷ []) ≡ tabulate (suc n) (λ _. 0)
 unfolding tabulate
 zeros-snoc zero = refl
 zeros-snoc (suc n) = ap (λ (l : List ℕ). 0 ∷ l) (zeros-snoc n)
+
+pub sums-zeros : (l : List ℕ) → sums l (tabulate (length l) (λ _. 0)) ≡ l
+unfolding tabulate sums
+sums-zeros [] = refl
+sums-zeros (x ∷ l) = ap₂ _∷_ (sum-zero x) (sums-zeros l)
 
 pub zeros-sums : (n : ℕ) (l : List ℕ) → length l ≡ n → sums (tabulate n (λ _. 0)) l ≡ l
 unfolding tabulate sums
@@ -79,5 +90,34 @@ pub first-in : (g cs ms : List ℕ) (c m : ℕ) → length (c ∷ cs) ≡ length
     → remainder g (c ∷ cs) (m ∷ ms) ≡ sums (remainder g (cs ++ 0 ∷ []) ms) (left g (length ms) (sum m c))
 unfolding remainder pushed left
 first-in g cs ms c m e =
-    remainder-sums g (cs ++ 0 ∷ []) (scaled (sum m c) g) ms (length-snoc cs ∙ e) (length-scaled (sum m c) g)
+    ap (remainder g (sums (cs ++ 0 ∷ []) (scaled (sum m c) g))) (sym (sums-zeros ms))
+    ∙ remainder-sums g (cs ++ 0 ∷ []) (scaled (sum m c) g) ms (tabulate (length ms) (λ _. 0)) (length-snoc cs ∙ e) (length-scaled (sum m c) g) (sym (length-tabulate (length ms) (λ _. 0)))
     ∙ ap (λ (l : List ℕ). sums (remainder g (cs ++ 0 ∷ []) ms) (remainder g l (tabulate (length ms) (λ _. 0)))) (sym (pushed-zeros g (sum m c)))
+
+-- ---- the parity of combined messages
+
+-- the field's sum is bit by bit, so the sum of two columns is their combination
+pub sums-combined : (a b : List ℕ) → sums a b ≡ combined a b
+unfolding sums combined sum
+sums-combined [] b = refl
+sums-combined (x ∷ a) [] = refl
+sums-combined (x ∷ a) (y ∷ b) = ap (λ (l : List ℕ). sum x y ∷ l) (sums-combined a b)
+
+pub parity-combined : (r : ℕ) (a b : List ℕ) → length a ≡ length b → parity r (combined a b) ≡ combined (parity r a) (parity r b)
+unfolding parity
+parity-combined r a b same =
+    ap₂ (remainder g) (sym (zeros-sums r zeros size)) (sym (sums-combined a b))
+    ∙ remainder-sums g zeros zeros a b start start same
+    ∙ sums-combined (remainder g zeros a) (remainder g zeros b)
+  where
+    g : List ℕ
+    g = drop 1 (generator r)
+
+    zeros : List ℕ
+    zeros = tabulate r (λ _. 0)
+
+    size : length zeros ≡ r
+    size = length-tabulate r (λ _. 0)
+
+    start : length zeros ≡ length g
+    start = size ∙ sym (coefficients-length r)

@@ -22,7 +22,7 @@ use Rattle.column.proofs.Generator.{generator-roots, generator-first, c
 use Rattle.column.proofs.Division.{length-pushed, bytes-pushed}
 use Rattle.column.proofs.Unique.{value-out}
 use Rattle.column.proofs.Roots.{has-roots}
-use Rattle.column.proofs.Linear.{zeros-sums}
+use Rattle.column.proofs.Linear.{sums-zeros, zeros-sums}
 use Rattle.column.proofs.Parity.{parity-length, parity-only, roots-parity, test-parity, test-column}
 
 abbrev zeros : ℕ → List ℕ
@@ -97,11 +97,6 @@ unfolding scaled
 scaled-one [] b = refl
 scaled-one (c ∷ cs) b = ap₂ _∷_ (one-product c (b 0)) (scaled-one cs (λ j. b (suc j)))
 
-sums-none : (cs : List ℕ) → sums cs (zeros (length cs)) ≡ cs
-unfolding sums tabulate
-sums-none [] = refl
-sums-none (c ∷ cs) = ap₂ _∷_ (sum-zero c) (sums-none cs)
-
 -- x - a is 1 ∷ a
 root-product : (a c : ℕ) (cs : List ℕ) → Bytes (c ∷ cs) → timesRoot a (c ∷ cs) ≡ multiplied (1 ∷ a ∷ []) (c ∷ cs)
 unfolding timesRoot multiplied tabulate
@@ -109,7 +104,7 @@ root-product a c cs b =
     ap₂ (λ (k l : List ℕ). sums (k ++ 0 ∷ []) (0 ∷ l)) (sym (scaled-one (c ∷ cs) b))
     (sym
     (ap₂ sums (append-nil (scaled a (c ∷ cs))) (ap (λ (l : List ℕ). 0 ∷ l) (multiplied-none c cs) ∙ ap zeros (sym (length-scaled a (c ∷ cs))))
-    ∙ sums-none (scaled a (c ∷ cs))))
+    ∙ sums-zeros (scaled a (c ∷ cs))))
 
 generator-bytes : (r : ℕ) → Bytes (generator r)
 unfolding generator timesRoot

@@ -1,5 +1,5 @@
 -- The laws of the parity, for every length of the message: the only r bytes that give the column its roots. Assumes nothing.
-use mathlib.Core.Path.{_≡_, refl, sym, ap, _∙_, subst⁻¹}
+use mathlib.Core.Path.{_≡_, refl, sym, ap, ap₂, subst, _∙_, subst⁻¹}
 use mathlib.Core.Bool.{Bool, true, false, false≢true}
 use mathlib.Core.List.{List, _++_}
 use Prim.Native.Nat.{ℕ, _+_, _<_, _≤_}
@@ -9,14 +9,17 @@ use borrow.Author.Count.{below-more}
 use lib.ListN.{length, getD, take, drop, length-drop, take-append-drop}
 use lib.Seq.{getD-drop, ext-getD}
 use Rattle.laws.specs.Bytes.{Bytes}
+use Rattle.laws.specs.Combined.{combined}
 use Rattle.laws.specs.Tabulate.{tabulate}
 use Rattle.laws.proofs.Bytes.{bytes-take, bytes-drop, bytes-tabulate}
+use Rattle.laws.proofs.Combined.{bytes-combined}
 use Rattle.laws.proofs.Tabulate.{length-tabulate}
 use Rattle.galois.specs.Field.{α, power}
 use Rattle.column.specs.Column.{value, Roots, hasRoots, Completes, IsParity, EndsIn, generator, remainder, parity}
 use Rattle.column.proofs.Value.{value-append, value-zeros}
 use Rattle.column.proofs.Generator.{coefficients-length, coefficients-roots}
 use Rattle.column.proofs.Division.{length-remainder, bytes-remainder, remainder-keeps}
+use Rattle.column.proofs.Linear.{parity-combined}
 use Rattle.column.proofs.Unique.{completes-once}
 use Rattle.column.proofs.Roots.{has-roots}
 
@@ -62,6 +65,13 @@ module _ (r : ℕ) (few : r ≤ 255) where
   -- a column that has its roots ends in the parity of what stands before
   pub roots-parity : (message p : List ℕ) → Bytes message → Bytes p → length p ≡ r → Roots r (message ++ p) → p ≡ parity r message
   roots-parity message p bm bp size roots = parity-only message bm .only p (record { size = size; bytes = bp; roots = roots })
+
+  -- of two messages of one length, combined, the parity is the combination
+  pub is-parity-combined : (a b p q : List ℕ) → Bytes a → Bytes b → length a ≡ length b → IsParity r a p → IsParity r b q
+      → IsParity r (combined a b) (combined p q)
+  is-parity-combined a b p q ba bb same ip iq =
+      subst (IsParity r (combined a b)) (parity-combined r a b same ∙ ap₂ combined (ip .only (parity r a) (parity-completes r a ba)) (iq .only (parity r b) (parity-completes r b bb)))
+      (parity-only (combined a b) (bytes-combined a b ba bb))
 
 -- ---- the same, of the test
 

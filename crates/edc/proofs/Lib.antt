@@ -5,3 +5,4 @@ pub mod Detection
 pub mod Quotient
 pub mod Loops
 pub mod Register
+pub mod Linear

@@ -6,6 +6,7 @@ pub mod Scatter
 pub mod First
 pub mod Bytes
 pub mod Xor
+pub mod Combined
 pub mod Booleans
 pub mod Same
 pub mod Shifts

@@ -36,16 +36,16 @@ module _ (frames : ℕ → List ℕ) (L : ℕ) where
       List·getD-append (information frames L) (parity 32 (information frames L)) 0 i (omega (arith, length-information))
       ∙ getD-information i h
 
-module _ (frames : ℕ → List ℕ) (L : ℕ) (bytes : (F : ℕ) → Bytes (frames F)) where
-  pub bytes-information : Bytes (information frames L)
-  unfolding information
-  bytes-information = bytes-tabulate 216 (λ i. dataByte frames (216 * L + i)) (λ i h. bytes ((216 * L + i) / 2052) ((216 * L + i) % 2052))
-
   pub length-word : length (codeWord frames L) ≡ 248
   unfolding codeWord
   length-word =
       let message = information frames L in
-      omega (arith, length-append message (parity 32 message), length-information frames L, parity-length 32 message)
+      omega (arith, length-append message (parity 32 message), length-information, parity-length 32 message)
+
+module _ (frames : ℕ → List ℕ) (L : ℕ) (bytes : (F : ℕ) → Bytes (frames F)) where
+  pub bytes-information : Bytes (information frames L)
+  unfolding information
+  bytes-information = bytes-tabulate 216 (λ i. dataByte frames (216 * L + i)) (λ i h. bytes ((216 * L + i) / 2052) ((216 * L + i) % 2052))
 
   pub bytes-word : Bytes (codeWord frames L)
   unfolding codeWord
@@ -64,7 +64,7 @@ module _ (frames : ℕ → List ℕ) (L : ℕ) (bytes : (F : ℕ) → Bytes (fra
 
   -- and its last 32 bytes are the only ones that make it one
   pub word-parity : ParityExactly 32 (take 216 (codeWord frames L)) (drop 216 (codeWord frames L))
-  word-parity = column-exactly 32 (omega arith) 216 (codeWord frames L) bytes-word length-word word-roots
+  word-parity = column-exactly 32 (omega arith) 216 (codeWord frames L) bytes-word (length-word frames L) word-roots
 
 -- ---- what a cluster was made of comes out again
 
@@ -75,7 +75,7 @@ byte-at frames L N h = ap₂ (λ (l n : ℕ). getD (codeWord frames l) n 0) (wor
 pub words-back : (frames : ℕ → List ℕ) → ((F : ℕ) → Bytes (frames F)) → (L : ℕ) → L < 304 → wordIn (ldcByte frames) L ≡ codeWord frames L
 unfolding wordIn
 words-back frames bytes L h =
-    sym (is-tabulate 0 248 (λ N. at (ldcByte frames) (ldcPlace L N)) (codeWord frames L) (length-word frames L bytes) (λ N _. sym (byte-at frames L N h)))
+    sym (is-tabulate 0 248 (λ N. at (ldcByte frames) (ldcPlace L N)) (codeWord frames L) (length-word frames L) (λ N _. sym (byte-at frames L N h)))
 
 data-back : (frames : ℕ → List ℕ) (p : ℕ) → p < 65664 → dataIn (ldcByte frames) p ≡ dataByte frames p
 data-back frames p h =

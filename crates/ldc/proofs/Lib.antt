@@ -1,4 +1,5 @@
--- The interleavings as a permutation, the figures' entries, and code words and data frames both ways.
+-- The interleavings as a permutation, the figures' entries, code words and data frames both ways, and sums.
 pub mod Interleaving
 pub mod Figures
 pub mod CodeWords
+pub mod Linear

@@ -1,20 +1,22 @@
--- Laws of scrambling: lengths, bytes, and that a second time undoes it; and what the loops keep. Assumes nothing.
-use mathlib.Core.Path.{_≡_, refl, sym, ap, _∙_}
+-- Laws of scrambling: lengths, bytes, that it drops out of sums, and that a second time undoes it; and what the loops keep. Assumes nothing.
+use mathlib.Core.Path.{_≡_, refl, sym, ap, ap₂, _∙_}
 use mathlib.Core.List.{List}
 use Prim.Native.Nat.{ℕ, _+_, _*_, _/_, _%_, _^_, _<_, _≤_, min}
 use native.Mathlib.Nat.{mod-lt}
 use native.Mathlib.Numerals.{add-one}
 use native.Mathlib.Decide.{decLt}
 use native.Mathlib.Omega.{arith}
-use lib.Bits.{bitXor, xor-zero-r, xor-lt, xor-mod}
+use lib.Bits.{bitXor, xor-comm, xor-zero-r, xor-lt, xor-mod}
 use lib.ListN.{length, getD, set, List·getD-eq-default}
 use lib.Pow.{pow-pos}
-use lib.Seq.{ext-getD, getD-set-other}
+use lib.Seq.{getD-set-other}
 use Rattle.laws.specs.Bytes.{Bytes}
+use Rattle.laws.specs.Combined.{combined}
 use Rattle.laws.proofs.Bytes.{bytes-tabulate}
+use Rattle.laws.proofs.Combined.{length-combined, getD-combined, is-combined, combined-comm, combined-inj}
 use Rattle.laws.proofs.Fill.{Upto, upto-none, upto-more, upto-all}
 use Rattle.laws.proofs.Tabulate.{length-tabulate, getD-tabulate, is-tabulate}
-use Rattle.laws.proofs.Xor.{xor-assoc, xor-cancel}
+use Rattle.laws.proofs.Xor.{xor-assoc, xor-twice}
 use Rattle.scrambling.specs.Scrambling.{stage, shift, shifts, preset, register, scramblingByte, scramblingOf, scrambled}
 
 -- ---- the register
@@ -81,21 +83,36 @@ unfolding scrambled
 bytes-scrambled stream frame bs bf =
     bytes-tabulate (length frame) (λ k. bitXor (getD frame k 0) (getD stream k 0)) (λ k h. xor-lt 8 (getD frame k 0) (getD stream k 0) (bf k) (bs k))
 
--- scrambling undone gives the frame
+-- two frames scrambled with one stream combine to what the frames combine to
+pub scrambled-both : (stream f g : List ℕ) → length f ≡ length g → combined (scrambled stream f) (scrambled stream g) ≡ combined f g
+scrambled-both stream f g same = is-combined (combined sf sg) f g (length-combined sf sg sizes ∙ length-scrambled stream f) same at
+  where
+    sf : List ℕ
+    sf = scrambled stream f
+
+    sg : List ℕ
+    sg = scrambled stream g
+
+    sizes : length sf ≡ length sg
+    sizes = length-scrambled stream f ∙ same ∙ sym (length-scrambled stream g)
+
+    drops-out : (x y z : ℕ) → bitXor (bitXor x z) (bitXor y z) ≡ bitXor x y
+    drops-out x y z = ap (bitXor (bitXor x z)) (xor-comm y z) ∙ xor-assoc x z (bitXor z y) ∙ ap (bitXor x) (xor-twice z y)
+
+    at : (k : ℕ) → k < length f → getD (combined sf sg) k 0 ≡ bitXor (getD f k 0) (getD g k 0)
+    at k h =
+        getD-combined sf sg k sizes
+        ∙ ap₂ bitXor (getD-scrambled stream f k h) (getD-scrambled stream g k (omega arith))
+        ∙ drops-out (getD f k 0) (getD g k 0) (getD stream k 0)
+
+-- so scrambling undone gives the frame: with the frame once scrambled both combine to the same
 pub scrambled-twice : (stream frame : List ℕ) → scrambled stream (scrambled stream frame) ≡ frame
-scrambled-twice stream frame = ext-getD 0 (scrambled stream once) frame size (λ k h. at k (omega (arith, size)))
+scrambled-twice stream frame =
+    combined-inj once (scrambled stream once) frame (sym (length-scrambled stream once)) (length-scrambled stream frame)
+    (scrambled-both stream frame once (sym (length-scrambled stream frame)) ∙ combined-comm frame once)
   where
     once : List ℕ
     once = scrambled stream frame
-
-    size : length (scrambled stream once) ≡ length frame
-    size = length-scrambled stream once ∙ length-scrambled stream frame
-
-    at : (k : ℕ) → k < length frame → getD (scrambled stream once) k 0 ≡ getD frame k 0
-    at k h =
-        getD-scrambled stream once k (omega (arith, length-scrambled stream frame))
-        ∙ ap (λ (x : ℕ). bitXor x (getD stream k 0)) (getD-scrambled stream frame k h)
-        ∙ xor-cancel (getD frame k 0) (getD stream k 0)
 
 -- so equal scrambled frames come from equal frames
 pub scrambled-inj : (stream f g : List ℕ) → scrambled stream f ≡ scrambled stream g → f ≡ g

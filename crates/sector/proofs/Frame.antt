@@ -1,4 +1,4 @@
--- Laws of data frames: their parts, the test of the code in both directions, and that a scrambled one gives its user bytes back. Assumes nothing.
+-- Laws of data frames: their parts, their sums, the test of the code in both directions, and that a scrambled one gives its user bytes back. Assumes nothing.
 use mathlib.Core.Path.{_≡_, sym, ap, subst, _∙_}
 use mathlib.Core.Bool.{true}
 use mathlib.Core.List.{List, _++_}
@@ -8,7 +8,9 @@ use borrow.Author.Tests.{eq-eqb, eqb-true}
 use lib.ListN.{length, getD, take, drop, length-append, length-drop, take-append-drop, List·getD-append}
 use lib.Seq.{take-at, drop-at}
 use Rattle.laws.specs.Bytes.{Bytes}
+use Rattle.laws.specs.Combined.{combined}
 use Rattle.laws.proofs.Bytes.{bytes-append, bytes-drop}
+use Rattle.laws.proofs.Combined.{combined-append}
 use Rattle.bits.specs.Bits.{bitsOf, number}
 use Rattle.bits.proofs.Bits.{length-bits}
 use Rattle.edc.specs.Edc.{MultipleOfG, edcOf, edcBytes}
@@ -16,7 +18,8 @@ use Rattle.scrambling.specs.Scrambling.{scramblingOf, scrambled}
 use Rattle.sector.specs.DataFrame.{dataFrame, sectorFrame, edcRight}
 use Rattle.bits.proofs.Concat.{bytes-equal}
 use Rattle.edc.proofs.Detection.{length-edc, bytes-edc, number-edc, edc-completes, edc-only, code-completes, complete-is-code}
-use Rattle.scrambling.proofs.Stream.{length-scrambled, bytes-scrambled, bytes-scrambling, scrambled-twice, scrambled-inj}
+use Rattle.edc.proofs.Linear.{edc-bytes-combined}
+use Rattle.scrambling.proofs.Stream.{length-scrambled, bytes-scrambled, bytes-scrambling, scrambled-both, scrambled-twice, scrambled-inj}
 
 -- ---- the parts of a data frame
 
@@ -61,6 +64,11 @@ module _ (user : List ℕ) (size : length user ≡ 2048) where
   unfolding edcRight
   frame-right = rw (eq-eqb (length (dataFrame user)) 2052 frame-size, drop-frame, take-frame) (eq-eqb (number (bitsOf (edcBytes user))) (edcOf user) (number-edc user))
 
+-- combined sectors have the combined data frames
+pub frame-combined : (u v : List ℕ) → length u ≡ length v → dataFrame (combined u v) ≡ combined (dataFrame u) (dataFrame v)
+unfolding dataFrame
+frame-combined u v same = ap (_++_ (combined u v)) (edc-bytes-combined u v same) ∙ sym (combined-append u v (edcBytes u) (edcBytes v) same)
+
 -- equal data frames hold equal user bytes
 pub frame-inj : (u v : List ℕ) → length u ≡ 2048 → length v ≡ 2048 → dataFrame u ≡ dataFrame v → u ≡ v
 frame-inj u v hu hv e = sym (take-frame u hu) ∙ ap (take 2048) e ∙ take-frame v hv
@@ -97,6 +105,11 @@ module _ (frame : List ℕ) (size : length frame ≡ 2052) where
       sym (take-append-drop 2048 frame) ∙ ap (λ (l : List ℕ). user ++ l) code
 
 -- ---- scrambled data frames
+
+-- of two sectors under one PSN: scrambling drops out
+pub sector-combined : (psn : ℕ) (u v : List ℕ) → length u ≡ length v → combined (sectorFrame psn u) (sectorFrame psn v) ≡ dataFrame (combined u v)
+sector-combined psn u v same =
+    scrambled-both (scramblingOf psn) (dataFrame u) (dataFrame v) (omega (arith, length-frame u, length-frame v)) ∙ sym (frame-combined u v same)
 
 module _ (psn : ℕ) (user : List ℕ) where
   pub length-sector : length user ≡ 2048 → length (sectorFrame psn user) ≡ 2052

@@ -1,0 +1,2 @@
+-- Sums of sectors.
+pub mod Statements
