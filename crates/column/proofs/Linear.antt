@@ -62,10 +62,10 @@ unfolding tabulate
 zeros-snoc zero = refl
 zeros-snoc (suc n) = ap (λ (l : List ℕ). 0 ∷ l) (zeros-snoc n)
 
-pub sums-zeros : (l : List ℕ) → sums l (tabulate (length l) (λ _. 0)) ≡ l
+pub sums-none : (l : List ℕ) → sums l (tabulate (length l) (λ _. 0)) ≡ l
 unfolding tabulate sums
-sums-zeros [] = refl
-sums-zeros (x ∷ l) = ap₂ _∷_ (sum-zero x) (sums-zeros l)
+sums-none [] = refl
+sums-none (x ∷ l) = ap₂ _∷_ (sum-zero x) (sums-none l)
 
 pub zeros-sums : (n : ℕ) (l : List ℕ) → length l ≡ n → sums (tabulate n (λ _. 0)) l ≡ l
 unfolding tabulate sums
@@ -90,7 +90,7 @@ pub first-in : (g cs ms : List ℕ) (c m : ℕ) → length (c ∷ cs) ≡ length
     → remainder g (c ∷ cs) (m ∷ ms) ≡ sums (remainder g (cs ++ 0 ∷ []) ms) (left g (length ms) (sum m c))
 unfolding remainder pushed left
 first-in g cs ms c m e =
-    ap (remainder g (sums (cs ++ 0 ∷ []) (scaled (sum m c) g))) (sym (sums-zeros ms))
+    ap (remainder g (sums (cs ++ 0 ∷ []) (scaled (sum m c) g))) (sym (sums-none ms))
     ∙ remainder-sums g (cs ++ 0 ∷ []) (scaled (sum m c) g) ms (tabulate (length ms) (λ _. 0)) (length-snoc cs ∙ e) (length-scaled (sum m c) g) (sym (length-tabulate (length ms) (λ _. 0)))
     ∙ ap (λ (l : List ℕ). sums (remainder g (cs ++ 0 ∷ []) ms) (remainder g l (tabulate (length ms) (λ _. 0)))) (sym (pushed-zeros g (sum m c)))
 

@@ -22,7 +22,7 @@ use Rattle.column.proofs.Generator.{generator-roots, generator-first, c
 use Rattle.column.proofs.Division.{length-pushed, bytes-pushed}
 use Rattle.column.proofs.Unique.{value-out}
 use Rattle.column.proofs.Roots.{has-roots}
-use Rattle.column.proofs.Linear.{sums-zeros, zeros-sums}
+use Rattle.column.proofs.Linear.{sums-none, zeros-sums}
 use Rattle.column.proofs.Parity.{parity-length, parity-only, roots-parity, test-parity, test-column}
 
 abbrev zeros : ℕ → List ℕ
@@ -104,7 +104,7 @@ root-product a c cs b =
     ap₂ (λ (k l : List ℕ). sums (k ++ 0 ∷ []) (0 ∷ l)) (sym (scaled-one (c ∷ cs) b))
     (sym
     (ap₂ sums (append-nil (scaled a (c ∷ cs))) (ap (λ (l : List ℕ). 0 ∷ l) (multiplied-none c cs) ∙ ap zeros (sym (length-scaled a (c ∷ cs))))
-    ∙ sums-zeros (scaled a (c ∷ cs))))
+    ∙ sums-none (scaled a (c ∷ cs))))
 
 generator-bytes : (r : ℕ) → Bytes (generator r)
 unfolding generator timesRoot

@@ -2,7 +2,7 @@
 -- exclusive or. The lists are lists of bytes; where nothing is said of that, any numbers will do.
 use mathlib.Core.Path.{_≡_}
 use mathlib.Core.List.{List}
-use Prim.Native.Nat.{ℕ, _<_}
+use Prim.Native.Nat.{ℕ, _<_, _≤_}
 use lib.Bits.{bitXor}
 use lib.ListN.{length}
 use Rattle.laws.specs.Bytes.{Bytes}
@@ -11,36 +11,43 @@ use Rattle.edc.specs.Edc.{edcOf, edcBytes}
 use Rattle.column.specs.Column.{IsParity, parity}
 use Rattle.scrambling.specs.Scrambling.{scramblingOf, scrambled}
 use Rattle.sector.specs.DataFrame.{dataFrame, sectorFrame}
-use Rattle.ldc.specs.LdcBlock.{codeWord}
+use Rattle.ldc.specs.LdcBlock.{information, codeWord}
 use Rattle.ldc.specs.LdcCluster.{ldcByte}
 
--- of any two lists of equal length, combined, the code is the combination of their codes
-abbrev pub Linear : (List ℕ → List ℕ) → Type 0
-Linear code = (a b : List ℕ) → length a ≡ length b → code (combined a b) ≡ combined (code a) (code b)
+-- of any two lists of equal length, combined, what f makes is the combination of what it makes of each
+abbrev pub IsLinear : (List ℕ → List ℕ) → Type 0
+IsLinear f = (a b : List ℕ) → length a ≡ length b → f (combined a b) ≡ combined (f a) (f b)
 
 -- 13.3: the error-detection code, as a number and as four bytes; with it the data frame (13.2)
 pub record EdcLinear : Type 0 where
   pub numbers : (a b : List ℕ) → length a ≡ length b → edcOf (combined a b) ≡ bitXor (edcOf a) (edcOf b)
-  pub four-bytes : Linear edcBytes
-  pub data-frames : Linear dataFrame
+  pub four-bytes : IsLinear edcBytes
+  pub data-frames : IsLinear dataFrame
 
 -- 13.7, 13.9.2.2, 13.12: the parity of a column with r roots; the same, said of the only r bytes that give the column its roots
-pub record ParityLinear (r : ℕ) : Type 0 where
-  pub parities : Linear (parity r)
-  pub only-bytes : (a b p q : List ℕ) → Bytes a → Bytes b → length a ≡ length b → IsParity r a p → IsParity r b q → IsParity r (combined a b) (combined p q)
+pub record ParityLinear : Type 0 where
+  pub parities : (r : ℕ) → IsLinear (parity r)
+  pub is-parity : (r : ℕ) → r ≤ 255 → (a b p q : List ℕ) → Bytes a → Bytes b → length a ≡ length b → IsParity r a p → IsParity r b q
+      → IsParity r (combined a b) (combined p q)
 
--- 13.4: frames scrambled under one PSN combine to what the plain ones combine to; so scrambling is its own inverse. And with the code: the
--- scrambled data frames of two sectors combine to the plain one of the sectors combined
+-- 13.4, of frames under one PSN
 pub record ScramblingDropsOut (psn : ℕ) : Type 0 where
+  -- scrambled frames combine to what the plain ones combine to
   pub frames : (f g : List ℕ) → length f ≡ length g → combined (scrambled (scramblingOf psn) f) (scrambled (scramblingOf psn) g) ≡ combined f g
+  -- so scrambling is its own inverse
   pub undone : (f : List ℕ) → scrambled (scramblingOf psn) (scrambled (scramblingOf psn) f) ≡ f
+  -- and of a sum one part alone is scrambled
+  pub one-part : (f g : List ℕ) → length f ≡ length g → scrambled (scramblingOf psn) (combined f g) ≡ combined (scrambled (scramblingOf psn) f) g
+  -- of two sectors: the plain data frame of the sectors combined
   pub sectors : (u v : List ℕ) → length u ≡ length v → combined (sectorFrame psn u) (sectorFrame psn v) ≡ dataFrame (combined u v)
 
--- the 32 data frames of a cluster, each combined with that of another
-abbrev pub combinedFrames : (ℕ → List ℕ) → (ℕ → List ℕ) → ℕ → List ℕ
-combinedFrames f g F = combined (f F) (g F)
+-- of 32 data frames each, those of h are those of f and g, of equal lengths, combined
+pub record CombinedFrames (f g h : ℕ → List ℕ) : Type 0 where
+  pub same-length : (F : ℕ) → F < 32 → length (f F) ≡ length (g F)
+  pub combination : (F : ℕ) → F < 32 → h F ≡ combined (f F) (g F)
 
--- 13.5 to 13.8: code words and LDC cluster of data frames as they are given, scrambled or not
-pub record LdcLinear (f g : ℕ → List ℕ) : Type 0 where
-  pub code-words : (L : ℕ) → L < 304 → codeWord (combinedFrames f g) L ≡ combined (codeWord f L) (codeWord g L)
-  pub bytes : (row column : ℕ) → ldcByte (combinedFrames f g) row column ≡ bitXor (ldcByte f row column) (ldcByte g row column)
+-- 13.5 to 13.8: data block, code words and LDC cluster of data frames as they are given, scrambled or not
+pub record LdcLinear (f g h : ℕ → List ℕ) : Type 0 where
+  pub data-block : (L : ℕ) → L < 304 → information h L ≡ combined (information f L) (information g L)
+  pub code-words : (L : ℕ) → L < 304 → codeWord h L ≡ combined (codeWord f L) (codeWord g L)
+  pub cluster : (row column : ℕ) → ldcByte h row column ≡ bitXor (ldcByte f row column) (ldcByte g row column)

@@ -1,11 +1,11 @@
-// Document 02, W-210. Standard input has, of the cluster of an outside vector: sectors 0 and 31, the data bytes of columns 0 and 303 of its LDC block, and
-// the data frames of the two sectors as they are scrambled there. Prints the sums of error-detection codes, of parities and of data frames, and in how
-// many bytes the last one fails where one frame is left plain, or is of another PSN.
+// Document 02, W-210. Standard input has sectors 0 and 31 of the cluster of an outside vector, then their data frames as they are scrambled there. Prints
+// the sums of error-detection codes, of parities and of data frames; and in how many bytes the last fails where one frame is left plain, or is of another
+// cluster.
 use address::Psn;
 use test_support::compare;
 use test_support::lines;
 
-// The PSN of the cluster, and that of the next one.
+// The PSN of the cluster, and that of the next cluster.
 const PSN: u32 = 0x02F7_6400;
 
 const NEXT: u32 = 0x02F7_6420;
@@ -17,17 +17,17 @@ fn combine(bytes: &mut [u8], others: &[u8]) {
     }
 }
 
-fn code(sector: &[u8]) -> u64 {
+fn edc_of(sector: &[u8]) -> u64 {
     edc::edc(sector) as u64
 }
 
-fn codes(a: [u8; 2048], b: [u8; 2048]) {
+fn edc_lines(a: [u8; 2048], b: [u8; 2048]) {
     let mut both = a;
     combine(&mut both, &b);
-    lines::hex_line(b"EDC of sector 0: ", code(&a), 8);
-    lines::hex_line(b"EDC of sector 31: ", code(&b), 8);
-    lines::hex_line(b"EDCs combined: ", code(&a) ^ code(&b), 8);
-    lines::hex_line(b"EDC of the sectors combined: ", code(&both), 8);
+    lines::hex_line(b"EDC of sector 0: ", edc_of(&a), 8);
+    lines::hex_line(b"EDC of sector 31: ", edc_of(&b), 8);
+    lines::hex_line(b"EDCs combined: ", edc_of(&a) ^ edc_of(&b), 8);
+    lines::hex_line(b"EDC of the sectors combined: ", edc_of(&both), 8);
 }
 
 fn parity_of(column: &[u8]) -> [u8; 32] {
@@ -39,16 +39,25 @@ fn parity_of(column: &[u8]) -> [u8; 32] {
     parity
 }
 
-fn parities(a: [u8; 216], b: [u8; 216]) {
-    let mut both = a;
-    combine(&mut both, &b);
-    let of_b = parity_of(&b);
-    let mut sum = parity_of(&a);
-    lines::bytes_line(b"parity of column 0: ", &sum);
+fn parity_lines(a: &[u8], b: &[u8]) {
+    let mut both = [0u8; 216];
+    combine(&mut both, a);
+    combine(&mut both, b);
+    let of_b = parity_of(b);
+    let mut parities = parity_of(a);
+    lines::bytes_line(b"parity of column 0: ", &parities);
     lines::bytes_line(b"parity of column 303: ", &of_b);
-    combine(&mut sum, &of_b);
-    lines::bytes_line(b"parities combined: ", &sum);
+    combine(&mut parities, &of_b);
+    lines::bytes_line(b"parities combined: ", &parities);
     lines::bytes_line(b"parity of the columns combined: ", &parity_of(&both));
+}
+
+// The first 216 bytes of the first data frame are column 0 of the data block, the last of the last column 303 (13.5).
+fn columns(first: [u8; 2052], last: [u8; 2052]) {
+    parity_lines(
+        compare::part(&first, 0, 216),
+        compare::part(&last, 1836, 2052),
+    );
 }
 
 // The data frame of a sector, not scrambled.
@@ -74,13 +83,13 @@ fn first_bytes(text: &[u8], frame: [u8; 2052]) {
     lines::bytes_line(text, compare::part(&frame, 0, 16));
 }
 
-// In how many bytes the sum of two frames is another.
+// In how many bytes the sum of two frames differs from what is expected.
 fn sum_line(text: &[u8], expected: [u8; 2052], a: [u8; 2052], b: [u8; 2052]) {
     lines::number_line(text, compare::differing(&expected, &sum(a, b)));
 }
 
 // Two frames, scrambled and plain.
-fn frames(a: [u8; 2052], b: [u8; 2052], plain_a: [u8; 2052], plain_b: [u8; 2052]) {
+fn frame_lines(a: [u8; 2052], b: [u8; 2052], plain_a: [u8; 2052], plain_b: [u8; 2052]) {
     let plain = sum(plain_a, plain_b);
     first_bytes(b"scrambled frame 0: ", a);
     first_bytes(b"scrambled frame 31: ", b);
@@ -88,27 +97,26 @@ fn frames(a: [u8; 2052], b: [u8; 2052], plain_a: [u8; 2052], plain_b: [u8; 2052]
     first_bytes(b"plain frames combined: ", plain);
     sum_line(b"bytes that differ: ", plain, a, b);
     sum_line(b"with frame 31 plain: ", plain, a, plain_b);
+    let other = scrambled(plain_b, NEXT);
     sum_line(
-        b"with frame 31 under the next PSN: ",
+        b"with frame 31 of the next cluster's PSN: ",
         plain,
         a,
-        scrambled(plain_b, NEXT),
+        other,
     );
 }
 
 // In how many bytes a frame differs from the plain one, scrambled here.
-fn own_line(text: &[u8], frame: [u8; 2052], plain: [u8; 2052]) {
+fn scrambled_line(text: &[u8], frame: [u8; 2052], plain: [u8; 2052]) {
     lines::number_line(text, compare::differing(&frame, &scrambled(plain, PSN)));
 }
 
-fn sector_frames(a: [u8; 2048], b: [u8; 2048]) {
+fn frames(first: [u8; 2052], last: [u8; 2052], a: [u8; 2048], b: [u8; 2048]) {
     let plain_a = plain_frame(&a);
     let plain_b = plain_frame(&b);
-    let frame_a = read_frame();
-    let frame_b = read_frame();
-    frames(frame_a, frame_b, plain_a, plain_b);
-    own_line(b"scrambled here, frame 0 differs in: ", frame_a, plain_a);
-    own_line(b"frame 31 in: ", frame_b, plain_b);
+    frame_lines(first, last, plain_a, plain_b);
+    scrambled_line(b"frame 0, scrambled here, differs in: ", first, plain_a);
+    scrambled_line(b"frame 31, scrambled here, differs in: ", last, plain_b);
 }
 
 fn read_sector() -> [u8; 2048] {
@@ -123,18 +131,12 @@ fn read_frame() -> [u8; 2052] {
     frame
 }
 
-fn read_column() -> [u8; 216] {
-    let mut column = [0u8; 216];
-    io::read_full(0, &mut column);
-    column
-}
-
 fn main() {
     let a = read_sector();
     let b = read_sector();
-    codes(a, b);
-    let first = read_column();
-    let second = read_column();
-    parities(first, second);
-    sector_frames(a, b);
+    let first = read_frame();
+    let last = read_frame();
+    edc_lines(a, b);
+    columns(first, last);
+    frames(first, last, a, b);
 }

@@ -13,7 +13,7 @@ use lib.Seq.{getD-set-other}
 use Rattle.laws.specs.Bytes.{Bytes}
 use Rattle.laws.specs.Combined.{combined}
 use Rattle.laws.proofs.Bytes.{bytes-tabulate}
-use Rattle.laws.proofs.Combined.{length-combined, getD-combined, is-combined, combined-comm, combined-inj}
+use Rattle.laws.proofs.Combined.{length-combined, getD-combined, is-combined, combined-comm, combined-twice, combined-inj}
 use Rattle.laws.proofs.Fill.{Upto, upto-none, upto-more, upto-all}
 use Rattle.laws.proofs.Tabulate.{length-tabulate, getD-tabulate, is-tabulate}
 use Rattle.laws.proofs.Xor.{xor-assoc, xor-twice}
@@ -84,8 +84,8 @@ bytes-scrambled stream frame bs bf =
     bytes-tabulate (length frame) (λ k. bitXor (getD frame k 0) (getD stream k 0)) (λ k h. xor-lt 8 (getD frame k 0) (getD stream k 0) (bf k) (bs k))
 
 -- two frames scrambled with one stream combine to what the frames combine to
-pub scrambled-both : (stream f g : List ℕ) → length f ≡ length g → combined (scrambled stream f) (scrambled stream g) ≡ combined f g
-scrambled-both stream f g same = is-combined (combined sf sg) f g (length-combined sf sg sizes ∙ length-scrambled stream f) same at
+pub scrambled-combined : (stream f g : List ℕ) → length f ≡ length g → combined (scrambled stream f) (scrambled stream g) ≡ combined f g
+scrambled-combined stream f g same = is-combined (combined sf sg) f g (length-combined sf sg sizes ∙ length-scrambled stream f) same at
   where
     sf : List ℕ
     sf = scrambled stream f
@@ -109,12 +109,24 @@ scrambled-both stream f g same = is-combined (combined sf sg) f g (length-combin
 pub scrambled-twice : (stream frame : List ℕ) → scrambled stream (scrambled stream frame) ≡ frame
 scrambled-twice stream frame =
     combined-inj once (scrambled stream once) frame (sym (length-scrambled stream once)) (length-scrambled stream frame)
-    (scrambled-both stream frame once (sym (length-scrambled stream frame)) ∙ combined-comm frame once)
+    (scrambled-combined stream frame once (sym (length-scrambled stream frame)) ∙ combined-comm frame once)
   where
     once : List ℕ
     once = scrambled stream frame
 
--- so equal scrambled frames come from equal frames
+-- and a sum scrambled is the sum of one frame scrambled and the other plain
+pub scrambled-sum : (stream f g : List ℕ) → length f ≡ length g → scrambled stream (combined f g) ≡ combined (scrambled stream f) g
+scrambled-sum stream f g same =
+    combined-inj sf (scrambled stream (combined f g)) (combined sf g) (length-scrambled stream f ∙ sym (length-scrambled stream (combined f g) ∙ length-combined f g same)) (sym (length-combined sf g sizes))
+    (scrambled-combined stream f (combined f g) (sym (length-combined f g same)) ∙ combined-twice f g same ∙ sym (combined-twice sf g sizes))
+  where
+    sf : List ℕ
+    sf = scrambled stream f
+
+    sizes : length sf ≡ length g
+    sizes = length-scrambled stream f ∙ same
+
+-- equal scrambled frames come from equal frames
 pub scrambled-inj : (stream f g : List ℕ) → scrambled stream f ≡ scrambled stream g → f ≡ g
 scrambled-inj stream f g e = sym (scrambled-twice stream f) ∙ ap (scrambled stream) e ∙ scrambled-twice stream g
 
