@@ -1,4 +1,4 @@
--- A word and its four bytes give each other, the word is the number that their bits make, and sums of words have sums of bytes. Assumes nothing.
+-- A word and its four bytes give each other, the word is the number that their bits make, and combined words have combined bytes. Assumes nothing.
 use mathlib.Core.Path.{_≡_, refl, sym, ap, _∙_}
 use mathlib.Core.List.{List, [], _∷_}
 use Prim.Native.Nat.{ℕ, zero, suc, _+_, _*_, _/_, _%_, _^_, _<_, _≤_}

@@ -12,7 +12,7 @@ use Rattle.laws.specs.Bytes.{Bytes}
 use Rattle.laws.specs.Tabulate.{tabulate}
 use Rattle.bits.specs.Bits.{bitsOf, bitsOfNumber, number, packed, Bits}
 use Rattle.bits.proofs.Bits.{length-bits, bit-in, bits-bits, bits-then}
-use Rattle.bits.proofs.Number.{number-of-bits, bits-of-number, length-bits-of, getD-bits-of}
+use Rattle.bits.proofs.Number.{number-of-bits, bits-of-number, number-lt, length-bits-of, getD-bits-of}
 use Rattle.bits.proofs.Pack.{packed-bits}
 
 pub bits-append : (a b : List ℕ) → bitsOf (a ++ b) ≡ bitsOf a ++ bitsOf b
@@ -62,6 +62,14 @@ number-byte x = ap number eight ∙ number-of-bits 8 x
   where
     eight : bitsOf (x ∷ []) ≡ bitsOfNumber 8 x
     eight = unfold bitsOf bitsOfNumber tabulate in refl
+
+-- one byte in front
+pub number-first : (x : ℕ) (l : List ℕ) → number (bitsOf (x ∷ l)) ≡ x % 256 * 2 ^ (8 * length l) + number (bitsOf l)
+number-first x l = number-bytes (x ∷ []) l ∙ ap (λ (k : ℕ). k * 2 ^ (8 * length l) + number (bitsOf l)) (number-byte x)
+
+-- the number that n bytes make
+pub number-low : (l : List ℕ) (n : ℕ) → length l ≡ n → number (bitsOf l) < 2 ^ (8 * n)
+number-low l n e = subst (λ (m : ℕ). number (bitsOf l) < 2 ^ m) (length-bits l ∙ ap (λ (m : ℕ). 8 * m) e) (number-lt (bitsOf l) (bits-bits l))
 
 -- as many bytes that make one number are the same
 pub bytes-equal : (a b : List ℕ) → Bytes a → Bytes b → length a ≡ length b → number (bitsOf a) ≡ number (bitsOf b) → a ≡ b

@@ -12,7 +12,7 @@ use Rattle.galois.specs.Field.{sum}
 use Rattle.galois.proofs.Sum.{sum-zero, zero-sum, sum-self, sum-swap}
 use Rattle.galois.proofs.Product.{sum-product}
 use Rattle.column.specs.Column.{sums, scaled, generator, pushed, remainder, parity}
-use Rattle.column.proofs.Sums.{length-snoc, length-scaled}
+use Rattle.column.proofs.Sums.{sums-combined, length-snoc, length-scaled}
 use Rattle.column.proofs.Generator.{coefficients-length}
 use Rattle.column.proofs.Division.{length-pushed}
 
@@ -91,23 +91,21 @@ pub first-in : (g cs ms : List ℕ) (c m : ℕ) → length (c ∷ cs) ≡ length
 unfolding remainder pushed left
 first-in g cs ms c m e =
     ap (remainder g (sums (cs ++ 0 ∷ []) (scaled (sum m c) g))) (sym (sums-none ms))
-    ∙ remainder-sums g (cs ++ 0 ∷ []) (scaled (sum m c) g) ms (tabulate (length ms) (λ _. 0)) (length-snoc cs ∙ e) (length-scaled (sum m c) g) (sym (length-tabulate (length ms) (λ _. 0)))
+    ∙ remainder-sums g (cs ++ 0 ∷ []) (scaled (sum m c) g) ms (tabulate (length ms) (λ _. 0)) (length-snoc cs ∙ e) (length-scaled (sum m c) g)
+    (sym (length-tabulate (length ms) (λ _. 0)))
     ∙ ap (λ (l : List ℕ). sums (remainder g (cs ++ 0 ∷ []) ms) (remainder g l (tabulate (length ms) (λ _. 0)))) (sym (pushed-zeros g (sum m c)))
 
 -- ---- the parity of combined messages
 
--- the field's sum is bit by bit, so the sum of two columns is their combination
-pub sums-combined : (a b : List ℕ) → sums a b ≡ combined a b
-unfolding sums combined sum
-sums-combined [] b = refl
-sums-combined (x ∷ a) [] = refl
-sums-combined (x ∷ a) (y ∷ b) = ap (λ (l : List ℕ). sum x y ∷ l) (sums-combined a b)
+-- the register starts with r zeros
+pub zeros-length : (r : ℕ) → length {A = ℕ} (tabulate r (λ _. 0)) ≡ length (drop 1 (generator r))
+zeros-length r = length-tabulate r (λ _. 0) ∙ sym (coefficients-length r)
 
 pub parity-combined : (r : ℕ) (a b : List ℕ) → length a ≡ length b → parity r (combined a b) ≡ combined (parity r a) (parity r b)
 unfolding parity
 parity-combined r a b same =
-    ap₂ (remainder g) (sym (zeros-sums r zeros size)) (sym (sums-combined a b))
-    ∙ remainder-sums g zeros zeros a b start start same
+    ap₂ (remainder g) (sym (zeros-sums r zeros (length-tabulate r (λ _. 0)))) (sym (sums-combined a b))
+    ∙ remainder-sums g zeros zeros a b (zeros-length r) (zeros-length r) same
     ∙ sums-combined (remainder g zeros a) (remainder g zeros b)
   where
     g : List ℕ
@@ -115,9 +113,3 @@ parity-combined r a b same =
 
     zeros : List ℕ
     zeros = tabulate r (λ _. 0)
-
-    size : length zeros ≡ r
-    size = length-tabulate r (λ _. 0)
-
-    start : length zeros ≡ length g
-    start = size ∙ sym (coefficients-length r)

@@ -19,7 +19,7 @@ use Rattle.column.specs.Column.{value, Roots, hasRoots, Completes, IsPar
 use Rattle.column.proofs.Value.{value-append, value-zeros}
 use Rattle.column.proofs.Generator.{coefficients-length, coefficients-roots}
 use Rattle.column.proofs.Division.{length-remainder, bytes-remainder, remainder-keeps}
-use Rattle.column.proofs.Linear.{parity-combined}
+use Rattle.column.proofs.Linear.{zeros-length, parity-combined}
 use Rattle.column.proofs.Unique.{completes-once}
 use Rattle.column.proofs.Roots.{has-roots}
 
@@ -27,9 +27,6 @@ use Rattle.column.proofs.Roots.{has-roots}
 
 zeros-bytes : (r : ℕ) → Bytes (tabulate r (λ _. 0))
 zeros-bytes r = bytes-tabulate r (λ _. 0) (λ k h. omega arith)
-
-zeros-length : (r : ℕ) → length {A = ℕ} (tabulate r (λ _. 0)) ≡ length (drop 1 (generator r))
-zeros-length r = length-tabulate r (λ _. 0) ∙ sym (coefficients-length r)
 
 -- ---- r bytes, which give the column its roots
 
@@ -69,9 +66,16 @@ module _ (r : ℕ) (few : r ≤ 255) where
   -- of two messages of one length, combined, the parity is the combination
   pub is-parity-combined : (a b p q : List ℕ) → Bytes a → Bytes b → length a ≡ length b → IsParity r a p → IsParity r b q
       → IsParity r (combined a b) (combined p q)
-  is-parity-combined a b p q ba bb same ip iq =
-      subst (IsParity r (combined a b)) (parity-combined r a b same ∙ ap₂ combined (ip .only (parity r a) (parity-completes r a ba)) (iq .only (parity r b) (parity-completes r b bb)))
-      (parity-only (combined a b) (bytes-combined a b ba bb))
+  is-parity-combined a b p q ba bb same ip iq = subst (IsParity r (combined a b)) (parity-combined r a b same ∙ ap₂ combined of-a of-b) both
+    where
+      of-a : parity r a ≡ p
+      of-a = ip .only (parity r a) (parity-completes r a ba)
+
+      of-b : parity r b ≡ q
+      of-b = iq .only (parity r b) (parity-completes r b bb)
+
+      both : IsParity r (combined a b) (parity r (combined a b))
+      both = parity-only (combined a b) (bytes-combined a b ba bb)
 
 -- ---- the same, of the test
 

@@ -15,7 +15,7 @@ use Rattle.big_endian.specs.Words.{fourBytes}
 use Rattle.big_endian.proofs.Words.{number-of-four, bytes-four}
 use Rattle.laws.proofs.Xor.{xor-equal}
 use Rattle.edc.proofs.Division.{Leaves, leaves-self, leaves-add, leaves-one, leaves-zero, multiple-leaves, leaves-bits}
-use Rattle.bits.proofs.Concat.{number-bytes, bytes-equal}
+use Rattle.bits.proofs.Concat.{number-bytes, number-low, bytes-equal}
 
 -- ---- the remainder
 
@@ -48,7 +48,7 @@ bytes-edc l = bytes-four (edcOf l)
 
 module _ (l e : List ℕ) (size : length e ≡ 4) where
   pub four-lt : number (bitsOf e) < 2 ^ 32
-  four-lt = subst (λ (n : ℕ). number (bitsOf e) < 2 ^ n) (length-bits e ∙ ap (λ (n : ℕ). 8 * n) size) (number-lt (bitsOf e) (bits-bits e))
+  four-lt = number-low e 4 size
 
   pub number-behind : number (bitsOf (l ++ e)) ≡ bitXor (number (bitsOf l) * 2 ^ 32) (number (bitsOf e))
   number-behind =

@@ -5,7 +5,7 @@ use Prim.Native.Nat.{ℕ, zero, suc, _<_}
 use native.Mathlib.Nat.{suc-inj}
 use native.Mathlib.Omega.{arith}
 use lib.Bits.{bitXor, xor-comm, xor-lt}
-use lib.ListN.{length, getD, take, drop}
+use lib.ListN.{length, getD}
 use lib.Seq.{ext-getD}
 use Rattle.laws.specs.Bytes.{Bytes}
 use Rattle.laws.specs.Combined.{combined}
@@ -41,7 +41,7 @@ bytes-combined (x ∷ a) [] ha hb = bytes-none
 bytes-combined (x ∷ a) (y ∷ b) ha hb =
     bytes-cons (bitXor x y) (combined a b) (xor-lt 8 x y (ha 0) (hb 0)) (bytes-combined a b (λ j. ha (suc j)) (λ j. hb (suc j)))
 
--- ---- lists put together, and parts
+-- ---- lists put together
 
 pub combined-append : (a b c d : List ℕ) → length a ≡ length b → combined (a ++ c) (b ++ d) ≡ combined a b ++ combined c d
 unfolding combined
@@ -49,21 +49,6 @@ combined-append [] [] c d e = refl
 combined-append [] (y ∷ b) c d e = absurd (omega arith)
 combined-append (x ∷ a) [] c d e = absurd (omega arith)
 combined-append (x ∷ a) (y ∷ b) c d e = ap (λ (l : List ℕ). bitXor x y ∷ l) (combined-append a b c d (suc-inj e))
-
-pub combined-take : (n : ℕ) (a b : List ℕ) → take n (combined a b) ≡ combined (take n a) (take n b)
-unfolding combined
-combined-take zero a b = refl
-combined-take (suc n) [] b = refl
-combined-take (suc n) (x ∷ a) [] = refl
-combined-take (suc n) (x ∷ a) (y ∷ b) = ap (λ (l : List ℕ). bitXor x y ∷ l) (combined-take n a b)
-
-pub combined-drop : (n : ℕ) (a b : List ℕ) → length a ≡ length b → drop n (combined a b) ≡ combined (drop n a) (drop n b)
-unfolding combined
-combined-drop zero a b e = refl
-combined-drop (suc n) [] [] e = refl
-combined-drop (suc n) [] (y ∷ b) e = absurd (omega arith)
-combined-drop (suc n) (x ∷ a) [] e = absurd (omega arith)
-combined-drop (suc n) (x ∷ a) (y ∷ b) e = combined-drop n a b (suc-inj e)
 
 pub combined-tabulate : (n : ℕ) (f g : ℕ → ℕ) → combined (tabulate n f) (tabulate n g) ≡ tabulate n (λ k. bitXor (f k) (g k))
 unfolding combined tabulate

@@ -63,6 +63,10 @@ xor-left a b c = sym (xor-assoc a b c) ∙ ap (λ (x : ℕ). bitXor x c) (xor-co
 pub xor-twice : (a b : ℕ) → bitXor a (bitXor a b) ≡ b
 xor-twice a b = sym (xor-assoc a a b) ∙ ap (λ (x : ℕ). bitXor x b) (xor-self a)
 
+-- a number that both have drops out
+pub xor-both : (a b c : ℕ) → bitXor (bitXor a c) (bitXor b c) ≡ bitXor a b
+xor-both a b c = ap (bitXor (bitXor a c)) (xor-comm b c) ∙ xor-assoc a c (bitXor c b) ∙ ap (bitXor a) (xor-twice c b)
+
 -- two equal numbers have the exclusive or 0, and no others
 pub xor-equal : (a b : ℕ) → bitXor a b ≡ 0 → a ≡ b
 xor-equal a b e = sym (xor-cancel a b) ∙ ap (λ (x : ℕ). bitXor x b) e

@@ -1,2 +1,3 @@
 -- Sums of sectors.
 pub mod Statements
+pub mod Counterexamples

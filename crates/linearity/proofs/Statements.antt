@@ -5,7 +5,7 @@ use Rattle.edc.proofs.Linear.{edc-combined, edc-bytes-combined}
 use Rattle.column.proofs.Linear.{parity-combined}
 use Rattle.column.proofs.Parity.{is-parity-combined}
 use Rattle.scrambling.specs.Scrambling.{scramblingOf}
-use Rattle.scrambling.proofs.Stream.{scrambled-combined, scrambled-twice, scrambled-sum}
+use Rattle.scrambling.proofs.Stream.{scrambled-both, scrambled-twice, scrambled-combined}
 use Rattle.sector.proofs.Frame.{frame-combined, sector-combined}
 use Rattle.ldc.proofs.Linear.{information-combined, word-combined, ldc-combined}
 use Rattle.linearity.specs.Linearity.{EdcLinear, ParityLinear, ScramblingDropsOut, CombinedFrames, LdcLinear}
@@ -16,15 +16,15 @@ edc-linear = record { numbers = edc-combined; four-bytes = edc-bytes-combined; d
 
 -- SO IS THE PARITY OF TWO COLUMNS OF EQUAL LENGTH
 pub parity-linear : ParityLinear
-parity-linear = record { parities = parity-combined; is-parity = is-parity-combined }
+parity-linear = record { parities = parity-combined; by-roots = is-parity-combined }
 
 -- TWO DATA FRAMES SCRAMBLED UNDER ONE PSN COMBINE TO WHAT THE PLAIN FRAMES COMBINE TO
 pub scrambling-drops-out : (psn : ℕ) → ScramblingDropsOut psn
 scrambling-drops-out psn =
     record {
-      frames = scrambled-combined (scramblingOf psn);
+      frames = scrambled-both (scramblingOf psn);
       undone = scrambled-twice (scramblingOf psn);
-      one-part = scrambled-sum (scramblingOf psn);
+      one-part = scrambled-combined (scramblingOf psn);
       sectors = sector-combined psn;
     }
 

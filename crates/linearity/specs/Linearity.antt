@@ -1,5 +1,5 @@
 -- Document 02, W-210: sums of sectors. What error-detection code, parity, scrambling and LDC cluster make of lists of equal length, combined by
--- exclusive or. The lists are lists of bytes; where nothing is said of that, any numbers will do.
+-- exclusive or. The statements hold of any lists of numbers; `Bytes` stands where bytes are needed.
 use mathlib.Core.Path.{_≡_}
 use mathlib.Core.List.{List}
 use Prim.Native.Nat.{ℕ, _<_, _≤_}
@@ -24,10 +24,10 @@ pub record EdcLinear : Type 0 where
   pub four-bytes : IsLinear edcBytes
   pub data-frames : IsLinear dataFrame
 
--- 13.7, 13.9.2.2, 13.12: the parity of a column with r roots; the same, said of the only r bytes that give the column its roots
+-- 13.7, 13.12, and 13.9.2.2 before its inversion: the parity of a column with r roots; the same, said of the only r bytes that give it its roots
 pub record ParityLinear : Type 0 where
   pub parities : (r : ℕ) → IsLinear (parity r)
-  pub is-parity : (r : ℕ) → r ≤ 255 → (a b p q : List ℕ) → Bytes a → Bytes b → length a ≡ length b → IsParity r a p → IsParity r b q
+  pub by-roots : (r : ℕ) → r ≤ 255 → (a b p q : List ℕ) → Bytes a → Bytes b → length a ≡ length b → IsParity r a p → IsParity r b q
       → IsParity r (combined a b) (combined p q)
 
 -- 13.4, of frames under one PSN
@@ -36,7 +36,7 @@ pub record ScramblingDropsOut (psn : ℕ) : Type 0 where
   pub frames : (f g : List ℕ) → length f ≡ length g → combined (scrambled (scramblingOf psn) f) (scrambled (scramblingOf psn) g) ≡ combined f g
   -- so scrambling is its own inverse
   pub undone : (f : List ℕ) → scrambled (scramblingOf psn) (scrambled (scramblingOf psn) f) ≡ f
-  -- and of a sum one part alone is scrambled
+  -- and a sum scrambled is one part scrambled and the other plain, combined
   pub one-part : (f g : List ℕ) → length f ≡ length g → scrambled (scramblingOf psn) (combined f g) ≡ combined (scrambled (scramblingOf psn) f) g
   -- of two sectors: the plain data frame of the sectors combined
   pub sectors : (u v : List ℕ) → length u ≡ length v → combined (sectorFrame psn u) (sectorFrame psn v) ≡ dataFrame (combined u v)

@@ -1,6 +1,6 @@
-// Document 02, W-210. Standard input has sectors 0 and 31 of the cluster of an outside vector, then their data frames as they are scrambled there. Prints
-// the sums of error-detection codes, of parities and of data frames; and in how many bytes the last fails where one frame is left plain, or is of another
-// cluster.
+// Document 02, W-210. Standard input has sectors 0 and 31 of an outside vector, whose PSN is 02F76400h, then their scrambled data frames, taken out of its
+// ECC cluster. Prints the sums of error-detection codes, of parities and of data frames; and in how many bytes the last fails where one frame is left
+// plain, or is of another cluster.
 use address::Psn;
 use test_support::compare;
 use test_support::lines;
@@ -52,7 +52,7 @@ fn parity_lines(a: &[u8], b: &[u8]) {
     lines::bytes_line(b"parity of the columns combined: ", &parity_of(&both));
 }
 
-// The first 216 bytes of the first data frame are column 0 of the data block, the last of the last column 303 (13.5).
+// 13.5: the first 216 bytes of the first data frame are column 0 of the data block, the last 216 of the last one column 303.
 fn columns(first: [u8; 2052], last: [u8; 2052]) {
     parity_lines(
         compare::part(&first, 0, 216),

@@ -10,7 +10,7 @@ use Rattle.laws.proofs.Fill.{sets-front}
 use Rattle.bits.specs.Bits.{bitsOf, number, bitsOfNumber}
 use Rattle.bits.proofs.Bits.{length-bits, bits-bits}
 use Rattle.bits.proofs.Number.{length-bits-of, number-of-bits, bits-of-number}
-use Rattle.bits.proofs.Concat.{bits-append, number-bytes, number-byte, number-bits}
+use Rattle.bits.proofs.Concat.{bits-append, number-byte, number-first, number-bits}
 use Rattle.modulator.specs.steps.Put.{Put}
 
 -- bytes that make v, modulo 2 to the number of their bits, are its bits
@@ -21,17 +21,13 @@ bytes-are vs n v size e =
     ∙ sym (ap₂ bitsOfNumber (length-bits-of n v) (number-of-bits n v))
     ∙ bits-of-number (bitsOfNumber n v) (number-bits n v)
 
--- one byte in front
-pub byte-front : (x : ℕ) (l : List ℕ) → number (bitsOf (x ∷ l)) ≡ x % 256 * 2 ^ (8 * length l) + number (bitsOf l)
-byte-front x l = number-bytes (x ∷ []) l ∙ ap (λ (k : ℕ). k * 2 ^ (8 * length l) + number (bitsOf l)) (number-byte x)
-
 -- the bytes of a number, one more in front
 byte-in : (x : ℕ) (l : List ℕ) (v : ℕ) → x ≡ v / 2 ^ (8 * length l) % 256 → number (bitsOf l) ≡ v % 2 ^ (8 * length l)
     → number (bitsOf (x ∷ l)) ≡ v % 2 ^ (8 * suc (length l))
 byte-in x l v ex e =
     let top : x % 256 ≡ v / 2 ^ (8 * length l) % 2 ^ 8 = small x (v / 2 ^ (8 * length l)) ex in
     let more : 8 * suc (length l) ≡ 8 + 8 * length l = omega arith in
-    byte-front x l
+    number-first x l
     ∙ ap₂ (λ (a b : ℕ). a * 2 ^ (8 * length l) + b) top e
     ∙ sym (ap (λ (k : ℕ). v % 2 ^ k) more ∙ mod-pow-add v 8 (8 * length l))
   where

@@ -6,7 +6,7 @@ use native.Mathlib.Nat.{mod-lt}
 use native.Mathlib.Numerals.{add-one}
 use native.Mathlib.Decide.{decLt}
 use native.Mathlib.Omega.{arith}
-use lib.Bits.{bitXor, xor-comm, xor-zero-r, xor-lt, xor-mod}
+use lib.Bits.{bitXor, xor-zero-r, xor-lt, xor-mod}
 use lib.ListN.{length, getD, set, List·getD-eq-default}
 use lib.Pow.{pow-pos}
 use lib.Seq.{getD-set-other}
@@ -16,7 +16,7 @@ use Rattle.laws.proofs.Bytes.{bytes-tabulate}
 use Rattle.laws.proofs.Combined.{length-combined, getD-combined, is-combined, combined-comm, combined-twice, combined-inj}
 use Rattle.laws.proofs.Fill.{Upto, upto-none, upto-more, upto-all}
 use Rattle.laws.proofs.Tabulate.{length-tabulate, getD-tabulate, is-tabulate}
-use Rattle.laws.proofs.Xor.{xor-assoc, xor-twice}
+use Rattle.laws.proofs.Xor.{xor-assoc, xor-both}
 use Rattle.scrambling.specs.Scrambling.{stage, shift, shifts, preset, register, scramblingByte, scramblingOf, scrambled}
 
 -- ---- the register
@@ -84,8 +84,8 @@ bytes-scrambled stream frame bs bf =
     bytes-tabulate (length frame) (λ k. bitXor (getD frame k 0) (getD stream k 0)) (λ k h. xor-lt 8 (getD frame k 0) (getD stream k 0) (bf k) (bs k))
 
 -- two frames scrambled with one stream combine to what the frames combine to
-pub scrambled-combined : (stream f g : List ℕ) → length f ≡ length g → combined (scrambled stream f) (scrambled stream g) ≡ combined f g
-scrambled-combined stream f g same = is-combined (combined sf sg) f g (length-combined sf sg sizes ∙ length-scrambled stream f) same at
+pub scrambled-both : (stream f g : List ℕ) → length f ≡ length g → combined (scrambled stream f) (scrambled stream g) ≡ combined f g
+scrambled-both stream f g same = is-combined (combined sf sg) f g (length-combined sf sg sizes ∙ length-scrambled stream f) same at
   where
     sf : List ℕ
     sf = scrambled stream f
@@ -96,35 +96,38 @@ scrambled-combined stream f g same = is-combined (combined sf sg) f g (length-co
     sizes : length sf ≡ length sg
     sizes = length-scrambled stream f ∙ same ∙ sym (length-scrambled stream g)
 
-    drops-out : (x y z : ℕ) → bitXor (bitXor x z) (bitXor y z) ≡ bitXor x y
-    drops-out x y z = ap (bitXor (bitXor x z)) (xor-comm y z) ∙ xor-assoc x z (bitXor z y) ∙ ap (bitXor x) (xor-twice z y)
-
     at : (k : ℕ) → k < length f → getD (combined sf sg) k 0 ≡ bitXor (getD f k 0) (getD g k 0)
     at k h =
         getD-combined sf sg k sizes
         ∙ ap₂ bitXor (getD-scrambled stream f k h) (getD-scrambled stream g k (omega arith))
-        ∙ drops-out (getD f k 0) (getD g k 0) (getD stream k 0)
+        ∙ xor-both (getD f k 0) (getD g k 0) (getD stream k 0)
 
 -- so scrambling undone gives the frame: with the frame once scrambled both combine to the same
 pub scrambled-twice : (stream frame : List ℕ) → scrambled stream (scrambled stream frame) ≡ frame
 scrambled-twice stream frame =
     combined-inj once (scrambled stream once) frame (sym (length-scrambled stream once)) (length-scrambled stream frame)
-    (scrambled-combined stream frame once (sym (length-scrambled stream frame)) ∙ combined-comm frame once)
+    (scrambled-both stream frame once (sym (length-scrambled stream frame)) ∙ combined-comm frame once)
   where
     once : List ℕ
     once = scrambled stream frame
 
--- and a sum scrambled is the sum of one frame scrambled and the other plain
-pub scrambled-sum : (stream f g : List ℕ) → length f ≡ length g → scrambled stream (combined f g) ≡ combined (scrambled stream f) g
-scrambled-sum stream f g same =
-    combined-inj sf (scrambled stream (combined f g)) (combined sf g) (length-scrambled stream f ∙ sym (length-scrambled stream (combined f g) ∙ length-combined f g same)) (sym (length-combined sf g sizes))
-    (scrambled-combined stream f (combined f g) (sym (length-combined f g same)) ∙ combined-twice f g same ∙ sym (combined-twice sf g sizes))
+-- and a sum scrambled is one part scrambled and the other plain, combined
+pub scrambled-combined : (stream f g : List ℕ) → length f ≡ length g → scrambled stream (combined f g) ≡ combined (scrambled stream f) g
+scrambled-combined stream f g same =
+    combined-inj sf (scrambled stream fg) (combined sf g) (length-scrambled stream f ∙ sym sizes) (sym (length-combined sf g part))
+    (scrambled-both stream f fg (sym (length-combined f g same)) ∙ combined-twice f g same ∙ sym (combined-twice sf g part))
   where
     sf : List ℕ
     sf = scrambled stream f
 
-    sizes : length sf ≡ length g
-    sizes = length-scrambled stream f ∙ same
+    fg : List ℕ
+    fg = combined f g
+
+    sizes : length (scrambled stream fg) ≡ length f
+    sizes = length-scrambled stream fg ∙ length-combined f g same
+
+    part : length sf ≡ length g
+    part = length-scrambled stream f ∙ same
 
 -- equal scrambled frames come from equal frames
 pub scrambled-inj : (stream f g : List ℕ) → scrambled stream f ≡ scrambled stream g → f ≡ g

@@ -19,7 +19,7 @@ use Rattle.sector.specs.DataFrame.{dataFrame, sectorFrame, edcRight}
 use Rattle.bits.proofs.Concat.{bytes-equal}
 use Rattle.edc.proofs.Detection.{length-edc, bytes-edc, number-edc, edc-completes, edc-only, code-completes, complete-is-code}
 use Rattle.edc.proofs.Linear.{edc-bytes-combined}
-use Rattle.scrambling.proofs.Stream.{length-scrambled, bytes-scrambled, bytes-scrambling, scrambled-combined, scrambled-twice, scrambled-inj}
+use Rattle.scrambling.proofs.Stream.{length-scrambled, bytes-scrambled, bytes-scrambling, scrambled-both, scrambled-twice, scrambled-inj}
 
 -- ---- the parts of a data frame
 
@@ -109,7 +109,7 @@ module _ (frame : List ℕ) (size : length frame ≡ 2052) where
 -- of two sectors under one PSN: scrambling drops out
 pub sector-combined : (psn : ℕ) (u v : List ℕ) → length u ≡ length v → combined (sectorFrame psn u) (sectorFrame psn v) ≡ dataFrame (combined u v)
 sector-combined psn u v same =
-    scrambled-combined (scramblingOf psn) (dataFrame u) (dataFrame v) (omega (arith, length-frame u, length-frame v)) ∙ sym (frame-combined u v same)
+    scrambled-both (scramblingOf psn) (dataFrame u) (dataFrame v) (omega (arith, length-frame u, length-frame v)) ∙ sym (frame-combined u v same)
 
 module _ (psn : ℕ) (user : List ℕ) where
   pub length-sector : length user ≡ 2048 → length (sectorFrame psn user) ≡ 2052
