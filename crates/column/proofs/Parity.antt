@@ -13,7 +13,6 @@ use Rattle.laws.specs.Combined.{combined}
 use Rattle.laws.specs.Tabulate.{tabulate}
 use Rattle.laws.proofs.Bytes.{bytes-take, bytes-drop, bytes-tabulate}
 use Rattle.laws.proofs.Combined.{bytes-combined}
-use Rattle.laws.proofs.Tabulate.{length-tabulate}
 use Rattle.galois.specs.Field.{α, power}
 use Rattle.column.specs.Column.{value, Roots, hasRoots, Completes, IsParity, EndsIn, generator, remainder, parity}
 use Rattle.column.proofs.Value.{value-append, value-zeros}

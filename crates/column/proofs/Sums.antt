@@ -2,7 +2,6 @@
 use mathlib.Core.Path.{_≡_, refl, sym, ap, _∙_, subst⁻¹}
 use mathlib.Core.List.{List, [], _∷_, _++_}
 use Prim.Native.Nat.{ℕ, zero, suc}
-use native.Mathlib.Nat.{suc-inj}
 use native.Mathlib.Omega.{arith}
 use lib.ListN.{length, getD}
 use Rattle.laws.specs.Bytes.{Bytes}
@@ -10,7 +9,6 @@ use Rattle.laws.specs.Combined.{combined}
 use Rattle.laws.proofs.Bytes.{bytes-none, bytes-cons, bytes-append}
 use Rattle.laws.proofs.Combined.{length-combined, getD-combined, bytes-combined}
 use Rattle.galois.specs.Field.{sum, product}
-use Rattle.galois.proofs.Sum.{sum-self, sum-byte}
 use Rattle.galois.proofs.Product.{product-byte, product-zero}
 use Rattle.column.specs.Column.{sums, scaled}
 

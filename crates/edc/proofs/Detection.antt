@@ -8,8 +8,7 @@ use lib.Bits.{bitXor, xor-self, xor-shifted}
 use lib.ListN.{length}
 use Rattle.laws.specs.Bytes.{Bytes}
 use Rattle.bits.specs.Bits.{bitsOf, number}
-use Rattle.bits.proofs.Bits.{length-bits, bits-bits}
-use Rattle.bits.proofs.Number.{number-lt}
+use Rattle.bits.proofs.Bits.{bits-bits}
 use Rattle.edc.specs.Edc.{MultipleOfG, remainderByG, edcOf, edcBytes}
 use Rattle.big_endian.specs.Words.{fourBytes}
 use Rattle.big_endian.proofs.Words.{number-of-four, bytes-four}
