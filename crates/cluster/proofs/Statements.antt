@@ -1,6 +1,6 @@
 -- What is promised of ECC clusters, on their definitions: one that was made is read back, nothing else is read, and so a cluster
 -- determines its user bytes, its PSN and its side data. Assumes nothing.
-use mathlib.Core.Path.{_≡_, sym, ap, ap₂, subst, _∙_}
+use mathlib.Core.Path.{_≡_, sym, ap, ap₂, subst, _∙_, subst⁻¹}
 use mathlib.Core.Logic.{_↔_}
 use mathlib.Core.Bool.{Bool, true, false, not}
 use mathlib.Core.List.{List, _++_}
@@ -13,8 +13,10 @@ use Rattle.laws.specs.Bytes.{Bytes}
 use Rattle.laws.specs.Tabulate.{tabulate}
 use Rattle.laws.proofs.Bytes.{bytes-take, bytes-drop, bytes-tabulate}
 use Rattle.laws.proofs.First.{first-none, first-all}
+use Rattle.laws.proofs.Same.{some-unlike}
 use Rattle.laws.proofs.Tabulate.{length-tabulate, getD-tabulate, is-tabulate, tabulate-ext}
 use Rattle.column.specs.Column.{parity, hasRoots}
+use Rattle.column.specs.Distance.{Right}
 use Rattle.answer.specs.declared.Answer.the-variants.{Done}
 use Rattle.address.specs.Judged.{judged}
 use Rattle.sector.specs.DataFrame.{dataFrame, edcRight}
@@ -24,7 +26,7 @@ use Rattle.scrambling.proofs.Stream.{length-scrambled, bytes-scrambled, bytes-s
 use Rattle.ldc.specs.LdcCluster.{shifted, ldcByte}
 use Rattle.ldc.specs.LdcBlock.{dataByte, information, codeWord}
 use Rattle.ldc.specs.Places.{ldcPlace, at, wordIn, dataIn, frameIn}
-use Rattle.ldc.proofs.CodeWords.{bytes-word, words-back, frames-back, word-roots, cluster-back, length-frame-in, bytes-frame-in}
+use Rattle.ldc.proofs.CodeWords.{bytes-word, words-back, frames-back, word-roots, word-right, same-words, cluster-back, length-frame-in, bytes-frame-in}
 use Rattle.ldc.proofs.Interleaving.{place-row-lt, place-column-lt, shifted-word-lt}
 use Rattle.address.specs.declared.Psn.{Psn}
 use Rattle.bis.specs.declared.PsnFound.{PsnFound}
@@ -110,11 +112,16 @@ module _ (user : List ℕ) (psn : ℕ) (side : List ℕ) (is-user : User user) (
       (λ row column hr hc. bytes-word (frames psn user) (shifted row column .word) bytes-frames (shifted row column .byte))
       (written-block psn side accepted (is-side .bytes))
 
+  -- code word L, as it is read, is the one that was made
+  word-back : (L : ℕ) → L < 304 → wordIn (ldcIn work) L ≡ codeWord (frames psn user) L
+  word-back L h = same-word (ldcIn work) (ldcByte (frames psn user)) made-ldc L ∙ words-back (frames psn user) bytes-frames L h
+
   made-word : (L : ℕ) → L < 304 → wrongWord work L ≡ false
   unfolding wrongWord
-  made-word L h =
-      ap (λ (w : List ℕ). not (hasRoots 32 w)) (same-word (ldcIn work) (ldcByte (frames psn user)) made-ldc L ∙ words-back (frames psn user) bytes-frames L h)
-      ∙ ap not (word-roots (frames psn user) L bytes-frames)
+  made-word L h = ap (λ (w : List ℕ). not (hasRoots 32 w)) (word-back L h) ∙ ap not (word-roots (frames psn user) L bytes-frames)
+
+  pub word-right-in : (L : ℕ) → L < 304 → Right 32 (wordIn (ldcIn work) L)
+  word-right-in L h = subst⁻¹ (Right 32) (word-back L h) (word-right (frames psn user) L bytes-frames)
 
   made-frame : (F : ℕ) → F < 32 → dataFrameIn stream work F ≡ dataFrame (sectorOf user F)
   unfolding dataFrameIn
@@ -154,6 +161,27 @@ module _ (user : List ℕ) (psn : ℕ) (side : List ℕ) (is-user : User user) (
         right-sectors = first-none 32 (wrongSector stream work) (record { fails = made-sector });
         has-user = made-user;
       }
+
+-- ---- the user bytes hang on the code words alone
+
+same-user : (stream a b : List ℕ) → ((L : ℕ) → L < 304 → wordIn (ldcIn a) L ≡ wordIn (ldcIn b) L) → userIn stream a ≡ userIn stream b
+unfolding userIn dataFrameIn
+same-user stream a b same =
+    tabulate-ext 0 65536 (userByteIn stream a) (userByteIn stream b)
+    (λ i h. ap (λ (f : List ℕ). getD (scrambled stream f) (i % 2048) 0) (same-words (ldcIn a) (ldcIn b) same (i / 2048) (omega arith)))
+
+-- so, under one PSN, some code word differs where user bytes do
+pub other-word : (user user′ side side′ : List ℕ) (psn : ℕ) → User user → User user′ → judged psn ≡ Done → Side side → Side side′ → (user ≡ user′ → ⊥)
+    → (L : ℕ) × (L < 304) × (wordIn (ldcIn (eccCluster user psn side)) L ≡ wordIn (ldcIn (eccCluster user′ psn side′)) L → ⊥)
+other-word user user′ side side′ psn hu hu′ hp hs hs′ different =
+    some-unlike 304 (wordIn (ldcIn work₁)) (wordIn (ldcIn work₂))
+    (λ same. different (sym (read-back user psn side hu hp hs .has-user) ∙ same-user (scramblingOf psn) work₁ work₂ same ∙ read-back user′ psn side′ hu′ hp hs′ .has-user))
+  where
+    work₁ : List ℕ
+    work₁ = eccCluster user psn side
+
+    work₂ : List ℕ
+    work₂ = eccCluster user′ psn side′
 
 -- ---- and nothing else is read
 

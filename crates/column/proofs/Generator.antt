@@ -4,12 +4,15 @@ use mathlib.Core.List.{List, [], _∷_, _++_}
 use mathlib.Core.Logic.{⊎-elim}
 use Prim.Native.Nat.{ℕ, zero, suc, _<_}
 use native.Mathlib.Nat.{suc-inj, le-of-suc-le-suc, not-suc-le-zero, eq-or-lt-of-le}
+use native.Mathlib.Omega.{arith}
 use lib.ListN.{length, drop}
+use Rattle.laws.specs.Bytes.{Bytes}
+use Rattle.laws.proofs.Bytes.{bytes-none, bytes-cons}
 use Rattle.galois.specs.Field.{α, sum, timesα, times, product, power}
 use Rattle.galois.proofs.Sum.{sum-zero, sum-self}
 use Rattle.galois.proofs.Product.{product-comm, sum-product, product-zero, zero-product}
 use Rattle.column.specs.Column.{valueFrom, value, Roots, sums, scaled, timesRoot, generator}
-use Rattle.column.proofs.Sums.{length-snoc, length-sums, length-scaled}
+use Rattle.column.proofs.Sums.{length-snoc, length-sums, length-scaled, bytes-sums, bytes-snoc, bytes-scaled}
 use Rattle.column.proofs.Value.{value-append, value-cons, value-sums, value-scaled}
 
 -- ---- the product
@@ -67,6 +70,13 @@ generator-length (suc r) =
     (length-snoc (generator r) ∙ ap suc (sym (length-scaled (power α r) (generator r))))
     ∙ length-snoc (generator r)
     ∙ ap suc (generator-length r)
+
+pub generator-bytes : (r : ℕ) → Bytes (generator r)
+unfolding generator timesRoot
+generator-bytes zero = bytes-cons 1 [] (omega arith) bytes-none
+generator-bytes (suc r) =
+    bytes-sums (generator r ++ 0 ∷ []) (0 ∷ scaled (power α r) (generator r)) (bytes-snoc (generator r) (generator-bytes r))
+    (bytes-cons 0 (scaled (power α r) (generator r)) (omega arith) (bytes-scaled (power α r) (generator r)))
 
 -- ---- without its first coefficient, as the division takes it
 

@@ -16,11 +16,10 @@ use Rattle.galois.specs.Field.{α, sum, product, power}
 use Rattle.galois.proofs.Sum.{sum-assoc, sum-comm, sum-zero, zero-sum, sum-self, sum-byte, sum-cancel}
 use Rattle.galois.proofs.Product.{product-byte, product-comm, product-assoc, sum-product, product-zero, zero-product, one-product, product-one}
 use Rattle.column.specs.Column.{valueFrom, value, Roots, hasRoots, sums, scaled, timesRoot, generator, multiplied, MultipleOf, ParityExactly, pushed, remainder, parity}
-use Rattle.column.proofs.Sums.{length-snoc, length-sums, length-scaled, bytes-sums, bytes-snoc, bytes-scaled}
-use Rattle.column.proofs.Value.{value-append, value-cons, value-sums, value-scaled, value-zeros}
-use Rattle.column.proofs.Generator.{generator-roots, generator-first, coefficients-length}
+use Rattle.column.proofs.Sums.{length-snoc, length-sums, length-scaled}
+use Rattle.column.proofs.Value.{value-append, value-cons, value-sums, value-scaled, value-out, value-zeros}
+use Rattle.column.proofs.Generator.{generator-roots, generator-first, generator-bytes, coefficients-length}
 use Rattle.column.proofs.Division.{length-pushed, bytes-pushed}
-use Rattle.column.proofs.Unique.{value-out}
 use Rattle.column.proofs.Roots.{has-roots}
 use Rattle.column.proofs.Linear.{sums-none, zeros-sums}
 use Rattle.column.proofs.Parity.{parity-length, parity-only, roots-parity, test-parity, test-column}
@@ -105,13 +104,6 @@ root-product a c cs b =
     (sym
     (ap₂ sums (append-nil (scaled a (c ∷ cs))) (ap (λ (l : List ℕ). 0 ∷ l) (multiplied-none c cs) ∙ ap zeros (sym (length-scaled a (c ∷ cs))))
     ∙ sums-none (scaled a (c ∷ cs))))
-
-generator-bytes : (r : ℕ) → Bytes (generator r)
-unfolding generator timesRoot
-generator-bytes zero = bytes-cons 1 [] (omega arith) bytes-none
-generator-bytes (suc r) =
-    bytes-sums (generator r ++ 0 ∷ []) (0 ∷ scaled (power α r) (generator r)) (bytes-snoc (generator r) (generator-bytes r))
-    (bytes-cons 0 (scaled (power α r) (generator r)) (omega arith) (bytes-scaled (power α r) (generator r)))
 
 -- formulas 30, 33, 37: one factor more
 pub generator-next : (r : ℕ) → generator (suc r) ≡ multiplied (1 ∷ power α r ∷ []) (generator r)

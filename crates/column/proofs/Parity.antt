@@ -24,7 +24,7 @@ use Rattle.column.proofs.Roots.{has-roots}
 
 -- ---- the register starts with r zeros
 
-zeros-bytes : (r : ℕ) → Bytes (tabulate r (λ _. 0))
+pub zeros-bytes : (r : ℕ) → Bytes (tabulate r (λ _. 0))
 zeros-bytes r = bytes-tabulate r (λ _. 0) (λ k h. omega arith)
 
 -- ---- r bytes, which give the column its roots

@@ -7,12 +7,13 @@ use native.Mathlib.Numerals.{add-one}
 use native.Mathlib.Omega.{arith}
 use lib.ListN.{length, getD, take}
 use lib.Seq.{take-suc, take-all}
+use Rattle.laws.specs.Bytes.{Bytes}
 use Rattle.laws.specs.Tabulate.{tabulate}
-use Rattle.galois.specs.Field.{sum, product}
+use Rattle.galois.specs.Field.{sum, product, power}
 use Rattle.galois.specs.Tables.{AreTables, productBy}
 use Rattle.galois.proofs.Lookup.{product-table}
-use Rattle.galois.proofs.Sum.{sum-zero, zero-sum, sum-swap}
-use Rattle.galois.proofs.Product.{product-assoc, product-sum, sum-product, zero-product}
+use Rattle.galois.proofs.Sum.{sum-assoc, sum-zero, zero-sum, sum-byte, sum-swap}
+use Rattle.galois.proofs.Product.{product-byte, product-assoc, product-sum, sum-product, zero-product, product-one}
 use Rattle.column.specs.Column.{valueFrom, value, sums, scaled}
 
 pub value-append : (v : ℕ) (xs ys : List ℕ) (x : ℕ) → valueFrom v (xs ++ ys) x ≡ valueFrom (valueFrom v xs x) ys x
@@ -41,6 +42,18 @@ value-scaled f v [] x = refl
 value-scaled f v (c ∷ cs) x =
     ap (λ (u : ℕ). valueFrom u (scaled f cs) x) (ap (λ (u : ℕ). sum u (product f c)) (product-assoc f v x) ∙ sym (product-sum f (product v x) c))
     ∙ value-scaled f (sum (product v x) c) cs x
+
+-- the bytes before count with their power
+pub value-out : (v : ℕ) (cs : List ℕ) (x : ℕ) → v < 256 → Bytes cs → valueFrom v cs x ≡ sum (product v (power x (length cs))) (value cs x)
+unfolding value valueFrom power
+value-out v [] x h b = sym (sum-zero (product v 1) ∙ product-one v h)
+value-out v (c ∷ cs) x h b =
+    value-out (sum (product v x) c) cs x (sum-byte (product-byte v x) (b 0)) (λ j. b (suc j))
+    ∙ ap (λ (u : ℕ). sum u (value cs x))
+    (sum-product (power x (length cs)) (product v x) c
+    ∙ ap (λ (u : ℕ). sum u (product c (power x (length cs)))) (product-assoc v x (power x (length cs))))
+    ∙ sum-assoc (product v (product x (power x (length cs)))) (product c (power x (length cs))) (value cs x)
+    ∙ ap (sum (product v (product x (power x (length cs))))) (sym (value-cons c cs x ∙ value-out c cs x (b 0) (λ j. b (suc j))))
 
 pub value-zeros : (n x : ℕ) → valueFrom 0 (tabulate n (λ _. 0)) x ≡ 0
 unfolding valueFrom tabulate

@@ -1,2 +1,3 @@
 -- Columns of the Reed-Solomon codes.
 pub mod Column
+pub mod Distance

@@ -1,25 +1,12 @@
 -- The verdict, comparison by comparison. Assumes nothing.
 use mathlib.Core.Path.{_≡_}
-use mathlib.Core.Bool.{true, false}
 use mathlib.Core.List.{List}
 use Prim.Native.Nat.{ℕ, _<_, _≤_}
 use borrow.Author.Tests.{eq-eqb, ne-eqb, lt-ltb, le-ltb}
-use lib.ListN.{getD}
 use Rattle.verdict.specs.declared.Verdict.the-variants.{Pass, OtherPsn, OtherUser, OtherSide}
-use Rattle.comparison.specs.Compared.{other, firstOther, compared}
+use Rattle.comparison.specs.Compared.{firstOther, compared}
 
--- ---- bytes that differ
-
-pub differs : (a b : List ℕ) (k : ℕ) → (getD a k 0 ≡ getD b k 0 → ⊥) → other a b k ≡ true
-unfolding other
-differs a b k h = rw (ne-eqb (getD a k 0) (getD b k 0) h)
-
-pub agrees : (a b : List ℕ) (k : ℕ) → getD a k 0 ≡ getD b k 0 → other a b k ≡ false
-unfolding other
-agrees a b k h = rw (eq-eqb (getD a k 0) (getD b k 0) h)
-
--- ---- what is read; u and s are what was found
-
+-- what is read; u and s are what was found
 module _ (psn : ℕ) (user side : List ℕ) (found : ℕ) (bytes control : List ℕ) where
   pub other-psn : (found ≡ psn → ⊥) → OtherPsn (record { 0 = found }) ≡ compared psn user side found bytes control
   unfolding compared

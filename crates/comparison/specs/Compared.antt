@@ -1,18 +1,15 @@
 -- PSN, user bytes and side data that are given, beside what was read in an image.
-use mathlib.Core.Bool.{Bool, cond, not}
+use mathlib.Core.Bool.{cond}
 use mathlib.Core.List.{List}
 use Prim.Native.Nat.{ℕ}
 use lib.Dec.{eqb, ltb}
-use lib.ListN.{getD}
+use Rattle.laws.specs.Differing.{other}
 use Rattle.laws.specs.First.{first}
 use Rattle.verdict.specs.declared.Verdict.{Verdict}
 use Rattle.verdict.specs.declared.Verdict.the-variants.{Pass, OtherPsn, OtherUser, OtherSide}
 use Rattle.sizes.specs.Sizes.{sideSize, userSize}
 
 -- the lowest index below n at which two lists differ, or n
-unfoldable pub other : List ℕ → List ℕ → ℕ → Bool
-other a b k = not (eqb (getD a k 0) (getD b k 0))
-
 unfoldable pub firstOther : ℕ → List ℕ → List ℕ → ℕ
 firstOther n a b = first n (other a b)
 

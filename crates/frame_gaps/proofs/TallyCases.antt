@@ -9,6 +9,7 @@ use lib.Dec.{eqb, ltb}
 use lib.ListN.{length, getD, take, drop, length-drop}
 use lib.Seq.{take-all}
 use Rattle.laws.specs.Bytes.{Bytes}
+use Rattle.laws.specs.HowMany.{howMany}
 use Rattle.laws.proofs.Booleans.{and-false}
 use Rattle.laws.proofs.Bytes.{bytes-cons, bytes-append}
 use Rattle.big_endian.specs.Words.{fourBytes}
@@ -17,7 +18,7 @@ use Rattle.frame_sync.specs.Sync.{fs}
 use Rattle.frame.specs.Frame.{frame}
 use Rattle.frame.proofs.Frame.{length-frame}
 use Rattle.gaps.specs.declared.Tally.{Tally}
-use Rattle.gaps.specs.Gaps.{gapCounts, gapAt, howMany}
+use Rattle.gaps.specs.Gaps.{gapCounts, gapAt}
 use Rattle.frame_gaps.specs.Tally.{tallyDc, isTallyInput, refusal, tallyFrame, tallied, inputOf}
 use Rattle.frame_gaps.proofs.FrameCounted.{bits-frame}
 use Rattle.gaps.proofs.Neighbours.{counts-often}

@@ -1,7 +1,7 @@
 -- The gap lengths that are counted are those between neighbouring ones (demand 3's), as often as there are such, and no others. Assumes nothing.
 use mathlib.Core.Path.{_≡_, refl, sym, ap, ap₂, subst, _∙_}
 use mathlib.Core.Logic.{_↔_}
-use mathlib.Core.Bool.{Bool, true, false, _&&_, cond}
+use mathlib.Core.Bool.{true, _&&_, cond}
 use mathlib.Core.List.{List, [], _∷_}
 use Prim.Native.Nat.{ℕ, zero, suc, _+_, _-_, _<_}
 use native.Mathlib.Nat.{not-suc-le-zero}
@@ -11,11 +11,13 @@ use borrow.Author.Tests.{eqb-true, eq-eqb}
 use lib.Dec.{eqb}
 use lib.ListN.{length, getD, drop, List·getD-eq-default}
 use lib.Seq.{getD-drop}
+use Rattle.laws.specs.HowMany.{howMany}
+use Rattle.laws.proofs.HowMany.{some-passes, passes-some}
 use Rattle.laws.proofs.Tabulate.{getD-tabulate}
 use Rattle.bits.specs.Bits.{Bits}
 use Rattle.modulation.specs.Gaps.{Neighbours}
 use Rattle.laws.proofs.Booleans.{and-left, and-right}
-use Rattle.gaps.specs.Gaps.{gapsAfter, gaps, count, gapCounts, endsGap, gapAt, howMany}
+use Rattle.gaps.specs.Gaps.{gapsAfter, gaps, count, gapCounts, endsGap, gapAt}
 
 -- ---- the first one of a list
 
@@ -107,26 +109,6 @@ unfolding gapCounts
 counts-often l b k h = getD-tabulate 8 (λ k. count (suc k) (gaps l)) k 0 h ∙ counted-often l b (suc k)
 
 -- ---- whether at all
-
-some-passes : (m : ℕ) (p : ℕ → Bool) → 0 < howMany m p → (i : ℕ) × (p i ≡ true)
-unfolding howMany
-some-passes zero p h = absurd (not-suc-le-zero h)
-some-passes (suc m) p h = by (p zero) refl h (λ g. some-passes m (λ i. p (suc i)) g)
-  where
-    by : (t : Bool) → p zero ≡ t → 0 < cond t (suc (howMany m (λ i. p (suc i)))) (howMany m (λ i. p (suc i)))
-        → (0 < howMany m (λ i. p (suc i)) → (i : ℕ) × (p (suc i) ≡ true)) → (i : ℕ) × (p i ≡ true)
-    by true e h rest = (zero, e)
-    by false e h rest = (suc (rest h .0), rest h .1)
-
-passes-some : (m : ℕ) (p : ℕ → Bool) (i : ℕ) → i < m → p i ≡ true → 0 < howMany m p
-unfolding howMany
-passes-some zero p i h e = absurd (not-suc-le-zero h)
-passes-some (suc m) p zero h e = rw e (omega arith)
-passes-some (suc m) p (suc i) h e = by (p zero) (passes-some m (λ i. p (suc i)) i (omega arith) e)
-  where
-    by : (t : Bool) → 0 < howMany m (λ i. p (suc i)) → 0 < cond t (suc (howMany m (λ i. p (suc i)))) (howMany m (λ i. p (suc i)))
-    by true g = omega arith
-    by false g = g
 
 -- a gap of n zeros stands between ones that are neighbours
 pub record Stands (l : List ℕ) (n : ℕ) : Type 0 where

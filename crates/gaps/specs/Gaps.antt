@@ -38,8 +38,3 @@ endsGap z n (suc b ∷ l) = eqb z n
 -- a one stands at i, and the next one behind n zeros
 abbrev pub gapAt : List ℕ → ℕ → ℕ → Bool
 gapAt l n i = eqb (getD l i 0) 1 && endsGap 0 n (drop (suc i) l)
-
--- how many i below m pass a test
-unfoldable pub howMany : ℕ → (ℕ → Bool) → ℕ
-howMany zero p = 0
-howMany (suc m) p = cond (p zero) (suc (howMany m (λ i. p (suc i)))) (howMany m (λ i. p (suc i)))

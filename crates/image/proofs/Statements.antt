@@ -7,6 +7,7 @@ use native.Mathlib.Omega.{arith}
 use lib.ListN.{length, getD, take, drop, length-drop}
 use lib.Seq.{take-append-le, drop-append-le}
 use Rattle.laws.specs.Bytes.{Bytes}
+use Rattle.laws.specs.HowMany.{howMany}
 use Rattle.laws.specs.Tabulate.{tabulate}
 use Rattle.laws.proofs.Tabulate.{length-tabulate, getD-tabulate}
 use Rattle.laws.proofs.Bytes.{bytes-tabulate}
@@ -20,7 +21,7 @@ use Rattle.frame.specs.Frame.{frame}
 use Rattle.frame.proofs.Frame.{length-frame}
 use Rattle.frame_sync.proofs.SyncTables.{fs-number, number-at}
 use Rattle.gaps.specs.declared.Tally.{Tally}
-use Rattle.gaps.specs.Gaps.{gapCounts, gapAt, howMany}
+use Rattle.gaps.specs.Gaps.{gapCounts, gapAt}
 use Rattle.frame_gaps.specs.Tally.{tallied, inputOf}
 use Rattle.frame_gaps.proofs.FrameCounted.{bits-frame}
 use Rattle.gaps.proofs.Neighbours.{counts-often}

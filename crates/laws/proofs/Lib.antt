@@ -7,6 +7,8 @@ pub mod First
 pub mod Bytes
 pub mod Xor
 pub mod Combined
+pub mod HowMany
+pub mod Differing
 pub mod Booleans
 pub mod Same
 pub mod Shifts

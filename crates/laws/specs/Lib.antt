@@ -6,3 +6,5 @@ pub mod Scatter
 pub mod Same
 pub mod Zeros
 pub mod Combined
+pub mod HowMany
+pub mod Differing

@@ -9,8 +9,10 @@ use lib.ListN.{length, getD, take, drop, length-append, List·getD-append}
 use lib.Seq.{getD-take, length-take-le}
 use Rattle.laws.specs.Bytes.{Bytes}
 use Rattle.laws.proofs.Bytes.{bytes-tabulate, bytes-append}
-use Rattle.laws.proofs.Tabulate.{length-tabulate, getD-tabulate, is-tabulate}
+use Rattle.laws.proofs.Tabulate.{length-tabulate, getD-tabulate, is-tabulate, tabulate-ext}
 use Rattle.column.specs.Column.{generator, MultipleOf, ParityExactly, parity, hasRoots}
+use Rattle.column.specs.Distance.{Right}
+use Rattle.column.proofs.Roots.{has-roots}
 use Rattle.column.proofs.Parity.{parity-length, parity-bytes, parity-test, test-column}
 use Rattle.column.proofs.Multiple.{parity-multiple, column-exactly}
 use Rattle.ldc.specs.LdcBlock.{dataByte, information, codeWord}
@@ -57,6 +59,9 @@ module _ (frames : ℕ → List ℕ) (L : ℕ) (bytes : (F : ℕ) → Bytes (fra
   unfolding codeWord
   word-roots = parity-test 32 (information frames L) bytes-information
 
+  pub word-right : Right 32 (codeWord frames L)
+  word-right = record { bytes = bytes-word; roots = has-roots 32 (codeWord frames L) .0 word-roots }
+
   -- 13.7: a code word is a multiple of the generator
   pub word-multiple : MultipleOf (generator 32) (codeWord frames L)
   unfolding codeWord
@@ -98,6 +103,26 @@ pub length-frame-in : (cluster : ℕ → ℕ → ℕ) (F : ℕ) → length (fram
 unfolding frameIn
 length-frame-in cluster F = length-tabulate 2052 (λ k. dataIn cluster (2052 * F + k))
 
+module _ (cluster : ℕ → ℕ → ℕ) where
+  pub length-word-in : (L : ℕ) → length (wordIn cluster L) ≡ 248
+  unfolding wordIn
+  length-word-in L = length-tabulate 248 (λ N. at cluster (ldcPlace L N))
+
+  getD-word-in : (L N : ℕ) → N < 248 → getD (wordIn cluster L) N 0 ≡ at cluster (ldcPlace L N)
+  unfolding wordIn
+  getD-word-in L N h = getD-tabulate 248 (λ N. at cluster (ldcPlace L N)) N 0 h
+
+-- clusters with the same code words have the same data frames
+pub same-words : (a b : ℕ → ℕ → ℕ) → ((L : ℕ) → L < 304 → wordIn a L ≡ wordIn b L) → (F : ℕ) → F < 32 → frameIn a F ≡ frameIn b F
+unfolding frameIn
+same-words a b same F h = tabulate-ext 0 2052 (λ k. dataIn a (2052 * F + k)) (λ k. dataIn b (2052 * F + k)) (λ k l. byte (2052 * F + k) (omega arith))
+  where
+    byte : (p : ℕ) → p < 65664 → dataIn a p ≡ dataIn b p
+    byte p l =
+        sym (getD-word-in a (p / 216) (p % 216) (omega arith))
+        ∙ ap (λ (w : List ℕ). getD w (p % 216) 0) (same (p / 216) (omega arith))
+        ∙ getD-word-in b (p / 216) (p % 216) (omega arith)
+
 module _ (cluster : ℕ → ℕ → ℕ) (bytes : (row column : ℕ) → row < 496 → column < 152 → cluster row column < 256) where
   pub bytes-word-in : (L : ℕ) → Bytes (wordIn cluster L)
   unfolding wordIn
@@ -109,20 +134,12 @@ module _ (cluster : ℕ → ℕ → ℕ) (bytes : (row column : ℕ) → row < 4
       bytes-tabulate 2052 (λ k. dataIn cluster (2052 * F + k))
       (λ k h. let p = 2052 * F + k in bytes (ldcPlace (p / 216) (p % 216) .row) (ldcPlace (p / 216) (p % 216) .column) (omega arith) (place-column-lt (p / 216) (p % 216)))
 
-  length-word-in : (L : ℕ) → length (wordIn cluster L) ≡ 248
-  unfolding wordIn
-  length-word-in L = length-tabulate 248 (λ N. at cluster (ldcPlace L N))
-
-  getD-word-in : (L N : ℕ) → N < 248 → getD (wordIn cluster L) N 0 ≡ at cluster (ldcPlace L N)
-  unfolding wordIn
-  getD-word-in L N h = getD-tabulate 248 (λ N. at cluster (ldcPlace L N)) N 0 h
-
   -- the information bytes of a code word are those of the data block
   message-in : (L : ℕ) → L < 304 → take 216 (wordIn cluster L) ≡ information (frameIn cluster) L
   unfolding information frameIn
   message-in L h =
-      is-tabulate 0 216 (λ i. dataByte (frameIn cluster) (216 * L + i)) (take 216 (wordIn cluster L)) (length-take-le 216 (wordIn cluster L) (omega (arith, length-word-in L)))
-      (λ i l. getD-take 216 (wordIn cluster L) i 0 l ∙ getD-word-in L i (omega arith) ∙ sym (byte i l))
+      is-tabulate 0 216 (λ i. dataByte (frameIn cluster) (216 * L + i)) (take 216 (wordIn cluster L)) (length-take-le 216 (wordIn cluster L) (omega (arith, length-word-in cluster L)))
+      (λ i l. getD-take 216 (wordIn cluster L) i 0 l ∙ getD-word-in cluster L i (omega arith) ∙ sym (byte i l))
     where
       byte : (i : ℕ) → i < 216 → dataByte (frameIn cluster) (216 * L + i) ≡ at cluster (ldcPlace L i)
       byte i l =
@@ -138,7 +155,7 @@ module _ (cluster : ℕ → ℕ → ℕ) (bytes : (row column : ℕ) → row < 4
   unfolding codeWord
   made-of-words L h roots =
       ap (λ (m : List ℕ). m ++ parity 32 m) (sym (message-in L h))
-      ∙ sym (test-column 32 (omega arith) 216 (wordIn cluster L) (bytes-word-in L) (length-word-in L) roots)
+      ∙ sym (test-column 32 (omega arith) 216 (wordIn cluster L) (bytes-word-in L) (length-word-in cluster L) roots)
 
   pub cluster-back : ((L : ℕ) → L < 304 → hasRoots 32 (wordIn cluster L) ≡ true) → (row column : ℕ) → row < 496 → column < 152
       → ldcByte (frameIn cluster) row column ≡ cluster row column
@@ -146,5 +163,5 @@ module _ (cluster : ℕ → ℕ → ℕ) (bytes : (row column : ℕ) → row < 4
       let word = shifted row column .word in
       let byte = shifted row column .byte in
       ap (λ (l : List ℕ). getD l byte 0) (made-of-words word (shifted-word-lt row column) (roots word (shifted-word-lt row column)))
-      ∙ getD-word-in word byte (shifted-byte-lt row column hr)
+      ∙ getD-word-in cluster word byte (shifted-byte-lt row column hr)
       ∙ ap₂ cluster (place-row row column hc) (place-column row column hc)

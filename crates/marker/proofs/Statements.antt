@@ -10,6 +10,8 @@ use lib.Dec.{eqb, ltb}
 use lib.ListN.{length, getD}
 use lib.Seq.{ext-getD}
 use Rattle.laws.specs.Bytes.{Bytes}
+use Rattle.laws.specs.Differing.{other}
+use Rattle.laws.proofs.Differing.{agrees}
 use Rattle.laws.proofs.First.{first-none, first-all}
 use Rattle.answer.specs.declared.Answer.{Answer}
 use Rattle.answer.specs.declared.Answer.the-variants.{Done, WrongUser, WrongSide}
@@ -25,9 +27,9 @@ use Rattle.reader.proofs.Statements.{returned, read-back, nothing-else}
 use Rattle.verdict.specs.declared.Verdict.{Verdict}
 use Rattle.verdict.specs.declared.Verdict.the-variants.{Pass, Refused, OtherPsn, OtherUser, OtherSide}
 use Rattle.marker.specs.Marked.{IsImageOf, verdictOf, markedRead, Marked, marked}
-use Rattle.comparison.specs.Compared.{other, firstOther, compared}
+use Rattle.comparison.specs.Compared.{firstOther, compared}
 use Rattle.marker.proofs.Judging.{given-done}
-use Rattle.comparison.proofs.Compared.{agrees, all-same}
+use Rattle.comparison.proofs.Compared.{all-same}
 
 -- ---- lists without a difference
 

@@ -1,12 +1,13 @@
--- `first_other` meets its contract: a search from the front (Compared).
+-- `first_other` meets its contract: a search from the front.
 use mathlib.Core.Path.{_≡_, _∙_}
 use Prim.Native.Nat.{_-_, _≤_}
 use native.Mathlib.Omega.{arith}
 use lib.ListN.{length}
 use borrow.Author.Needs.{needs}
+use Rattle.laws.specs.Differing.{other}
+use Rattle.laws.proofs.Differing.{differs, agrees}
 use Rattle.laws.proofs.First.{Passed, passed-none, passed-more, first-here, first-past}
-use Rattle.comparison.specs.Compared.{other, firstOther}
-use Rattle.comparison.proofs.Compared.{differs, agrees}
+use Rattle.comparison.specs.Compared.{firstOther}
 use Rattle.comparison.proofs.steps.first_other.Statement.{statement}
 use Rattle.comparison.proofs.steps.first_other.Tie as tie
 

@@ -1,0 +1,3 @@
+-- How far apart two columns lie.
+pub mod Statements
+pub mod Counterexamples

@@ -1,0 +1,2 @@
+-- How far apart two columns lie.
+pub mod Distance

@@ -1,0 +1,106 @@
+-- The number of places in which two lists of one length differ: counted by indexes, 0 exactly for equal lists, the same both ways round, and by way
+-- of a third list not less. Assumes nothing.
+use mathlib.Core.Path.{_≡_, refl, sym, ap, ap₂, _∙_}
+use mathlib.Core.Bool.{Bool, true, false, cond, not}
+use mathlib.Core.List.{List, [], _∷_, _++_}
+use Prim.Native.Nat.{ℕ, suc, _+_, _≤_}
+use native.Mathlib.Nat.{suc-inj}
+use native.Mathlib.Omega.{arith}
+use lib.Dec.{eqb}
+use borrow.Author.Tests.{eqb-true, eqb-false, eq-eqb, ne-eqb}
+use lib.ListN.{length, getD}
+use Rattle.laws.specs.Differing.{other, differing}
+use Rattle.laws.specs.HowMany.{howMany}
+
+-- ---- one place
+
+pub differs : (a b : List ℕ) (k : ℕ) → (getD a k 0 ≡ getD b k 0 → ⊥) → other a b k ≡ true
+unfolding other
+differs a b k h = rw (ne-eqb (getD a k 0) (getD b k 0) h)
+
+pub agrees : (a b : List ℕ) (k : ℕ) → getD a k 0 ≡ getD b k 0 → other a b k ≡ false
+unfolding other
+agrees a b k h = rw (eq-eqb (getD a k 0) (getD b k 0) h)
+
+-- ---- the number of indexes below the length at which they differ
+
+pub differing-places : (l m : List ℕ) → length l ≡ length m → differing l m ≡ howMany (length l) (other l m)
+unfolding differing howMany other
+differing-places [] m e = refl
+differing-places (x ∷ l) [] e = absurd (omega arith)
+differing-places (x ∷ l) (y ∷ m) e = by (eqb x y) (differing-places l m (suc-inj e))
+  where
+    by : (t : Bool) {n k : ℕ} → n ≡ k → cond t n (suc n) ≡ cond (not t) (suc k) k
+    by true h = h
+    by false h = ap suc h
+
+pub differing-most : (l m : List ℕ) → differing l m ≤ length l
+unfolding differing
+differing-most [] m = omega arith
+differing-most (x ∷ l) [] = omega arith
+differing-most (x ∷ l) (y ∷ m) = by (eqb x y) (differing-most l m)
+  where
+    by : (t : Bool) {n k : ℕ} → n ≤ k → cond t n (suc n) ≤ suc k
+    by true h = omega arith
+    by false h = omega arith
+
+-- ---- a distance
+
+pub differing-self : (l : List ℕ) → differing l l ≡ 0
+unfolding differing
+differing-self [] = refl
+differing-self (x ∷ l) = rw (eq-eqb x x refl) (differing-self l)
+
+pub differing-none : (l m : List ℕ) → length l ≡ length m → differing l m ≡ 0 → l ≡ m
+unfolding differing
+differing-none [] [] e none = refl
+differing-none [] (y ∷ m) e none = absurd (omega arith)
+differing-none (x ∷ l) [] e none = absurd (omega arith)
+differing-none (x ∷ l) (y ∷ m) e none = by (eqb x y) refl none (λ h. differing-none l m (suc-inj e) h)
+  where
+    by : (t : Bool) → eqb x y ≡ t → cond t (differing l m) (suc (differing l m)) ≡ 0 → (differing l m ≡ 0 → l ≡ m) → x ∷ l ≡ y ∷ m
+    by true t h rest = ap₂ _∷_ (eqb-true x y t) (rest h)
+    by false t h rest = absurd (omega arith)
+
+pub differing-comm : (l m : List ℕ) → differing l m ≡ differing m l
+unfolding differing
+differing-comm [] [] = refl
+differing-comm [] (y ∷ m) = refl
+differing-comm (x ∷ l) [] = refl
+differing-comm (x ∷ l) (y ∷ m) = by (eqb x y) refl (differing-comm l m)
+  where
+    by : (t : Bool) → eqb x y ≡ t → differing l m ≡ differing m l → cond t (differing l m) (suc (differing l m)) ≡ differing (y ∷ m) (x ∷ l)
+    by true t h = rw (eq-eqb y x (sym (eqb-true x y t))) h
+    by false t h = rw (ne-eqb y x (λ e. eqb-false x y t (sym e))) (ap suc h)
+
+pub differing-between : (w l m : List ℕ) → length l ≡ length w → length m ≡ length w → differing l m ≤ differing w l + differing w m
+unfolding differing
+differing-between [] [] m e f = omega arith
+differing-between [] (y ∷ l) m e f = absurd (omega arith)
+differing-between (x ∷ w) [] m e f = absurd (omega arith)
+differing-between (x ∷ w) (y ∷ l) [] e f = absurd (omega arith)
+differing-between (x ∷ w) (y ∷ l) (z ∷ m) e f =
+    by (eqb y z) (eqb x y) (eqb x z) refl refl refl (differing l m) (differing w l) (differing w m) (differing-between w l m (suc-inj e) (suc-inj f))
+  where
+    by : (p q r : Bool) → eqb y z ≡ p → eqb x y ≡ q → eqb x z ≡ r → (n a b : ℕ) → n ≤ a + b → cond p n (suc n) ≤ cond q a (suc a) + cond r b (suc b)
+    by true true true yz xy xz n a b h = h
+    by true true false yz xy xz n a b h = omega arith
+    by true false true yz xy xz n a b h = omega arith
+    by true false false yz xy xz n a b h = omega arith
+    by false true true yz xy xz n a b h = absurd (eqb-false y z yz (sym (eqb-true x y xy) ∙ eqb-true x z xz))
+    by false true false yz xy xz n a b h = omega arith
+    by false false true yz xy xz n a b h = omega arith
+    by false false false yz xy xz n a b h = omega arith
+
+-- ---- lists put together
+
+pub differing-append : (a b c d : List ℕ) → length a ≡ length b → differing (a ++ c) (b ++ d) ≡ differing a b + differing c d
+unfolding differing
+differing-append [] [] c d e = omega arith
+differing-append [] (y ∷ b) c d e = absurd (omega arith)
+differing-append (x ∷ a) [] c d e = absurd (omega arith)
+differing-append (x ∷ a) (y ∷ b) c d e = by (eqb x y) (differing (a ++ c) (b ++ d)) (differing a b) (differing c d) (differing-append a b c d (suc-inj e))
+  where
+    by : (t : Bool) (n k j : ℕ) → n ≡ k + j → cond t n (suc n) ≡ cond t k (suc k) + j
+    by true n k j h = h
+    by false n k j h = omega arith
