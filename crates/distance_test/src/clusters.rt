@@ -1,5 +1,4 @@
 // Clusters with one PSN and side data and other user bytes.
-use crate::columns;
 use address::Psn;
 use test_bytes::draws;
 use test_bytes::lent;
@@ -71,20 +70,41 @@ pub fn one_byte() {
     );
 }
 
-fn extremes(a: &[u8], b: &[u8]) {
-    let mut least = 256u64;
-    let mut most = 0u64;
-    for word in 0..304usize {
-        let n = places(a, b, word);
-        least = columns::lower(least, n);
-        most = columns::higher(most, n);
+// 1 where LDC column L differs in at least 33 places.
+fn far(a: &[u8], b: &[u8], word: usize) -> u64 {
+    if places(a, b, word) < 33 {
+        return 0;
     }
-    lines::number(b"other user bytes: LDC columns differ at least in ", least);
-    lines::number_line(b", at most in ", most);
+    1
+}
+
+fn far_columns(a: &[u8], b: &[u8]) -> u64 {
+    let mut n = 0u64;
+    for word in 0..304usize {
+        n = std::num::wrapping_add_u64(n, far(a, b, word));
+    }
+    n
+}
+
+fn all_places(a: &[u8], b: &[u8]) -> u64 {
+    let mut n = 0u64;
+    for word in 0..304usize {
+        n = std::num::wrapping_add_u64(n, places(a, b, word));
+    }
+    n
+}
+
+fn sum_lines(a: &[u8], b: &[u8]) {
+    lines::number_line(
+        b"LDC columns that differ in at least 33 places: ",
+        far_columns(a, b),
+    );
+    lines::number_line(b"places in all: ", all_places(a, b));
 }
 
 pub fn all_bytes() {
-    extremes(
+    io::write_all(1, b"other user bytes:\n");
+    sum_lines(
         &work_of(drawn(1), [0u32; 496]),
         &work_of(drawn(2), [0u32; 496]),
     );

@@ -21,30 +21,28 @@ fn places(zeros: usize) -> u64 {
     std::num::wrapping_add_u64(nonzero(&data), nonzero(&parity))
 }
 
-pub fn lower(a: u64, b: u64) -> u64 {
-    if a < b {
-        return a;
+// 1 where that is 33.
+fn thirty_three(zeros: usize) -> u64 {
+    if places(zeros) == 33 {
+        return 1;
     }
-    b
+    0
 }
 
-pub fn higher(a: u64, b: u64) -> u64 {
-    if a < b {
-        return b;
+// Of how many of the lengths from 33 to 255 it is.
+fn lengths_of_33() -> u64 {
+    let mut n = 0u64;
+    for zeros in 0..223usize {
+        n = std::num::wrapping_add_u64(n, thirty_three(zeros));
     }
-    a
+    n
 }
 
 pub fn lengths() {
-    let mut least = 256u64;
-    let mut most = 0u64;
-    for zeros in 0..223usize {
-        let n = places(zeros);
-        least = lower(least, n);
-        most = higher(most, n);
-    }
-    lines::number(b"generator and zeros, 33 to 255 bytes: at least ", least);
-    lines::number_line(b", at most ", most);
+    lines::number_line(
+        b"lengths from 33 to 255 at which the generator and zeros differ in 33 places: ",
+        lengths_of_33(),
+    );
 }
 
 // The 33 bytes of the generator: a one, and its parity.
