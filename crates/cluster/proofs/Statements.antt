@@ -1,9 +1,9 @@
 -- What is promised of ECC clusters, on their definitions: one that was made is read back, nothing else is read, and so a cluster
 -- determines its user bytes, its PSN and its side data. Assumes nothing.
-use mathlib.Core.Path.{_≡_, sym, ap, ap₂, subst, _∙_, subst⁻¹}
+use mathlib.Core.Path.{_≡_, sym, ap, ap₂, subst, _∙_}
 use mathlib.Core.Logic.{_↔_}
 use mathlib.Core.Bool.{Bool, true, false, not}
-use mathlib.Core.List.{List, _++_}
+use mathlib.Core.List.{List, [], _++_}
 use Prim.Native.Nat.{ℕ, _+_, _*_, _/_, _%_, _<_}
 use native.Mathlib.Omega.{arith}
 use borrow.Author.Tests.{not-false}
@@ -17,6 +17,7 @@ use Rattle.laws.proofs.Same.{some-unlike}
 use Rattle.laws.proofs.Tabulate.{length-tabulate, getD-tabulate, is-tabulate, tabulate-ext}
 use Rattle.column.specs.Column.{parity, hasRoots}
 use Rattle.column.specs.Distance.{Right}
+use Rattle.column.proofs.Roots.{has-roots}
 use Rattle.answer.specs.declared.Answer.the-variants.{Done}
 use Rattle.address.specs.Judged.{judged}
 use Rattle.sector.specs.DataFrame.{dataFrame, edcRight}
@@ -26,7 +27,7 @@ use Rattle.scrambling.proofs.Stream.{length-scrambled, bytes-scrambled, bytes-s
 use Rattle.ldc.specs.LdcCluster.{shifted, ldcByte}
 use Rattle.ldc.specs.LdcBlock.{dataByte, information, codeWord}
 use Rattle.ldc.specs.Places.{ldcPlace, at, wordIn, dataIn, frameIn}
-use Rattle.ldc.proofs.CodeWords.{bytes-word, words-back, frames-back, word-roots, word-right, same-words, cluster-back, length-frame-in, bytes-frame-in}
+use Rattle.ldc.proofs.CodeWords.{bytes-word, words-back, frames-back, word-roots, length-word-in, bytes-word-in, same-words, cluster-back, length-frame-in, bytes-frame-in}
 use Rattle.ldc.proofs.Interleaving.{place-row-lt, place-column-lt, shifted-word-lt}
 use Rattle.address.specs.declared.Psn.{Psn}
 use Rattle.bis.specs.declared.PsnFound.{PsnFound}
@@ -34,12 +35,16 @@ use Rattle.bis.specs.declared.PsnFound.the-variants.{Found}
 use Rattle.bis.specs.AccessBlock.{Side}
 use Rattle.bis.specs.BisBlock.{bisBlock}
 use Rattle.bis.specs.Reading as BisReading
+use Rattle.bis.specs.Reading.{wrongColumn, firstWrongColumn}
 use Rattle.bis.proofs.Blocks.{written-block}
 use Rattle.bis.proofs.Statements as Bis
 use Rattle.cluster.specs.EccCluster.{User, sectorOf, frames, eccCluster}
 use Rattle.cluster.specs.Multiplex.{ldcIndex, multiplexed, ldcIn, bisIn}
 use Rattle.cluster.specs.Reading.{wrongWord, firstWrongWord, dataFrameIn, wrongSector, firstWrongSector, userByteIn, userIn, Reads}
 use Rattle.cluster.proofs.Multiplex.{bytes-multiplexed, length-multiplexed, ldc-back, bis-back, is-block-in, multiplexed-back, multiplexed-ext}
+
+not-wrong : (b : Bool) → not b ≡ false → b ≡ true
+not-wrong = not-false
 
 -- ---- code words and data frames depend on the 496 rows and 152 columns alone
 
@@ -113,15 +118,12 @@ module _ (user : List ℕ) (psn : ℕ) (side : List ℕ) (is-user : User user) (
       (written-block psn side accepted (is-side .bytes))
 
   -- code word L, as it is read, is the one that was made
-  word-back : (L : ℕ) → L < 304 → wordIn (ldcIn work) L ≡ codeWord (frames psn user) L
+  pub word-back : (L : ℕ) → L < 304 → wordIn (ldcIn work) L ≡ codeWord (frames psn user) L
   word-back L h = same-word (ldcIn work) (ldcByte (frames psn user)) made-ldc L ∙ words-back (frames psn user) bytes-frames L h
 
   made-word : (L : ℕ) → L < 304 → wrongWord work L ≡ false
   unfolding wrongWord
   made-word L h = ap (λ (w : List ℕ). not (hasRoots 32 w)) (word-back L h) ∙ ap not (word-roots (frames psn user) L bytes-frames)
-
-  pub word-right-in : (L : ℕ) → L < 304 → Right 32 (wordIn (ldcIn work) L)
-  word-right-in L h = subst⁻¹ (Right 32) (word-back L h) (word-right (frames psn user) L bytes-frames)
 
   made-frame : (F : ℕ) → F < 32 → dataFrameIn stream work F ≡ dataFrame (sectorOf user F)
   unfolding dataFrameIn
@@ -162,6 +164,28 @@ module _ (user : List ℕ) (psn : ℕ) (side : List ℕ) (is-user : User user) (
         has-user = made-user;
       }
 
+  -- the columns that are read in it are right: LDC's, and BIS's
+  pub ldc-right : (L : ℕ) → L < 304 → Right 32 248 (wordIn (ldcIn work) L)
+  unfolding wrongWord
+  ldc-right L h =
+      record {
+        size = length-word-in (ldcIn work) L;
+        bytes = bytes-word-in (ldcIn work) (λ row column hr hc. bytes-cluster (ldcIndex row column)) L;
+        roots = has-roots 32 (wordIn (ldcIn work) L) .0 (not-wrong (hasRoots 32 (wordIn (ldcIn work) L)) (made-word L h));
+      }
+
+  pub bis-right : (C : ℕ) → C < 24 → Right 32 62 (getD (bisIn work) C [])
+  unfolding firstWrongColumn wrongColumn
+  bis-right C h =
+      record {
+        size = is-block-in work bytes-cluster .size C h;
+        bytes = is-block-in work bytes-cluster .bytes C h;
+        roots = has-roots 32 column .0 (not-wrong (hasRoots 32 column) (first-all 24 (wrongColumn (bisIn work)) (omega (arith, read-back .bis .right-columns)) C h));
+      }
+    where
+      column : List ℕ
+      column = getD (bisIn work) C []
+
 -- ---- the user bytes hang on the code words alone
 
 same-user : (stream a b : List ℕ) → ((L : ℕ) → L < 304 → wordIn (ldcIn a) L ≡ wordIn (ldcIn b) L) → userIn stream a ≡ userIn stream b
@@ -173,15 +197,20 @@ same-user stream a b same =
 -- so, under one PSN, some code word differs where user bytes do
 pub other-word : (user user′ side side′ : List ℕ) (psn : ℕ) → User user → User user′ → judged psn ≡ Done → Side side → Side side′ → (user ≡ user′ → ⊥)
     → (L : ℕ) × (L < 304) × (wordIn (ldcIn (eccCluster user psn side)) L ≡ wordIn (ldcIn (eccCluster user′ psn side′)) L → ⊥)
-other-word user user′ side side′ psn hu hu′ hp hs hs′ different =
-    some-unlike 304 (wordIn (ldcIn work₁)) (wordIn (ldcIn work₂))
-    (λ same. different (sym (read-back user psn side hu hp hs .has-user) ∙ same-user (scramblingOf psn) work₁ work₂ same ∙ read-back user′ psn side′ hu′ hp hs′ .has-user))
+other-word user user′ side side′ psn hu hu′ hp hs hs′ different = some-unlike 304 (wordIn (ldcIn work₁)) (wordIn (ldcIn work₂)) unlike
   where
     work₁ : List ℕ
     work₁ = eccCluster user psn side
 
     work₂ : List ℕ
     work₂ = eccCluster user′ psn side′
+
+    unlike : ((L : ℕ) → L < 304 → wordIn (ldcIn work₁) L ≡ wordIn (ldcIn work₂) L) → ⊥
+    unlike same =
+        different
+        (sym (read-back user psn side hu hp hs .has-user)
+        ∙ same-user (scramblingOf psn) work₁ work₂ same
+        ∙ read-back user′ psn side′ hu′ hp hs′ .has-user)
 
 -- ---- and nothing else is read
 
@@ -190,9 +219,6 @@ pub record Written (work user : List ℕ) (psn : ℕ) (side : List ℕ) : Type 0
   pub accepted : judged psn ≡ Done
   pub is-side : Side side
   pub whole : work ≡ eccCluster user psn side
-
-not-wrong : (b : Bool) → not b ≡ false → b ≡ true
-not-wrong = not-false
 
 module _ (work user : List ℕ) (psn : ℕ) (side : List ℕ) (size : length work ≡ 76880) (bytes : Bytes work) (reads : Reads work user psn side) where
   abbrev ldc : ℕ → ℕ → ℕ

@@ -1,4 +1,4 @@
--- The laws of columns: proofs/Parity.antt has those that other crates cite.
+-- The laws of columns, a file for each subject.
 pub mod Sums
 pub mod Value
 pub mod Generator

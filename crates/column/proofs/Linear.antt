@@ -3,6 +3,7 @@ use mathlib.Core.Path.{_≡_, refl, sym, ap, ap₂, _∙_}
 use mathlib.Core.List.{List, [], _∷_, _++_}
 use Prim.Native.Nat.{ℕ, zero, suc}
 use native.Mathlib.Nat.{suc-inj}
+use native.Mathlib.Numerals.{add-one}
 use native.Mathlib.Omega.{arith}
 use lib.ListN.{length, drop}
 use Rattle.laws.specs.Combined.{combined}
@@ -13,6 +14,7 @@ use Rattle.galois.proofs.Sum.{sum-zero, zero-sum, sum-self, sum-swap}
 use Rattle.galois.proofs.Product.{sum-product}
 use Rattle.column.specs.Column.{sums, scaled, generator, pushed, remainder, parity}
 use Rattle.column.proofs.Sums.{sums-combined, length-snoc, length-scaled}
+use Rattle.column.proofs.Value.{zeroColumn, zeros-append}
 use Rattle.column.proofs.Generator.{coefficients-length}
 use Rattle.column.proofs.Division.{length-pushed}
 
@@ -57,10 +59,9 @@ remainder-sums g r s (m ∷ ms) (n ∷ ns) hr hs e =
     ap (λ (l : List ℕ). remainder g l (sums ms ns)) (pushed-sums g r s m n (hr ∙ sym hs))
     ∙ remainder-sums g (pushed g r m) (pushed g s n) ms ns (length-pushed g r m hr) (length-pushed g s n hs) (suc-inj e)
 
-pub zeros-snoc : (n : ℕ) → _++_ {A = ℕ} (tabulate n (λ _. 0)) (0 ∷ []) ≡ tabulate (suc n) (λ _. 0)
+pub zeros-snoc : (n : ℕ) → zeroColumn n ++ 0 ∷ [] ≡ zeroColumn (suc n)
 unfolding tabulate
-zeros-snoc zero = refl
-zeros-snoc (suc n) = ap (λ (l : List ℕ). 0 ∷ l) (zeros-snoc n)
+zeros-snoc n = zeros-append n 1 ∙ ap zeroColumn (add-one n)
 
 pub sums-none : (l : List ℕ) → sums l (tabulate (length l) (λ _. 0)) ≡ l
 unfolding tabulate sums

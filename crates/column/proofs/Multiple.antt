@@ -17,28 +17,25 @@ use Rattle.galois.proofs.Sum.{sum-assoc, sum-comm, sum-zero, zero-sum, sum-self
 use Rattle.galois.proofs.Product.{product-byte, product-comm, product-assoc, sum-product, product-zero, zero-product, one-product, product-one}
 use Rattle.column.specs.Column.{valueFrom, value, Roots, hasRoots, sums, scaled, timesRoot, generator, multiplied, MultipleOf, ParityExactly, pushed, remainder, parity}
 use Rattle.column.proofs.Sums.{length-snoc, length-sums, length-scaled}
-use Rattle.column.proofs.Value.{value-append, value-cons, value-sums, value-scaled, value-out, value-zeros}
+use Rattle.column.proofs.Value.{zeroColumn, value-append, value-cons, value-sums, value-scaled, value-out, value-moved, value-zeros}
 use Rattle.column.proofs.Generator.{generator-roots, generator-first, generator-bytes, coefficients-length}
 use Rattle.column.proofs.Division.{length-pushed, bytes-pushed}
 use Rattle.column.proofs.Roots.{has-roots}
 use Rattle.column.proofs.Linear.{sums-none, zeros-sums}
 use Rattle.column.proofs.Parity.{parity-length, parity-only, roots-parity, test-parity, test-column}
 
-abbrev zeros : ℕ → List ℕ
-zeros n = tabulate n (λ _. 0)
-
 -- ---- the product: its length, its value
 
-length-moved : (a c : ℕ) (q g : List ℕ) → length (scaled a (c ∷ g) ++ zeros (length q)) ≡ suc (length q + length g)
+length-moved : (a c : ℕ) (q g : List ℕ) → length (scaled a (c ∷ g) ++ zeroColumn (length q)) ≡ suc (length q + length g)
 length-moved a c q g =
     let times : length (scaled a (c ∷ g)) ≡ suc (length g) = length-scaled a (c ∷ g) in
-    let behind : length (zeros (length q)) ≡ length q = length-tabulate (length q) (λ _. 0) in
-    let both = length-append (scaled a (c ∷ g)) (zeros (length q)) in
+    let behind : length (zeroColumn (length q)) ≡ length q = length-tabulate (length q) (λ _. 0) in
+    let both = length-append (scaled a (c ∷ g)) (zeroColumn (length q)) in
     omega arith
 
-multiplied-none : (c : ℕ) (g : List ℕ) → multiplied [] (c ∷ g) ≡ zeros (length g)
+multiplied-none : (c : ℕ) (g : List ℕ) → multiplied [] (c ∷ g) ≡ zeroColumn (length g)
 unfolding multiplied
-multiplied-none c g = ap zeros (less (length g))
+multiplied-none c g = ap zeroColumn (less (length g))
   where
     less : (n : ℕ) → suc n - 1 ≡ n
     less n = omega arith
@@ -47,16 +44,9 @@ pub length-multiplied : (q : List ℕ) (c : ℕ) (g : List ℕ) → length (mult
 unfolding multiplied
 length-multiplied [] c g = ap length (multiplied-none c g) ∙ length-tabulate (length g) (λ _. 0) ∙ omega arith
 length-multiplied (a ∷ q) c g =
-    length-sums (scaled a (c ∷ g) ++ zeros (length q)) (0 ∷ multiplied q (c ∷ g)) (length-moved a c q g ∙ sym (ap suc (length-multiplied q c g)))
+    length-sums (scaled a (c ∷ g) ++ zeroColumn (length q)) (0 ∷ multiplied q (c ∷ g)) (length-moved a c q g ∙ sym (ap suc (length-multiplied q c g)))
     ∙ length-moved a c q g
     ∙ omega arith
-
--- zeros behind count as a power of x
-value-moved : (v n x : ℕ) → v < 256 → valueFrom v (zeros n) x ≡ product v (power x n)
-unfolding valueFrom tabulate power
-value-moved v zero x h = sym (product-one v h)
-value-moved v (suc n) x h =
-    ap (λ (u : ℕ). valueFrom u (zeros n) x) (sum-zero (product v x)) ∙ value-moved (product v x) n x (product-byte v x) ∙ product-assoc v x (power x n)
 
 value-times : (a : ℕ) (cs : List ℕ) (x : ℕ) → value (scaled a cs) x ≡ product a (value cs x)
 unfolding value
@@ -72,7 +62,7 @@ value-multiplied (a ∷ q) c g x b =
     ∙ sym (ap (λ (u : ℕ). product u v) split ∙ sum-product v (product a (power x (length q))) (value q x))
   where
     top : List ℕ
-    top = scaled a (c ∷ g) ++ zeros (length q)
+    top = scaled a (c ∷ g) ++ zeroColumn (length q)
 
     v : ℕ
     v = value (c ∷ g) x
@@ -82,8 +72,8 @@ value-multiplied (a ∷ q) c g x b =
 
     first : valueFrom 0 top x ≡ product (product a (power x (length q))) v
     first =
-        value-append 0 (scaled a (c ∷ g)) (zeros (length q)) x
-        ∙ ap (λ (u : ℕ). valueFrom u (zeros (length q)) x) (value-times a (c ∷ g) x)
+        value-append 0 (scaled a (c ∷ g)) (zeroColumn (length q)) x
+        ∙ ap (λ (u : ℕ). valueFrom u (zeroColumn (length q)) x) (value-times a (c ∷ g) x)
         ∙ value-moved (product a v) (length q) x (product-byte a v)
         ∙ product-assoc a v (power x (length q))
         ∙ ap (product a) (product-comm v (power x (length q)))
@@ -102,7 +92,7 @@ unfolding timesRoot multiplied tabulate
 root-product a c cs b =
     ap₂ (λ (k l : List ℕ). sums (k ++ 0 ∷ []) (0 ∷ l)) (sym (scaled-one (c ∷ cs) b))
     (sym
-    (ap₂ sums (append-nil (scaled a (c ∷ cs))) (ap (λ (l : List ℕ). 0 ∷ l) (multiplied-none c cs) ∙ ap zeros (sym (length-scaled a (c ∷ cs))))
+    (ap₂ sums (append-nil (scaled a (c ∷ cs))) (ap (λ (l : List ℕ). 0 ∷ l) (multiplied-none c cs) ∙ ap zeroColumn (sym (length-scaled a (c ∷ cs))))
     ∙ sums-none (scaled a (c ∷ cs))))
 
 -- formulas 30, 33, 37: one factor more
@@ -139,15 +129,15 @@ bytes-quotient g register (d ∷ ds) hr hd =
     bytes-cons (sum d (getD register 0 0)) (quotientOf g (pushed g register d) ds) (sum-byte (hd 0) (hr 0))
     (bytes-quotient g (pushed g register d) ds (bytes-pushed g register d hr) (λ j. hd (suc j)))
 
-sums-self : (l : List ℕ) → sums l l ≡ zeros (length l)
+sums-self : (l : List ℕ) → sums l l ≡ zeroColumn (length l)
 unfolding sums tabulate
 sums-self [] = refl
 sums-self (x ∷ l) = ap₂ _∷_ (sum-self x) (sums-self l)
 
--- zeros behind both
-sums-behind : (a b : List ℕ) (n : ℕ) → length a ≡ length b → sums a b ++ zeros n ≡ sums (a ++ zeros n) (b ++ zeros n)
+-- zeroColumn behind both
+sums-behind : (a b : List ℕ) (n : ℕ) → length a ≡ length b → sums a b ++ zeroColumn n ≡ sums (a ++ zeroColumn n) (b ++ zeroColumn n)
 unfolding sums
-sums-behind [] [] n e = sym (zeros-sums n (zeros n) (length-tabulate n (λ _. 0)))
+sums-behind [] [] n e = sym (zeros-sums n (zeroColumn n) (length-tabulate n (λ _. 0)))
 sums-behind [] (y ∷ b) n e = absurd (omega arith)
 sums-behind (x ∷ a) [] n e = absurd (omega arith)
 sums-behind (x ∷ a) (y ∷ b) n e = ap (λ (l : List ℕ). sum x y ∷ l) (sums-behind a b n (suc-inj e))
@@ -164,8 +154,8 @@ sums-twice (u ∷ a) (v ∷ b) (w ∷ x) e = ap₂ _∷_ twice (sums-twice a b x
     twice : sum u (sum (sum v u) w) ≡ sum v w
     twice = ap (sum u) (ap (λ (k : ℕ). sum k w) (sum-comm v u) ∙ sum-assoc u v w) ∙ sum-cancel u (sum v w)
 
--- zeros in front of zeros
-front-zeros : (r n : ℕ) (l : List ℕ) → length l ≡ r + n → sums (zeros r ++ zeros n) l ≡ l
+-- zeroColumn in front of zeroColumn
+front-zeros : (r n : ℕ) (l : List ℕ) → length l ≡ r + n → sums (zeroColumn r ++ zeroColumn n) l ≡ l
 unfolding sums tabulate
 front-zeros zero n l e = zeros-sums n l (omega arith)
 front-zeros (suc r) n [] e = absurd (omega arith)
@@ -177,28 +167,28 @@ first-of d c hd hc = sum-zero (product (sum d c) 1) ∙ product-one (sum d c) (s
 
 -- f g, which a byte has taken off the register, added again
 taken-off : (f : ℕ) (g cs : List ℕ) (n : ℕ) (l : List ℕ) → suc (length cs) ≡ length g
-    → sums (scaled f g ++ zeros n) (sums (sums (cs ++ 0 ∷ []) (scaled f g) ++ zeros n) l) ≡ sums (cs ++ 0 ∷ zeros n) l
+    → sums (scaled f g ++ zeroColumn n) (sums (sums (cs ++ 0 ∷ []) (scaled f g) ++ zeroColumn n) l) ≡ sums (cs ++ 0 ∷ zeroColumn n) l
 taken-off f g cs n l e =
     ap (λ (k : List ℕ). sums multiple (sums k l)) (sums-behind (cs ++ 0 ∷ []) (scaled f g) n same)
-    ∙ sums-twice multiple ((cs ++ 0 ∷ []) ++ zeros n) l lengths
-    ∙ ap (λ (k : List ℕ). sums k l) (append-assoc cs (0 ∷ []) (zeros n))
+    ∙ sums-twice multiple ((cs ++ 0 ∷ []) ++ zeroColumn n) l lengths
+    ∙ ap (λ (k : List ℕ). sums k l) (append-assoc cs (0 ∷ []) (zeroColumn n))
   where
     multiple : List ℕ
-    multiple = scaled f g ++ zeros n
+    multiple = scaled f g ++ zeroColumn n
 
     same : length (cs ++ 0 ∷ []) ≡ length (scaled f g)
     same = length-snoc cs ∙ e ∙ sym (length-scaled f g)
 
-    lengths : length (scaled f g ++ zeros n) ≡ length ((cs ++ 0 ∷ []) ++ zeros n)
+    lengths : length (scaled f g ++ zeroColumn n) ≡ length ((cs ++ 0 ∷ []) ++ zeroColumn n)
     lengths =
-        length-append (scaled f g) (zeros n) ∙ ap (λ (k : ℕ). k + length (zeros n)) (sym same) ∙ sym (length-append (cs ++ 0 ∷ []) (zeros n))
+        length-append (scaled f g) (zeroColumn n) ∙ ap (λ (k : ℕ). k + length (zeroColumn n)) (sym same) ∙ sym (length-append (cs ++ 0 ∷ []) (zeroColumn n))
 
 -- the register, at the front, with the message and its remainder, is the quotient times 1 ∷ g
 divided-product : (g register ds : List ℕ) → length register ≡ length g → Bytes register → Bytes ds
-    → sums (register ++ zeros (length ds)) (ds ++ remainder g register ds) ≡ multiplied (quotientOf g register ds) (1 ∷ g)
+    → sums (register ++ zeroColumn (length ds)) (ds ++ remainder g register ds) ≡ multiplied (quotientOf g register ds) (1 ∷ g)
 unfolding remainder multiplied quotientOf pushed sums scaled tabulate
 divided-product g register [] e hr hd =
-    ap (λ (l : List ℕ). sums l register) (append-nil register) ∙ sums-self register ∙ ap zeros e ∙ sym (multiplied-none 1 g)
+    ap (λ (l : List ℕ). sums l register) (append-nil register) ∙ sums-self register ∙ ap zeroColumn e ∙ sym (multiplied-none 1 g)
 divided-product [] [] (d ∷ ds) e hr hd =
     ap₂ _∷_ (zero-sum d ∙ sym (first-of d 0 (hd 0) (omega arith) ∙ sum-zero d))
     (divided-product [] [] ds refl hr (λ j. hd (suc j)) ∙ sym (zeros-sums (length q) (multiplied q (1 ∷ [])) (length-multiplied q 1 [] ∙ omega arith)))
@@ -209,7 +199,7 @@ divided-product (c ∷ g) [] (d ∷ ds) e hr hd = absurd (omega arith)
 divided-product g (c ∷ cs) (d ∷ ds) e hr hd =
     ap₂ _∷_ (sum-comm c d ∙ sym (first-of d c (hd 0) (hr 0)))
     (sym
-    (ap₂ sums (ap (λ (k : ℕ). scaled f g ++ zeros k) (length-quotient g next ds)) (sym (divided-product g next ds size bytes (λ j. hd (suc j))))
+    (ap₂ sums (ap (λ (k : ℕ). scaled f g ++ zeroColumn k) (length-quotient g next ds)) (sym (divided-product g next ds size bytes (λ j. hd (suc j))))
     ∙ taken-off f g cs (length ds) (ds ++ remainder g next ds) e))
   where
     f : ℕ
@@ -231,12 +221,12 @@ pub parity-multiple : (r : ℕ) (message : List ℕ) → Bytes message → Multi
 unfolding parity
 parity-multiple r message bytes =
     record {
-      quotient = quotientOf g (zeros r) message;
-      bytes = bytes-quotient g (zeros r) message (bytes-tabulate r (λ _. 0) (λ k h. omega arith)) bytes;
+      quotient = quotientOf g (zeroColumn r) message;
+      bytes = bytes-quotient g (zeroColumn r) message (bytes-tabulate r (λ _. 0) (λ k h. omega arith)) bytes;
       product =
           sym (front-zeros r (length message) (message ++ parity r message) size)
-          ∙ divided-product g (zeros r) message (length-tabulate r (λ _. 0) ∙ sym (coefficients-length r)) (bytes-tabulate r (λ _. 0) (λ k h. omega arith)) bytes
-          ∙ ap (multiplied (quotientOf g (zeros r) message)) (sym (generator-first r));
+          ∙ divided-product g (zeroColumn r) message (length-tabulate r (λ _. 0) ∙ sym (coefficients-length r)) (bytes-tabulate r (λ _. 0) (λ k h. omega arith)) bytes
+          ∙ ap (multiplied (quotientOf g (zeroColumn r) message)) (sym (generator-first r));
     }
   where
     g : List ℕ

@@ -11,21 +11,16 @@ use lib.Seq.{getD-drop, ext-getD}
 use Rattle.laws.specs.Bytes.{Bytes}
 use Rattle.laws.specs.Combined.{combined}
 use Rattle.laws.specs.Tabulate.{tabulate}
-use Rattle.laws.proofs.Bytes.{bytes-take, bytes-drop, bytes-tabulate}
+use Rattle.laws.proofs.Bytes.{bytes-take, bytes-drop}
 use Rattle.laws.proofs.Combined.{bytes-combined}
 use Rattle.galois.specs.Field.{α, power}
 use Rattle.column.specs.Column.{value, Roots, hasRoots, Completes, IsParity, EndsIn, generator, remainder, parity}
-use Rattle.column.proofs.Value.{value-append, value-zeros}
+use Rattle.column.proofs.Value.{zeros-bytes, value-append, value-zeros}
 use Rattle.column.proofs.Generator.{coefficients-length, coefficients-roots}
 use Rattle.column.proofs.Division.{length-remainder, bytes-remainder, remainder-keeps}
 use Rattle.column.proofs.Linear.{zeros-length, parity-combined}
 use Rattle.column.proofs.Unique.{completes-once}
 use Rattle.column.proofs.Roots.{has-roots}
-
--- ---- the register starts with r zeros
-
-pub zeros-bytes : (r : ℕ) → Bytes (tabulate r (λ _. 0))
-zeros-bytes r = bytes-tabulate r (λ _. 0) (λ k h. omega arith)
 
 -- ---- r bytes, which give the column its roots
 

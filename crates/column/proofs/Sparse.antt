@@ -22,23 +22,23 @@ use Rattle.column.proofs.Powers.{total, Falls, Zeros, vanish}
 
 -- ---- these bytes, and the exponents of their powers of x
 
-unfoldable pub nonzero : List ℕ → List ℕ
+unfoldable nonzero : List ℕ → List ℕ
 nonzero [] = []
 nonzero (zero ∷ cs) = nonzero cs
 nonzero (suc c ∷ cs) = suc c ∷ nonzero cs
 
-unfoldable pub exponents : List ℕ → List ℕ
+unfoldable exponents : List ℕ → List ℕ
 exponents [] = []
 exponents (zero ∷ cs) = exponents cs
 exponents (suc c ∷ cs) = length cs ∷ exponents cs
 
-pub exponents-length : (cs : List ℕ) → length (exponents cs) ≡ length (nonzero cs)
+exponents-length : (cs : List ℕ) → length (exponents cs) ≡ length (nonzero cs)
 unfolding nonzero exponents
 exponents-length [] = refl
 exponents-length (zero ∷ cs) = exponents-length cs
 exponents-length (suc c ∷ cs) = ap suc (exponents-length cs)
 
-pub nonzero-bytes : (cs : List ℕ) → Bytes cs → Bytes (nonzero cs)
+nonzero-bytes : (cs : List ℕ) → Bytes cs → Bytes (nonzero cs)
 unfolding nonzero
 nonzero-bytes [] b = b
 nonzero-bytes (zero ∷ cs) b = nonzero-bytes cs (λ j. b (suc j))
@@ -48,7 +48,7 @@ falls-from : (m n : ℕ) (ks : List ℕ) → m ≤ n → Falls m ks → Falls n 
 falls-from m n [] h f = tt
 falls-from m n (k ∷ ks) h f = (lt-of-lt-of-le (f .0) h, f .1)
 
-pub exponents-fall : (cs : List ℕ) → Falls (length cs) (exponents cs)
+exponents-fall : (cs : List ℕ) → Falls (length cs) (exponents cs)
 unfolding exponents
 exponents-fall [] = tt
 exponents-fall (zero ∷ cs) = falls-from (length cs) (suc (length cs)) (exponents cs) (le-suc (length cs)) (exponents-fall cs)
@@ -56,7 +56,7 @@ exponents-fall (suc c ∷ cs) = (le-refl (suc (length cs)), exponents-fall cs)
 
 -- ---- the value at α^s is their sum of powers
 
-pub value-total : (cs : List ℕ) (s : ℕ) → Bytes cs → value cs (power α s) ≡ total (nonzero cs) (exponents cs) s
+value-total : (cs : List ℕ) (s : ℕ) → Bytes cs → value cs (power α s) ≡ total (nonzero cs) (exponents cs) s
 unfolding value valueFrom total nonzero exponents
 value-total [] s b = refl
 value-total (zero ∷ cs) s b = value-cons 0 cs (power α s) ∙ value-total cs s (λ j. b (suc j))
@@ -65,29 +65,30 @@ value-total (suc c ∷ cs) s b =
     ∙ value-out (suc c) cs (power α s) (b 0) (λ j. b (suc j))
     ∙ ap₂ (λ (p q : ℕ). sum (product (suc c) p) q) (power-swap α s (length cs)) (value-total cs s (λ j. b (suc j)))
 
-pub none-zero : (cs : List ℕ) → Zeros (nonzero cs) → length (nonzero cs) ≡ 0
+no-zeros : (cs : List ℕ) → Zeros (nonzero cs) → length (nonzero cs) ≡ 0
 unfolding nonzero
-none-zero [] z = refl
-none-zero (zero ∷ cs) z = none-zero cs z
-none-zero (suc c ∷ cs) z = absurd (omega (arith, z .0))
+no-zeros [] z = refl
+no-zeros (zero ∷ cs) z = no-zeros cs z
+no-zeros (suc c ∷ cs) z = absurd (omega (arith, z .0))
 
 -- no more of them than roots, then none
-pub few-none : (r : ℕ) (cs : List ℕ) → Bytes cs → length cs ≤ 255 → Roots r cs → length (nonzero cs) ≤ r → length (nonzero cs) ≡ 0
+few-none : (r : ℕ) (cs : List ℕ) → Bytes cs → length cs ≤ 255 → Roots r cs → length (nonzero cs) ≤ r → length (nonzero cs) ≡ 0
 few-none r cs b short roots few =
-    none-zero cs
+    no-zeros cs
     (vanish (exponents cs) (length cs) short (exponents-fall cs) (nonzero cs) (sym (exponents-length cs)) (nonzero-bytes cs b)
     (λ s h. sym (value-total cs s b) ∙ roots s (omega (arith, exponents-length cs))))
 
 -- ---- two columns
 
 -- they differ where their sum is not zero
-pub differing-sums : (xs ys : List ℕ) → differing xs ys ≡ length (nonzero (sums xs ys))
+differing-sums : (xs ys : List ℕ) → differing xs ys ≡ length (nonzero (sums xs ys))
 unfolding nonzero sums differing
 differing-sums [] ys = refl
 differing-sums (x ∷ xs) [] = refl
 differing-sums (x ∷ xs) (y ∷ ys) = by (sum x y) refl (differing-sums xs ys)
   where
-    by : (n : ℕ) → sum x y ≡ n → differing xs ys ≡ length (nonzero (sums xs ys)) → cond (eqb x y) (differing xs ys) (suc (differing xs ys)) ≡ length (nonzero (n ∷ sums xs ys))
+    by : (n : ℕ) → sum x y ≡ n → differing xs ys ≡ length (nonzero (sums xs ys))
+        → cond (eqb x y) (differing xs ys) (suc (differing xs ys)) ≡ length (nonzero (n ∷ sums xs ys))
     by zero e h = ap (λ (b : Bool). cond b (differing xs ys) (suc (differing xs ys))) (eq-eqb x y (sum-same x y e)) ∙ h
     by (suc n) e h = ap (λ (b : Bool). cond b (differing xs ys) (suc (differing xs ys))) (ne-eqb x y unlike) ∙ ap suc h
       where
@@ -95,7 +96,8 @@ differing-sums (x ∷ xs) (y ∷ ys) = by (sum x y) refl (differing-sums xs ys)
         unlike p = absurd (omega (arith, sym (ap (sum x) (sym p) ∙ sum-self x) ∙ e))
 
 -- two that differ in no more places than their sum has roots are the same
-pub few-same : (r : ℕ) (xs ys : List ℕ) → length xs ≡ length ys → length xs ≤ 255 → Bytes xs → Bytes ys → Roots r (sums xs ys) → differing xs ys ≤ r → xs ≡ ys
+pub few-same : (r : ℕ) (xs ys : List ℕ) → length xs ≡ length ys → length xs ≤ 255 → Bytes xs → Bytes ys → Roots r (sums xs ys)
+    → differing xs ys ≤ r → xs ≡ ys
 few-same r xs ys e short bx by roots few =
     differing-none xs ys e
     (differing-sums xs ys

@@ -1,18 +1,19 @@
 -- The value of a column: it is linear, and a loop finds it byte by byte. Assumes nothing.
-use mathlib.Core.Path.{_≡_, refl, sym, ap, _∙_}
+use mathlib.Core.Path.{_≡_, refl, sym, ap, ap₂, _∙_}
 use mathlib.Core.List.{List, [], _∷_, _++_}
 use Prim.Native.Nat.{ℕ, zero, suc, _+_, _<_, _≤_}
-use native.Mathlib.Nat.{suc-inj}
+use native.Mathlib.Nat.{suc-inj, zero-add, suc-add}
 use native.Mathlib.Numerals.{add-one}
 use native.Mathlib.Omega.{arith}
 use lib.ListN.{length, getD, take}
 use lib.Seq.{take-suc, take-all}
 use Rattle.laws.specs.Bytes.{Bytes}
 use Rattle.laws.specs.Tabulate.{tabulate}
+use Rattle.laws.proofs.Bytes.{bytes-tabulate}
 use Rattle.galois.specs.Field.{sum, product, power}
 use Rattle.galois.specs.Tables.{AreTables, productBy}
 use Rattle.galois.proofs.Lookup.{product-table}
-use Rattle.galois.proofs.Sum.{sum-assoc, sum-zero, zero-sum, sum-byte, sum-swap}
+use Rattle.galois.proofs.Sum.{sum-assoc, sum-zero, zero-sum, sum-self, sum-byte, sum-swap}
 use Rattle.galois.proofs.Product.{product-byte, product-assoc, product-sum, sum-product, zero-product, product-one}
 use Rattle.column.specs.Column.{valueFrom, value, sums, scaled}
 
@@ -55,10 +56,36 @@ value-out v (c ∷ cs) x h b =
     ∙ sum-assoc (product v (product x (power x (length cs)))) (product c (power x (length cs))) (value cs x)
     ∙ ap (sum (product v (product x (power x (length cs))))) (sym (value-cons c cs x ∙ value-out c cs x (b 0) (λ j. b (suc j))))
 
-pub value-zeros : (n x : ℕ) → valueFrom 0 (tabulate n (λ _. 0)) x ≡ 0
+-- a root of two columns, behind the same bytes, is a root of their sum
+pub sum-root : (v : ℕ) (xs ys : List ℕ) (x : ℕ) → length xs ≡ length ys → valueFrom v xs x ≡ 0 → valueFrom v ys x ≡ 0 → value (sums xs ys) x ≡ 0
+unfolding value
+sum-root v xs ys x e root root′ =
+    ap (λ (u : ℕ). valueFrom u (sums xs ys) x) (sym (sum-self v)) ∙ value-sums v v xs ys x e ∙ ap₂ sum root root′ ∙ sum-self 0
+
+-- ---- zeros
+
+abbrev pub zeroColumn : ℕ → List ℕ
+zeroColumn n = tabulate n (λ _. 0)
+
+pub zeros-bytes : (n : ℕ) → Bytes (zeroColumn n)
+zeros-bytes n = bytes-tabulate n (λ _. 0) (λ k h. omega arith)
+
+pub zeros-append : (k m : ℕ) → zeroColumn k ++ zeroColumn m ≡ zeroColumn (k + m)
+unfolding tabulate
+zeros-append zero m = ap zeroColumn (sym (zero-add m))
+zeros-append (suc k) m = ap (λ (l : List ℕ). 0 ∷ l) (zeros-append k m) ∙ ap zeroColumn (sym (suc-add k m))
+
+pub value-zeros : (n x : ℕ) → valueFrom 0 (zeroColumn n) x ≡ 0
 unfolding valueFrom tabulate
 value-zeros zero x = refl
-value-zeros (suc n) x = ap (λ (u : ℕ). valueFrom u (tabulate n (λ _. 0)) x) (sum-zero (product 0 x) ∙ zero-product x) ∙ value-zeros n x
+value-zeros (suc n) x = ap (λ (u : ℕ). valueFrom u (zeroColumn n) x) (sum-zero (product 0 x) ∙ zero-product x) ∙ value-zeros n x
+
+-- behind a byte they count as a power of x
+pub value-moved : (v n x : ℕ) → v < 256 → valueFrom v (zeroColumn n) x ≡ product v (power x n)
+unfolding valueFrom tabulate power
+value-moved v zero x h = sym (product-one v h)
+value-moved v (suc n) x h =
+    ap (λ (u : ℕ). valueFrom u (zeroColumn n) x) (sum-zero (product v x)) ∙ value-moved (product v x) n x (product-byte v x) ∙ product-assoc v x (power x n)
 
 -- ---- byte by byte
 

@@ -1,28 +1,24 @@
--- Columns whose parity is right, and those of them that are near another column.
+-- Columns whose parity is right, those near a column, and how far apart they lie.
 use mathlib.Core.Path.{_≡_}
-use mathlib.Core.List.{List, _++_}
-use Prim.Native.Nat.{ℕ, suc, _-_, _≤_}
+use mathlib.Core.List.{List}
+use Prim.Native.Nat.{ℕ, _≤_}
 use lib.ListN.{length}
 use Rattle.laws.specs.Bytes.{Bytes}
 use Rattle.laws.specs.Differing.{differing}
-use Rattle.laws.specs.Tabulate.{tabulate}
-use Rattle.column.specs.Column.{Roots, generator}
+use Rattle.column.specs.Column.{Roots}
 
--- a column whose r parity bytes are right: bytes that have the roots
-pub record Right (r : ℕ) (column : List ℕ) : Type 0 where
+-- a right column of n bytes: it has its r roots
+pub record Right (r n : ℕ) (column : List ℕ) : Type 0 where
+  pub size : length column ≡ n
   pub bytes : Bytes column
   pub roots : Roots r column
 
--- c is a right column, of as many bytes as w, that differs from w in at most e
-pub record Near (r e : ℕ) (w c : List ℕ) : Type 0 where
-  pub right : Right r c
-  pub size : length c ≡ length w
-  pub few : differing w c ≤ e
+-- c is a right column, of as many bytes as w, that differs from w in at most m
+pub record Near (r m : ℕ) (w c : List ℕ) : Type 0 where
+  pub right : Right r (length w) c
+  pub few : differing w c ≤ m
 
--- n zeros
-abbrev pub zeroColumn : ℕ → List ℕ
-zeroColumn n = tabulate n (λ _. 0)
-
--- the generator as a column of n bytes, behind zeros
-abbrev pub generatorColumn : ℕ → ℕ → List ℕ
-generatorColumn r n = zeroColumn (n - suc r) ++ generator r
+-- d is the minimum distance of these columns: two different ones differ in at least d places, and each has another that differs in no more
+pub record IsDistance (r n d : ℕ) : Type 0 where
+  pub at-least : (c c′ : List ℕ) → Right r n c → Right r n c′ → (c ≡ c′ → ⊥) → d ≤ differing c c′
+  pub met : (c : List ℕ) → Right r n c → (c′ : List ℕ) × Right r n c′ × (c ≡ c′ → ⊥) × (differing c c′ ≡ d)

@@ -3,7 +3,7 @@ use mathlib.Core.Bool.{cond}
 use mathlib.Core.List.{List}
 use Prim.Native.Nat.{ℕ}
 use lib.Dec.{eqb, ltb}
-use Rattle.laws.specs.Differing.{other}
+use Rattle.laws.specs.Differing.{differsAt}
 use Rattle.laws.specs.First.{first}
 use Rattle.verdict.specs.declared.Verdict.{Verdict}
 use Rattle.verdict.specs.declared.Verdict.the-variants.{Pass, OtherPsn, OtherUser, OtherSide}
@@ -11,7 +11,7 @@ use Rattle.sizes.specs.Sizes.{sideSize, userSize}
 
 -- the lowest index below n at which two lists differ, or n
 unfoldable pub firstOther : ℕ → List ℕ → List ℕ → ℕ
-firstOther n a b = first n (other a b)
+firstOther n a b = first n (differsAt a b)
 
 -- PSN, user bytes and side data, each given and read
 unfoldable pub compared : ℕ → List ℕ → List ℕ → ℕ → List ℕ → List ℕ → Verdict

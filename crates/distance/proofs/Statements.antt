@@ -1,90 +1,109 @@
 -- W-208. Assumes nothing.
 use mathlib.Core.Path.{_≡_, refl, sym, ap, _∙_}
-use mathlib.Core.Bool.{Bool, true, false}
+use mathlib.Core.Bool.{Bool, true, false, not}
 use mathlib.Core.List.{List}
-use Prim.Native.Nat.{ℕ, suc, _<_, _≤_}
+use Prim.Native.Nat.{ℕ, _<_, _≤_}
 use native.Mathlib.Omega.{arith}
 use lib.ListN.{length}
 use Rattle.laws.specs.Bytes.{Bytes}
 use Rattle.laws.specs.Differing.{differing}
 use Rattle.laws.proofs.Differing.{differing-self}
-use Rattle.laws.proofs.Tabulate.{length-tabulate}
 use Rattle.column.specs.Column.{hasRoots}
-use Rattle.column.specs.Distance.{Right, zeroColumn, generatorColumn}
+use Rattle.column.specs.Distance.{Right}
 use Rattle.column.proofs.Roots.{has-roots}
-use Rattle.column.proofs.Distance.{apart, near-once, zeros-right, generator-column-length, generator-column-right, generator-apart}
-use Rattle.ldc.proofs.CodeWords.{length-word-in}
-use Rattle.ldc.specs.Places.{wordIn}
-use Rattle.cluster.specs.Multiplex.{ldcIn}
+use Rattle.column.proofs.Distance.{apart, near-once, distance-is, distance-once}
+use Rattle.ldc.proofs.CodeWords.{length-word-in, bytes-word-in}
+use Rattle.bis.specs.Reading.{wrongColumn}
 use Rattle.cluster.specs.EccCluster.{eccCluster}
-use Rattle.cluster.proofs.Statements.{word-right-in, other-word}
+use Rattle.cluster.specs.Multiplex.{ldcIndex, ldcIn, bisIn}
+use Rattle.cluster.specs.Reading.{wrongWord}
+use Rattle.cluster.proofs.Multiplex.{is-block-in}
+use Rattle.cluster.proofs.Statements.{ldc-right, bis-right, other-word}
 use Rattle.image.specs.Image.{Input, IsAccepted, cluster}
-use Rattle.distance.specs.Distance.{IsDistance, ColumnsApart, RetryLimits, ldcColumn, ClustersApart}
+use Rattle.distance.specs.Distance.{
+  longest,
+  distance,
+  noticeable,
+  correctable,
+  ColumnsApart,
+  Notices,
+  RetryLimits,
+  ldcColumn,
+  bisColumn,
+  ClustersApart,
+  ClustersNoticed,
+}
 
 -- TWO DIFFERENT COLUMNS OF EQUAL LENGTH, 33 TO 255 BYTES, WHOSE PARITY IS RIGHT, DIFFER IN AT LEAST 33 BYTES
-
--- with r roots; two that differ in no more are the generator, behind zeros, and zeros
-roots-apart : (r n : ℕ) → suc r ≤ n → n ≤ 255 → IsDistance r n (suc r)
-roots-apart r n long short =
-    record {
-      at-least = λ c e column other different. apart r c e (column .size ∙ sym (other .size)) (omega (arith, column .size)) (column .right) (other .right) different;
-      met = (
-        generatorColumn r n,
-        zeroColumn n,
-        record { size = generator-column-length r n long; right = generator-column-right r n long },
-        record { size = length-tabulate n (λ _. 0); right = zeros-right r n },
-        generator-apart r n long short,
-      );
-    }
-
 pub columns-apart : ColumnsApart
-columns-apart = record { each-length = roots-apart 32; any-roots = roots-apart }
+columns-apart = record { each-length = distance-is 32; any-roots = distance-is; only = distance-once }
 
--- UP TO 32 WRONG BYTES OF A COLUMN ARE NOTICED, AND AT MOST ONE RIGHT COLUMN LIES WITHIN 16 BYTES OF ANY COLUMN
+-- UP TO 32 WRONG BYTES OF A COLUMN ARE NOTICED, OR UP TO 16 CAN BE CORRECTED
 
--- a column that differs has not all its roots, or differs in more
-noticed : (c w : List ℕ) → length c ≡ length w → length w ≤ 255 → Right 32 c → Bytes w → 0 < differing c w → differing c w ≤ 32
-    → (t : Bool) → hasRoots 32 w ≡ t → hasRoots 32 w ≡ false
-noticed c w size short right bytes some few false t = t
-noticed c w size short right bytes some few true t = absurd (omega (arith, far))
+-- a column that differs and has all its roots would differ in more
+notices : (n : ℕ) → n ≤ longest → (w c : List ℕ) → length w ≡ n → Bytes w → Right 32 n c → 0 < differing w c → differing w c ≤ noticeable
+    → (t : Bool) → hasRoots 32 w ≡ t → t ≡ false
+notices n short w c size bytes right some few false t = refl
+notices n short w c size bytes right some few true t = absurd (omega (arith, far))
   where
-    unlike : c ≡ w → ⊥
-    unlike e = absurd (omega (arith, ap (differing c) (sym e) ∙ differing-self c))
+    unlike : w ≡ c → ⊥
+    unlike e = absurd (omega (arith, ap (differing w) (sym e) ∙ differing-self w))
 
-    far : 32 < differing c w
-    far = apart 32 c w size (omega arith) right (record { bytes = bytes; roots = has-roots 32 w .0 t }) unlike
+    far : 32 < differing w c
+    far = apart 32 n short w c (record { size = size; bytes = bytes; roots = has-roots 32 w .0 t }) right unlike
 
 pub retry-limits : RetryLimits
 retry-limits =
     record {
-      noticed = λ n long short c w column size bytes some few. noticed c w (column .size ∙ sym size) (omega arith) (column .right) bytes some few (hasRoots 32 w) refl;
-      one-near = λ n long short w c e size near other. near-once 32 16 (omega arith) w c e (omega arith) near other;
+      noticed = λ w c long short bytes right some few. notices (length w) short w c refl bytes right some few (hasRoots 32 w) refl;
+      corrected = λ w c c′ long short near near′. near-once 32 correctable correctable (omega arith) w c c′ short near near′;
+      both = λ e f most w c c′ long short near near′. near-once 32 e f most w c′ c short near′ near;
     }
 
 -- TWO DIFFERENT USER CLUSTERS WITH THE SAME PSN AND SIDE DATA HAVE SOME LDC COLUMN THAT DIFFERS IN AT LEAST 33 PLACES
 
-module _ (a b : Input) (ha : IsAccepted a) (hb : IsAccepted b) where
-  each : (L : ℕ) → L < 304 → (ldcColumn a L ≡ ldcColumn b L → ⊥) → 33 ≤ differing (ldcColumn a L) (ldcColumn b L)
-  each L h different =
-      apart 32 (ldcColumn a L) (ldcColumn b L) (size a ∙ sym (size b)) (omega (arith, size a))
-      (word-right-in (a .user) (a .psn) (a .side) (ha .user) (ha .psn) (ha .side) L h)
-      (word-right-in (b .user) (b .psn) (b .side) (hb .user) (hb .psn) (hb .side) L h)
-      different
-    where
-      size : (input : Input) → length (ldcColumn input L) ≡ 248
-      size input = length-word-in (ldcIn (cluster input)) L
+module _ (a : Input) (ha : IsAccepted a) where
+  right-ldc : (L : ℕ) → L < 304 → Right 32 248 (ldcColumn (cluster a) L)
+  right-ldc = ldc-right (a .user) (a .psn) (a .side) (ha .user) (ha .psn) (ha .side)
 
-  some : a .psn ≡ b .psn → (a .user ≡ b .user → ⊥) → (L : ℕ) × (L < 304) × (33 ≤ differing (ldcColumn a L) (ldcColumn b L))
+  right-bis : (C : ℕ) → C < 24 → Right 32 62 (bisColumn (cluster a) C)
+  right-bis = bis-right (a .user) (a .psn) (a .side) (ha .user) (ha .psn) (ha .side)
+
+module _ (a b : Input) (ha : IsAccepted a) (hb : IsAccepted b) where
+  each : (L : ℕ) → L < 304 → (ldcColumn (cluster a) L ≡ ldcColumn (cluster b) L → ⊥) → distance ≤ differing (ldcColumn (cluster a) L) (ldcColumn (cluster b) L)
+  each L h = apart 32 248 (omega arith) (ldcColumn (cluster a) L) (ldcColumn (cluster b) L) (right-ldc a ha L h) (right-ldc b hb L h)
+
+  some : a .psn ≡ b .psn → (a .user ≡ b .user → ⊥) → (L : ℕ) × (L < 304) × (distance ≤ differing (ldcColumn (cluster a) L) (ldcColumn (cluster b) L))
   some same users = (found .0, found .1, each (found .0) (found .1) (λ e. found .2 (e ∙ sym (moved (found .0)))))
     where
-      column : ℕ → ℕ → List ℕ
-      column psn L = wordIn (ldcIn (eccCluster (b .user) psn (b .side))) L
+      -- b under the PSN of a
+      other : ℕ → List ℕ
+      other = ldcColumn (eccCluster (b .user) (a .psn) (b .side))
 
-      moved : (L : ℕ) → column (a .psn) L ≡ ldcColumn b L
-      moved L = ap (λ (p : ℕ). column p L) same
+      moved : (L : ℕ) → other L ≡ ldcColumn (cluster b) L
+      moved L = ap (λ (p : ℕ). ldcColumn (eccCluster (b .user) p (b .side)) L) same
 
-      found : (L : ℕ) × (L < 304) × (ldcColumn a L ≡ column (a .psn) L → ⊥)
+      found : (L : ℕ) × (L < 304) × (ldcColumn (cluster a) L ≡ other L → ⊥)
       found = other-word (a .user) (b .user) (a .side) (b .side) (a .psn) (ha .user) (hb .user) (ha .psn) (ha .side) (hb .side) users
 
 pub clusters-apart : ClustersApart
 clusters-apart = record { each = each; some = some }
+
+-- 1 TO 32 WRONG BYTES IN A COLUMN OF A CLUSTER MAKE TEST 15, OR 12, FAIL THERE
+
+pub clusters-noticed : ClustersNoticed
+clusters-noticed = record { ldc = ldc; bis = bis }
+  where
+    ldc : (a : Input) → IsAccepted a → (work : List ℕ) → Bytes work → (L : ℕ) → L < 304 → 0 < differing (ldcColumn work L) (ldcColumn (cluster a) L)
+        → differing (ldcColumn work L) (ldcColumn (cluster a) L) ≤ noticeable → wrongWord work L ≡ true
+    ldc a ha work bytes L h some few =
+        unfold wrongWord in
+        ap not (notices 248 (omega arith) (ldcColumn work L) (ldcColumn (cluster a) L) (length-word-in (ldcIn work) L)
+        (bytes-word-in (ldcIn work) (λ row column hr hc. bytes (ldcIndex row column)) L) (right-ldc a ha L h) some few (hasRoots 32 (ldcColumn work L)) refl)
+
+    bis : (a : Input) → IsAccepted a → (work : List ℕ) → Bytes work → (C : ℕ) → C < 24 → 0 < differing (bisColumn work C) (bisColumn (cluster a) C)
+        → differing (bisColumn work C) (bisColumn (cluster a) C) ≤ noticeable → wrongColumn (bisIn work) C ≡ true
+    bis a ha work bytes C h some few =
+        unfold wrongColumn in
+        ap not (notices 62 (omega arith) (bisColumn work C) (bisColumn (cluster a) C) (is-block-in work bytes .size C h)
+        (is-block-in work bytes .bytes C h) (right-bis a ha C h) some few (hasRoots 32 (bisColumn work C)) refl)

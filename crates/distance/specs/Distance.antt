@@ -1,17 +1,18 @@
--- Document 02, W-208: how far apart two columns lie. A column has 32 parity bytes, and so 32 roots (13.7, 13.12).
+-- Document 02, W-208: how far apart two columns lie. The columns of 13.7 and 13.12 have 32 parity bytes, and so 32 roots.
 use mathlib.Core.Path.{_≡_}
-use mathlib.Core.Bool.{false}
-use mathlib.Core.List.{List}
-use Prim.Native.Nat.{ℕ, suc, _<_, _≤_}
-use lib.ListN.{length}
+use mathlib.Core.Bool.{true, false}
+use mathlib.Core.List.{List, []}
+use Prim.Native.Nat.{ℕ, suc, _+_, _<_, _≤_}
+use lib.ListN.{length, getD}
 use Rattle.laws.specs.Bytes.{Bytes}
 use Rattle.laws.specs.Differing.{differing}
 use Rattle.column.specs.Column.{hasRoots}
-use Rattle.column.specs.Distance.{Right, Near}
+use Rattle.column.specs.Distance.{Right, Near, IsDistance}
 use Rattle.ldc.specs.Places.{wordIn}
-use Rattle.cluster.specs.Multiplex.{ldcIn}
-use Rattle.cluster.specs.EccCluster.{eccCluster}
-use Rattle.image.specs.Image.{Input, IsAccepted}
+use Rattle.bis.specs.Reading.{wrongColumn}
+use Rattle.cluster.specs.Multiplex.{ldcIn, bisIn}
+use Rattle.cluster.specs.Reading.{wrongWord}
+use Rattle.image.specs.Image.{Input, IsAccepted, cluster}
 
 -- how many bytes a column has
 abbrev pub shortest : ℕ
@@ -33,41 +34,56 @@ correctable = 16
 
 -- ---- columns
 
--- a column of n bytes whose r parity bytes are right
-pub record IsColumn (r n : ℕ) (c : List ℕ) : Type 0 where
-  pub size : length c ≡ n
-  pub right : Right r c
-
--- d is the distance of these columns: two different ones differ in at least d places, and some two in no more
-pub record IsDistance (r n d : ℕ) : Type 0 where
-  pub at-least : (c e : List ℕ) → IsColumn r n c → IsColumn r n e → (c ≡ e → ⊥) → d ≤ differing c e
-  pub met : (c : List ℕ) × (e : List ℕ) × IsColumn r n c × IsColumn r n e × (differing c e ≡ d)
-
--- 33 for each length from 33 to 255; with r roots r + 1
 pub record ColumnsApart : Type 0 where
   pub each-length : (n : ℕ) → shortest ≤ n → n ≤ longest → IsDistance 32 n distance
+  -- with r roots it is r + 1
   pub any-roots : (r n : ℕ) → suc r ≤ n → n ≤ longest → IsDistance r n (suc r)
+  -- and no other number is it
+  pub only : (r n d d′ : ℕ) → IsDistance r n d → IsDistance r n d′ → d ≡ d′
 
--- ---- what it means for a column of n bytes that was read, w
+-- ---- what it means for a column that is read, w
+
+-- where 1 to m bytes of a right column c are wrong in w, they are noticed: w has not all its roots
+abbrev pub Notices : ℕ → Type 0
+Notices m = (w c : List ℕ) → shortest ≤ length w → length w ≤ longest → Bytes w → Right 32 (length w) c → 0 < differing w c → differing w c ≤ m
+    → hasRoots 32 w ≡ false
+
+-- at most one right column lies within m bytes of w
+abbrev pub OneWithin : ℕ → Type 0
+OneWithin m = (w c c′ : List ℕ) → shortest ≤ length w → length w ≤ longest → Near 32 m w c → Near 32 m w c′ → c ≡ c′
+
+-- who corrects up to e bytes is led to c alone where up to m - e bytes of it are wrong
+abbrev pub Trades : ℕ → Type 0
+Trades m = (e f : ℕ) → e + f ≤ m → (w c c′ : List ℕ) → shortest ≤ length w → length w ≤ longest → Near 32 f w c → Near 32 e w c′ → c′ ≡ c
 
 pub record RetryLimits : Type 0 where
-  -- where 1 to 32 bytes of a right column c are wrong in it, it has not all its roots, which is what answers 12 and 15 say
-  pub noticed : (n : ℕ) → shortest ≤ n → n ≤ longest → (c w : List ℕ) → IsColumn 32 n c → length w ≡ n → Bytes w → 0 < differing c w
-      → differing c w ≤ noticeable → hasRoots 32 w ≡ false
-  -- at most one right column differs from it in 16 bytes or fewer
-  pub one-near : (n : ℕ) → shortest ≤ n → n ≤ longest → (w c e : List ℕ) → length w ≡ n → Near 32 correctable w c → Near 32 correctable w e → c ≡ e
+  pub noticed : Notices noticeable
+  pub corrected : OneWithin correctable
+  pub both : Trades noticeable
 
 -- ---- clusters
 
--- LDC column L of an input, as it is read in its ECC cluster
-abbrev pub ldcColumn : Input → ℕ → List ℕ
-ldcColumn input L = wordIn (ldcIn (eccCluster (input .user) (input .psn) (input .side))) L
+-- LDC column L and BIS column C in an ECC cluster
+abbrev pub ldcColumn : List ℕ → ℕ → List ℕ
+ldcColumn work L = wordIn (ldcIn work) L
 
--- of two accepted inputs, whatever their dc words and # of frame 0
+abbrev pub bisColumn : List ℕ → ℕ → List ℕ
+bisColumn work C = getD (bisIn work) C []
+
+-- of the ECC clusters (`eccCluster`) of two accepted inputs, whatever their dc words, which no ECC cluster has
 pub record ClustersApart : Type 0 where
   -- an LDC column that is not the same in both differs in at least 33 places
-  pub each : (a b : Input) → IsAccepted a → IsAccepted b → (L : ℕ) → L < 304 → (ldcColumn a L ≡ ldcColumn b L → ⊥)
-      → distance ≤ differing (ldcColumn a L) (ldcColumn b L)
-  -- with the same PSN and other user bytes, and so with the same side data too, there is such a column
+  pub each : (a b : Input) → IsAccepted a → IsAccepted b → (L : ℕ) → L < 304 → (ldcColumn (cluster a) L ≡ ldcColumn (cluster b) L → ⊥)
+      → distance ≤ differing (ldcColumn (cluster a) L) (ldcColumn (cluster b) L)
+  -- under one PSN, where the user bytes differ, there is such a column, whatever the side data
   pub some : (a b : Input) → IsAccepted a → IsAccepted b → a .psn ≡ b .psn → (a .user ≡ b .user → ⊥)
-      → (L : ℕ) × (L < 304) × (distance ≤ differing (ldcColumn a L) (ldcColumn b L))
+      → (L : ℕ) × (L < 304) × (distance ≤ differing (ldcColumn (cluster a) L) (ldcColumn (cluster b) L))
+
+-- of a cluster that is read, work, where 1 to 32 bytes of a column of an accepted input are wrong in it: test 15, or 12, fails there
+pub record ClustersNoticed : Type 0 where
+  pub ldc : (a : Input) → IsAccepted a → (work : List ℕ) → Bytes work → (L : ℕ) → L < 304
+      → 0 < differing (ldcColumn work L) (ldcColumn (cluster a) L) → differing (ldcColumn work L) (ldcColumn (cluster a) L) ≤ noticeable
+      → wrongWord work L ≡ true
+  pub bis : (a : Input) → IsAccepted a → (work : List ℕ) → Bytes work → (C : ℕ) → C < 24
+      → 0 < differing (bisColumn work C) (bisColumn (cluster a) C) → differing (bisColumn work C) (bisColumn (cluster a) C) ≤ noticeable
+      → wrongColumn (bisIn work) C ≡ true

@@ -24,7 +24,7 @@ fn work_of(user: [u8; 65536], dc: [u32; 496]) -> [u8; 76880] {
     work
 }
 
-// Byte n of LDC column L: 13.8 and 13.14, written here once more.
+// Byte n of LDC column L: 13.8 and 13.14, written here once more, so that the code under test does not choose the bytes.
 fn byte_in(work: &[u8], word: usize, n: usize) -> u8 {
     let row = 2 * (n % 248) + word % 2;
     let column = (word % 304 / 2 + 152 - 3 * (n % 248) % 152) % 152;
@@ -40,12 +40,12 @@ fn column_in(work: &[u8], word: usize) -> [u8; 248] {
 }
 
 // In how many places LDC column L of two clusters differs.
-fn places(a: &[u8], b: &[u8], word: usize) -> u64 {
+fn column_places(a: &[u8], b: &[u8], word: usize) -> u64 {
     compare::differing(&column_in(a, word), &column_in(b, word))
 }
 
 fn column_line(a: &[u8], b: &[u8], word: usize) {
-    let n = places(a, b, word);
+    let n = column_places(a, b, word);
     if 0 < n {
         lines::number(b"LDC column ", word as u64);
         lines::number_line(b" differs in ", n);
@@ -58,7 +58,7 @@ fn column_lines(a: &[u8], b: &[u8]) {
     }
 }
 
-// One user byte changed, and all dc words.
+// One user byte changed, and all dc words, which no LDC column has.
 pub fn one_byte() {
     let user = drawn(1);
     let mut other = user;
@@ -72,7 +72,7 @@ pub fn one_byte() {
 
 // 1 where LDC column L differs in at least 33 places.
 fn far(a: &[u8], b: &[u8], word: usize) -> u64 {
-    if places(a, b, word) < 33 {
+    if column_places(a, b, word) < 33 {
         return 0;
     }
     1
@@ -89,7 +89,7 @@ fn far_columns(a: &[u8], b: &[u8]) -> u64 {
 fn all_places(a: &[u8], b: &[u8]) -> u64 {
     let mut n = 0u64;
     for word in 0..304usize {
-        n = std::num::wrapping_add_u64(n, places(a, b, word));
+        n = std::num::wrapping_add_u64(n, column_places(a, b, word));
     }
     n
 }
@@ -102,10 +102,13 @@ fn sum_lines(a: &[u8], b: &[u8]) {
     lines::number_line(b"places in all: ", all_places(a, b));
 }
 
-pub fn all_bytes() {
-    io::write_all(1, b"other user bytes:\n");
-    sum_lines(
-        &work_of(drawn(1), [0u32; 496]),
-        &work_of(drawn(2), [0u32; 496]),
+// Other bytes drawn, of which some are the same.
+pub fn other_bytes() {
+    let user = drawn(1);
+    let other = drawn(2);
+    lines::number_line(
+        b"user bytes that differ: ",
+        compare::differing(&user, &other),
     );
+    sum_lines(&work_of(user, [0u32; 496]), &work_of(other, [0u32; 496]));
 }

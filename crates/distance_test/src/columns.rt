@@ -1,11 +1,37 @@
-// Columns and others that have their roots.
+// Right columns beside others, and with wrong bytes. The table of remainders is lent to all.
+use remainders::Remainders;
 use test_support::compare;
 use test_support::lines;
+ghost use Rattle.remainders.specs.steps.Remainders.{AreRemainders};
 
-fn parity_of(data: &[u8]) -> [u8; 32] {
+// The reader's test of 32 roots.
+fn is_right(table: &Remainders, column: &[u8]) -> bool
+    requires { ⌜ AreRemainders (now table) ⌝ }
+{
+    if column.len() < 32 {
+        return false;
+    }
+    code_word::steps::is_code_word(table, column)
+}
+
+fn parity_of(table: &Remainders, message: &[u8]) -> [u8; 32]
+    requires { ⌜ AreRemainders (now table) ⌝ }
+{
     let mut parity = [0u8; 32];
-    column_parity::write_parity(data, &mut parity);
+    code_word::steps::parity_32_by(table, message, &mut parity);
     parity
+}
+
+// Zeros, then the generator's 33 coefficients: a one and its parity.
+fn generator_behind(table: &Remainders, zeros: usize) -> [u8; 255]
+    requires { ⌜ AreRemainders (now table) ⌝ }
+{
+    let end = std::num::wrapping_add_usize(zeros, 1);
+    let mut column = [0u8; 255];
+    compare::put(&mut column, zeros, 1);
+    let parity = parity_of(table, compare::part(&column, 0, end));
+    compare::copy(&parity, &mut column, end);
+    column
 }
 
 // How many bytes are not zero.
@@ -13,50 +39,54 @@ fn nonzero(bytes: &[u8]) -> u64 {
     compare::differing(bytes, compare::part(&[0u8; 256], 0, bytes.len()))
 }
 
-// In how many places the generator, as a column behind zeros, differs from zeros.
-fn places(zeros: usize) -> u64 {
-    let mut data = [0u8; 223];
-    compare::put(&mut data, zeros, 1);
-    let parity = parity_of(compare::part(&data, 0, std::num::wrapping_add_usize(zeros, 1)));
-    std::num::wrapping_add_u64(nonzero(&data), nonzero(&parity))
-}
-
-// 1 where that is 33.
-fn thirty_three(zeros: usize) -> u64 {
-    if places(zeros) == 33 {
-        return 1;
+// 1 for a right column with 33 bytes that are not zero.
+fn is_33(table: &Remainders, column: &[u8]) -> u64
+    requires { ⌜ AreRemainders (now table) ⌝ }
+{
+    if is_right(table, column) {
+        if nonzero(column) == 33 {
+            return 1;
+        }
     }
     0
 }
 
-// Of how many of the lengths from 33 to 255 it is.
-fn lengths_of_33() -> u64 {
+// The same of the generator behind zeros.
+fn generator_is_33(table: &Remainders, zeros: usize) -> u64
+    requires { ⌜ AreRemainders (now table) ⌝ }
+{
+    let column = generator_behind(table, zeros);
+    is_33(
+        table,
+        compare::part(&column, 0, std::num::wrapping_add_usize(zeros, 33)),
+    )
+}
+
+fn lengths_of_33(table: &Remainders) -> u64
+    requires { ⌜ AreRemainders (now table) ⌝ }
+{
     let mut n = 0u64;
     for zeros in 0..223usize {
-        n = std::num::wrapping_add_u64(n, thirty_three(zeros));
+        n = std::num::wrapping_add_u64(n, generator_is_33(table, zeros));
     }
     n
 }
 
-pub fn lengths() {
+pub fn lengths(table: &Remainders)
+    requires { ⌜ AreRemainders (now table) ⌝ }
+{
     lines::number_line(
-        b"lengths from 33 to 255 at which the generator and zeros differ in 33 places: ",
-        lengths_of_33(),
+        b"lengths from 33 to 255 at which the generator is right and 33 places from zeros: ",
+        lengths_of_33(table),
     );
 }
 
-// The 33 bytes of the generator: a one, and its parity.
-fn generator() -> [u8; 33] {
-    let mut bytes = [0u8; 33];
-    compare::put(&mut bytes, 0, 1);
-    compare::copy(&parity_of(b"\x01"), &mut bytes, 1);
-    bytes
-}
-
 // The first bytes of the generator added to a column, from its byte 100 on.
-fn with_wrong(column: [u8; 248], count: usize) -> [u8; 248] {
+fn with_wrong(table: &Remainders, column: [u8; 248], count: usize) -> [u8; 248]
+    requires { ⌜ AreRemainders (now table) ⌝ }
+{
     let mut bytes = column;
-    let others = generator();
+    let others = generator_behind(table, 0);
     for k in 0..count {
         compare::flip(
             &mut bytes,
@@ -67,45 +97,64 @@ fn with_wrong(column: [u8; 248], count: usize) -> [u8; 248] {
     bytes
 }
 
-// 1 where a column has not its roots.
-fn noticed(column: [u8; 248]) -> u64 {
-    if roots::has_roots(&column, 32) {
+// 1 where the test fails on a column with so many wrong bytes.
+fn noticed(table: &Remainders, column: [u8; 248], count: usize) -> u64
+    requires { ⌜ AreRemainders (now table) ⌝ }
+{
+    let bytes = with_wrong(table, column, count);
+    if is_right(table, &bytes) {
         return 0;
     }
     1
 }
 
 // The same of 1 to 32 wrong bytes, added up.
-fn noticed_of_32(column: [u8; 248]) -> u64 {
+fn noticed_of_32(table: &Remainders, column: [u8; 248]) -> u64
+    requires { ⌜ AreRemainders (now table) ⌝ }
+{
     let mut n = 0u64;
     for k in 0..32usize {
-        n = std::num::wrapping_add_u64(n, noticed(with_wrong(column, k + 1)));
+        n = std::num::wrapping_add_u64(n, noticed(table, column, k + 1));
     }
     n
 }
 
-// From a column with 16 of the generator's bytes added to the one without, and to that with all.
-fn between(column: [u8; 248]) {
-    let w = with_wrong(column, 16);
-    let other = with_wrong(column, 33);
+// With 16 wrong bytes: how far from the column, and from the one with all 33.
+fn between_line(table: &Remainders, column: [u8; 248])
+    requires { ⌜ AreRemainders (now table) ⌝ }
+{
+    let bytes = with_wrong(table, column, 16);
+    let other = with_wrong(table, column, 33);
     lines::number(
-        b"16 wrong bytes: places to it ",
-        compare::differing(&w, &column),
+        b"with 16 wrong bytes: places from it ",
+        compare::differing(&bytes, &column),
     );
     lines::number_line(
-        b", to the next right column ",
-        compare::differing(&w, &other),
+        b", from the other right column ",
+        compare::differing(&bytes, &other),
     );
 }
 
-pub fn wrong_bytes() {
+fn noticed_lines(table: &Remainders, column: [u8; 248])
+    requires { ⌜ AreRemainders (now table) ⌝ }
+{
+    lines::number_line(b"as it is: times noticed ", noticed(table, column, 0));
+    lines::number_line(
+        b"with 1, 2, .. 32 wrong bytes: times noticed ",
+        noticed_of_32(table, column),
+    );
+    lines::number_line(
+        b"with 33 wrong bytes: times noticed ",
+        noticed(table, column, 33),
+    );
+}
+
+pub fn wrong_bytes(table: &Remainders)
+    requires { ⌜ AreRemainders (now table) ⌝ }
+{
     let mut column = [0u8; 248];
     io::read_full(0, &mut column);
-    lines::number_line(b"LDC column 0, noticed: ", noticed(column));
-    lines::number_line(b"1 to 32 wrong bytes, noticed: ", noticed_of_32(column));
-    lines::number_line(
-        b"33 wrong bytes, noticed: ",
-        noticed(with_wrong(column, 33)),
-    );
-    between(column);
+    lines::number_line(b"LDC column 0, bytes that are not zero: ", nonzero(&column));
+    noticed_lines(table, column);
+    between_line(table, column);
 }

@@ -1,11 +1,14 @@
-// Document 02, W-208. Standard input has LDC column 0 of an outside vector, 248 bytes out of its ECC cluster. Prints in how many places columns
-// differ: of each length the generator and zeros; the column that was read, with wrong bytes; the LDC columns of clusters with other user bytes.
+// Document 02, W-208. Standard input has LDC column 0 of an outside vector, 248 bytes out of its ECC cluster. Prints of each length how far the
+// generator lies from zeros; whether wrong bytes of the column that was read are noticed; and in how many places the LDC columns of clusters with
+// other user bytes differ.
 mod clusters;
 mod columns;
 
 fn main() {
-    columns::lengths();
-    columns::wrong_bytes();
+    let mut table = remainders::steps::no_remainders();
+    remainders::steps::fill_remainders(&mut table);
+    columns::lengths(&table);
+    columns::wrong_bytes(&table);
     clusters::one_byte();
-    clusters::all_bytes();
+    clusters::other_bytes();
 }

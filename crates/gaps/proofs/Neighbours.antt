@@ -121,7 +121,7 @@ one-inside l i e = elim (decLt i (length l)) [ yes h ↦ h | no h ↦ absurd (om
 -- a gap length is counted if and only if it is that of two neighbouring ones
 pub counted-iff : (l : List ℕ) → Bits l → (n : ℕ) → (0 < count n (gaps l)) ↔ Stands l n
 counted-iff l b n = (
-  λ h. let some = some-passes (length l) (gapAt l n) (subst (λ (c : ℕ). 0 < c) (counted-often l b n) h) in record { place = some .0; neighbours = gap-at-iff l n (some .0) b .0 (some .1) },
+  λ h. let some = some-passes (length l) (gapAt l n) (subst (λ (c : ℕ). 0 < c) (counted-often l b n) h) in record { place = some .0; neighbours = gap-at-iff l n (some .0) b .0 (some .2) },
   λ s. subst (λ (c : ℕ). 0 < c) (sym (counted-often l b n))
       (passes-some (length l) (gapAt l n) (s .place) (one-inside l (s .place) (s .neighbours .one-i)) (gap-at-iff l n (s .place) b .1 (s .neighbours))),
 )

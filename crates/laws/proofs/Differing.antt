@@ -1,31 +1,34 @@
--- The number of places in which two lists of one length differ: counted by indexes, 0 exactly for equal lists, the same both ways round, and by way
--- of a third list not less. Assumes nothing.
+-- In how many places two lists of one length differ: counted by indexes; that it is a distance; and that it stays when both are combined with one
+-- list. Assumes nothing.
 use mathlib.Core.Path.{_≡_, refl, sym, ap, ap₂, _∙_}
 use mathlib.Core.Bool.{Bool, true, false, cond, not}
 use mathlib.Core.List.{List, [], _∷_, _++_}
 use Prim.Native.Nat.{ℕ, suc, _+_, _≤_}
 use native.Mathlib.Nat.{suc-inj}
 use native.Mathlib.Omega.{arith}
+use lib.Bits.{bitXor}
 use lib.Dec.{eqb}
 use borrow.Author.Tests.{eqb-true, eqb-false, eq-eqb, ne-eqb}
 use lib.ListN.{length, getD}
-use Rattle.laws.specs.Differing.{other, differing}
+use Rattle.laws.specs.Combined.{combined}
+use Rattle.laws.specs.Differing.{differsAt, differing}
 use Rattle.laws.specs.HowMany.{howMany}
+use Rattle.laws.proofs.Xor.{xor-twice}
 
 -- ---- one place
 
-pub differs : (a b : List ℕ) (k : ℕ) → (getD a k 0 ≡ getD b k 0 → ⊥) → other a b k ≡ true
-unfolding other
+pub differs : (a b : List ℕ) (k : ℕ) → (getD a k 0 ≡ getD b k 0 → ⊥) → differsAt a b k ≡ true
+unfolding differsAt
 differs a b k h = rw (ne-eqb (getD a k 0) (getD b k 0) h)
 
-pub agrees : (a b : List ℕ) (k : ℕ) → getD a k 0 ≡ getD b k 0 → other a b k ≡ false
-unfolding other
+pub agrees : (a b : List ℕ) (k : ℕ) → getD a k 0 ≡ getD b k 0 → differsAt a b k ≡ false
+unfolding differsAt
 agrees a b k h = rw (eq-eqb (getD a k 0) (getD b k 0) h)
 
 -- ---- the number of indexes below the length at which they differ
 
-pub differing-places : (l m : List ℕ) → length l ≡ length m → differing l m ≡ howMany (length l) (other l m)
-unfolding differing howMany other
+pub differing-places : (l m : List ℕ) → length l ≡ length m → differing l m ≡ howMany (length l) (differsAt l m)
+unfolding differing howMany differsAt
 differing-places [] m e = refl
 differing-places (x ∷ l) [] e = absurd (omega arith)
 differing-places (x ∷ l) (y ∷ m) e = by (eqb x y) (differing-places l m (suc-inj e))
@@ -73,6 +76,7 @@ differing-comm (x ∷ l) (y ∷ m) = by (eqb x y) refl (differing-comm l m)
     by true t h = rw (eq-eqb y x (sym (eqb-true x y t))) h
     by false t h = rw (ne-eqb y x (λ e. eqb-false x y t (sym e))) (ap suc h)
 
+-- the triangle inequality
 pub differing-between : (w l m : List ℕ) → length l ≡ length w → length m ≡ length w → differing l m ≤ differing w l + differing w m
 unfolding differing
 differing-between [] [] m e f = omega arith
@@ -92,7 +96,7 @@ differing-between (x ∷ w) (y ∷ l) (z ∷ m) e f =
     by false false true yz xy xz n a b h = omega arith
     by false false false yz xy xz n a b h = omega arith
 
--- ---- lists put together
+-- ---- lists put together, and combined with one list
 
 pub differing-append : (a b c d : List ℕ) → length a ≡ length b → differing (a ++ c) (b ++ d) ≡ differing a b + differing c d
 unfolding differing
@@ -104,3 +108,15 @@ differing-append (x ∷ a) (y ∷ b) c d e = by (eqb x y) (differing (a ++ c) (b
     by : (t : Bool) (n k j : ℕ) → n ≡ k + j → cond t n (suc n) ≡ cond t k (suc k) + j
     by true n k j h = h
     by false n k j h = omega arith
+
+pub differing-combined : (k l m : List ℕ) → length k ≡ length l → length k ≡ length m → differing (combined k l) (combined k m) ≡ differing l m
+unfolding differing combined
+differing-combined [] [] m e f = refl
+differing-combined [] (y ∷ l) m e f = absurd (omega arith)
+differing-combined (x ∷ k) [] m e f = absurd (omega arith)
+differing-combined (x ∷ k) (y ∷ l) [] e f = absurd (omega arith)
+differing-combined (x ∷ k) (y ∷ l) (z ∷ m) e f = ap₂ (λ (t : Bool) (n : ℕ). cond t n (suc n)) (test (eqb y z) refl) (differing-combined k l m (suc-inj e) (suc-inj f))
+  where
+    test : (t : Bool) → eqb y z ≡ t → eqb (bitXor x y) (bitXor x z) ≡ t
+    test true t = eq-eqb (bitXor x y) (bitXor x z) (ap (bitXor x) (eqb-true y z t))
+    test false t = ne-eqb (bitXor x y) (bitXor x z) (λ same. eqb-false y z t (sym (xor-twice x y) ∙ ap (bitXor x) same ∙ xor-twice x z))

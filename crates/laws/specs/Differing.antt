@@ -6,10 +6,10 @@ use lib.Dec.{eqb}
 use lib.ListN.{getD}
 
 -- index k holds another number
-unfoldable pub other : List ℕ → List ℕ → ℕ → Bool
-other a b k = not (eqb (getD a k 0) (getD b k 0))
+unfoldable pub differsAt : List ℕ → List ℕ → ℕ → Bool
+differsAt a b k = not (eqb (getD a k 0) (getD b k 0))
 
--- in how many places two lists differ. It is meant for lists of one length: of a longer one the end is not compared.
+-- in how many places two lists differ, their Hamming distance. It is meant for lists of one length: of a longer one the end is not compared.
 unfoldable pub differing : List ℕ → List ℕ → ℕ
 differing [] m = 0
 differing (x ∷ l) [] = 0

@@ -11,8 +11,6 @@ use Rattle.laws.specs.Bytes.{Bytes}
 use Rattle.laws.proofs.Bytes.{bytes-tabulate, bytes-append}
 use Rattle.laws.proofs.Tabulate.{length-tabulate, getD-tabulate, is-tabulate, tabulate-ext}
 use Rattle.column.specs.Column.{generator, MultipleOf, ParityExactly, parity, hasRoots}
-use Rattle.column.specs.Distance.{Right}
-use Rattle.column.proofs.Roots.{has-roots}
 use Rattle.column.proofs.Parity.{parity-length, parity-bytes, parity-test, test-column}
 use Rattle.column.proofs.Multiple.{parity-multiple, column-exactly}
 use Rattle.ldc.specs.LdcBlock.{dataByte, information, codeWord}
@@ -58,9 +56,6 @@ module _ (frames : ℕ → List ℕ) (L : ℕ) (bytes : (F : ℕ) → Bytes (fra
   pub word-roots : hasRoots 32 (codeWord frames L) ≡ true
   unfolding codeWord
   word-roots = parity-test 32 (information frames L) bytes-information
-
-  pub word-right : Right 32 (codeWord frames L)
-  word-right = record { bytes = bytes-word; roots = has-roots 32 (codeWord frames L) .0 word-roots }
 
   -- 13.7: a code word is a multiple of the generator
   pub word-multiple : MultipleOf (generator 32) (codeWord frames L)

@@ -10,7 +10,7 @@ use lib.Dec.{eqb, ltb}
 use lib.ListN.{length, getD}
 use lib.Seq.{ext-getD}
 use Rattle.laws.specs.Bytes.{Bytes}
-use Rattle.laws.specs.Differing.{other}
+use Rattle.laws.specs.Differing.{differsAt}
 use Rattle.laws.proofs.Differing.{agrees}
 use Rattle.laws.proofs.First.{first-none, first-all}
 use Rattle.answer.specs.declared.Answer.{Answer}
@@ -35,12 +35,12 @@ use Rattle.comparison.proofs.Compared.{all-same}
 
 -- no difference is found in two lists of n elements exactly where they are the same
 no-other : (n : ℕ) (a b : List ℕ) → length a ≡ n → length b ≡ n → n ≤ firstOther n a b → a ≡ b
-unfolding firstOther other
-no-other n a b ha hb h = ext-getD 0 a b (ha ∙ sym hb) (λ k lt. eqb-true (getD a k 0) (getD b k 0) (not-false _ (first-all n (other a b) h k (omega arith))))
+unfolding firstOther differsAt
+no-other n a b ha hb h = ext-getD 0 a b (ha ∙ sym hb) (λ k lt. eqb-true (getD a k 0) (getD b k 0) (not-false _ (first-all n (differsAt a b) h k (omega arith))))
 
 same-none : (n : ℕ) (a : List ℕ) → n ≤ firstOther n a a
 unfolding firstOther
-same-none n a = let none = first-none n (other a a) (record { fails = λ k h. agrees a a k refl }) in omega arith
+same-none n a = let none = first-none n (differsAt a a) (record { fails = λ k h. agrees a a k refl }) in omega arith
 
 -- ---- the verdict that is `Pass`
 

@@ -4,7 +4,7 @@ use Prim.Native.Nat.{_-_, _≤_}
 use native.Mathlib.Omega.{arith}
 use lib.ListN.{length}
 use borrow.Author.Needs.{needs}
-use Rattle.laws.specs.Differing.{other}
+use Rattle.laws.specs.Differing.{differsAt}
 use Rattle.laws.proofs.Differing.{differs, agrees}
 use Rattle.laws.proofs.First.{Passed, passed-none, passed-more, first-here, first-past}
 use Rattle.comparison.specs.Compared.{firstOther}
@@ -12,7 +12,7 @@ use Rattle.comparison.proofs.steps.first_other.Statement.{statement}
 use Rattle.comparison.proofs.steps.first_other.Tie as tie
 
 abbrev Inv-loop : tie.InvT-loop
-Inv-loop n a b k₀ k = (k ≤ n) × (n ≤ length a) × (n ≤ length b) × Passed (other a b) k
+Inv-loop n a b k₀ k = (k ≤ n) × (n ≤ length a) × (n ≤ length b) × Passed (differsAt a b) k
 
 abbrev μ-loop : tie.MeasureT-loop
 μ-loop n a b k₀ k = n - k

@@ -13,8 +13,8 @@ abbrev μ-loop : tie.MeasureT-loop
 loop-holds : tie.Need-loop-holds Inv-loop μ-loop
 loop-holds c = search needs
 
-places-requires : tie.Need-places-requires Inv-loop μ-loop
-places-requires c κs = search needs
+column-places-requires : tie.Need-column-places-requires Inv-loop μ-loop
+column-places-requires c κs = search needs
 
 wrapping-add-u64-requires : tie.Need-wrapping-add-u64-requires Inv-loop μ-loop
 wrapping-add-u64-requires c κs = search needs
@@ -38,7 +38,7 @@ all-places-spec =
     Inv-loop
     μ-loop
     loop-holds
-    places-requires
+    column-places-requires
     wrapping-add-u64-requires
     add-word
     loop-less

@@ -5,16 +5,16 @@ use Rattle.distance_test.proofs.columns.lengths_of_33.Statement.{statem
 use Rattle.distance_test.proofs.columns.lengths_of_33.Tie as tie
 
 abbrev Inv-loop : tie.InvT-loop
-Inv-loop n₀ zeros₀ n zeros = zeros ≤ 223
+Inv-loop table n₀ zeros₀ n zeros = zeros ≤ 223
 
 abbrev μ-loop : tie.MeasureT-loop
-μ-loop n₀ zeros₀ n zeros = 223 - zeros
+μ-loop table n₀ zeros₀ n zeros = 223 - zeros
 
 loop-holds : tie.Need-loop-holds Inv-loop μ-loop
 loop-holds c = search needs
 
-thirty-three-requires : tie.Need-thirty-three-requires Inv-loop μ-loop
-thirty-three-requires c κs = search needs
+generator-is-33-requires : tie.Need-generator-is-33-requires Inv-loop μ-loop
+generator-is-33-requires c κs = search needs
 
 wrapping-add-u64-requires : tie.Need-wrapping-add-u64-requires Inv-loop μ-loop
 wrapping-add-u64-requires c κs = search needs
@@ -38,7 +38,7 @@ lengths-of-33-spec =
     Inv-loop
     μ-loop
     loop-holds
-    thirty-three-requires
+    generator-is-33-requires
     wrapping-add-u64-requires
     add-zeros
     loop-less

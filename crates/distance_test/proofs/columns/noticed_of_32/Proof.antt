@@ -7,19 +7,16 @@ use Rattle.distance_test.proofs.columns.noticed_of_32.Statement.{statem
 use Rattle.distance_test.proofs.columns.noticed_of_32.Tie as tie
 
 abbrev Inv-loop : tie.InvT-loop
-Inv-loop column n₀ k₀ n k = (length column ≡ 248) × (k ≤ 32)
+Inv-loop table column n₀ k₀ n k = (length column ≡ 248) × (k ≤ 32)
 
 abbrev μ-loop : tie.MeasureT-loop
-μ-loop column n₀ k₀ n k = 32 - k
+μ-loop table column n₀ k₀ n k = 32 - k
 
 loop-holds : tie.Need-loop-holds Inv-loop μ-loop
 loop-holds c = search needs
 
-add-with-wrong : tie.Need-add-with-wrong Inv-loop μ-loop
-add-with-wrong c = search needs
-
-with-wrong-requires : tie.Need-with-wrong-requires Inv-loop μ-loop
-with-wrong-requires c κs = search needs
+add-noticed : tie.Need-add-noticed Inv-loop μ-loop
+add-noticed c = search needs
 
 noticed-requires : tie.Need-noticed-requires Inv-loop μ-loop
 noticed-requires c κs = search needs
@@ -46,8 +43,7 @@ noticed-of-32-spec =
     Inv-loop
     μ-loop
     loop-holds
-    add-with-wrong
-    with-wrong-requires
+    add-noticed
     noticed-requires
     wrapping-add-u64-requires
     add-k

@@ -7,13 +7,13 @@ use Rattle.distance_test.proofs.columns.with_wrong.Statement.{statement
 use Rattle.distance_test.proofs.columns.with_wrong.Tie as tie
 
 abbrev Inv-loop : tie.InvT-loop
-Inv-loop count bytes₀ others k₀ bytes k = (length bytes ≡ 248) × (length others ≡ 33) × (k ≤ count)
+Inv-loop table count bytes₀ others k₀ bytes k = (length bytes ≡ 248) × (length others ≡ 255) × (k ≤ count)
 
 abbrev μ-loop : tie.MeasureT-loop
-μ-loop count bytes₀ others k₀ bytes k = count - k
+μ-loop table count bytes₀ others k₀ bytes k = count - k
 
-generator-requires : tie.Need-generator-requires Inv-loop μ-loop
-generator-requires c κs = search needs
+generator-behind-requires : tie.Need-generator-behind-requires Inv-loop μ-loop
+generator-behind-requires c κs = search needs
 
 loop-holds : tie.Need-loop-holds Inv-loop μ-loop
 loop-holds c = search needs
@@ -51,7 +51,7 @@ with-wrong-spec =
     (tie.spec
     Inv-loop
     μ-loop
-    generator-requires
+    generator-behind-requires
     loop-holds
     slice-aggregate-flip
     wrapping-add-usize-requires
