@@ -26,7 +26,6 @@ use Rattle.distance.specs.Distance.{
   noticeable,
   correctable,
   ColumnsApart,
-  Notices,
   RetryLimits,
   ldcColumn,
   bisColumn,
@@ -36,7 +35,12 @@ use Rattle.distance.specs.Distance.{
 
 -- TWO DIFFERENT COLUMNS OF EQUAL LENGTH, 33 TO 255 BYTES, WHOSE PARITY IS RIGHT, DIFFER IN AT LEAST 33 BYTES
 pub columns-apart : ColumnsApart
-columns-apart = record { each-length = distance-is 32; any-roots = distance-is; only = distance-once }
+columns-apart =
+    record {
+      each-length = λ n long short. distance-is 32 n (omega arith) (omega arith);
+      any-roots = λ r n long short. distance-is r n long (omega arith);
+      only = distance-once;
+    }
 
 -- UP TO 32 WRONG BYTES OF A COLUMN ARE NOTICED, OR UP TO 16 CAN BE CORRECTED
 
@@ -50,14 +54,14 @@ notices n short w c size bytes right some few true t = absurd (omega (arith, far
     unlike e = absurd (omega (arith, ap (differing w) (sym e) ∙ differing-self w))
 
     far : 32 < differing w c
-    far = apart 32 n short w c (record { size = size; bytes = bytes; roots = has-roots 32 w .0 t }) right unlike
+    far = apart 32 n (omega arith) w c (record { size = size; bytes = bytes; roots = has-roots 32 w .0 t }) right unlike
 
 pub retry-limits : RetryLimits
 retry-limits =
     record {
       noticed = λ w c long short bytes right some few. notices (length w) short w c refl bytes right some few (hasRoots 32 w) refl;
-      corrected = λ w c c′ long short near near′. near-once 32 correctable correctable (omega arith) w c c′ short near near′;
-      both = λ e f most w c c′ long short near near′. near-once 32 e f most w c′ c short near′ near;
+      corrected = λ w c c′ long short near near′. near-once 32 correctable correctable (omega arith) w c c′ (omega arith) near near′;
+      both = λ e f most w c c′ long short near near′. near-once 32 e f (omega arith) w c′ c (omega arith) near′ near;
     }
 
 -- TWO DIFFERENT USER CLUSTERS WITH THE SAME PSN AND SIDE DATA HAVE SOME LDC COLUMN THAT DIFFERS IN AT LEAST 33 PLACES
@@ -71,7 +75,8 @@ module _ (a : Input) (ha : IsAccepted a) where
 
 module _ (a b : Input) (ha : IsAccepted a) (hb : IsAccepted b) where
   each : (L : ℕ) → L < 304 → (ldcColumn (cluster a) L ≡ ldcColumn (cluster b) L → ⊥) → distance ≤ differing (ldcColumn (cluster a) L) (ldcColumn (cluster b) L)
-  each L h = apart 32 248 (omega arith) (ldcColumn (cluster a) L) (ldcColumn (cluster b) L) (right-ldc a ha L h) (right-ldc b hb L h)
+  each L h different =
+      omega (arith, apart 32 248 (omega arith) (ldcColumn (cluster a) L) (ldcColumn (cluster b) L) (right-ldc a ha L h) (right-ldc b hb L h) different)
 
   some : a .psn ≡ b .psn → (a .user ≡ b .user → ⊥) → (L : ℕ) × (L < 304) × (distance ≤ differing (ldcColumn (cluster a) L) (ldcColumn (cluster b) L))
   some same users = (found .0, found .1, each (found .0) (found .1) (λ e. found .2 (e ∙ sym (moved (found .0)))))

@@ -81,7 +81,7 @@ pub fn lengths(table: &Remainders)
     );
 }
 
-// The first bytes of the generator added to a column, from its byte 100 on.
+// The first bytes of the generator added to a column, from the last of its 216 data bytes on.
 fn with_wrong(table: &Remainders, column: [u8; 248], count: usize) -> [u8; 248]
     requires { ⌜ AreRemainders (now table) ⌝ }
 {
@@ -90,7 +90,7 @@ fn with_wrong(table: &Remainders, column: [u8; 248], count: usize) -> [u8; 248]
     for k in 0..count {
         compare::flip(
             &mut bytes,
-            std::num::wrapping_add_usize(100, k),
+            std::num::wrapping_add_usize(215, k),
             compare::byte_at(&others, k),
         );
     }
