@@ -96,6 +96,11 @@ bis-back ldc block is = sym (is-tabulate [] 24 (λ C. tabulate 62 (byte C)) bloc
 
 -- ---- 76,880 bytes are what they are made of
 
+-- a column of the block is the one that stands there
+pub bis-column : (work : List ℕ) (C : ℕ) → C < 24 → getD (bisIn work) C [] ≡ columnIn work C
+unfolding bisIn
+bis-column work C h = getD-tabulate 24 (columnIn work) C [] h
+
 pub is-block-in : (work : List ℕ) → Bytes work → Block (bisIn work)
 unfolding bisIn columnIn
 is-block-in work bytes =

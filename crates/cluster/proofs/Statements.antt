@@ -1,5 +1,5 @@
--- What is promised of ECC clusters, on their definitions: one that was made is read back, nothing else is read, and so a cluster
--- determines its user bytes, its PSN and its side data. Assumes nothing.
+-- What is promised of ECC clusters, on their definitions: one that was made is read back, with right columns, nothing else is read, and so a cluster
+-- determines its user bytes, its PSN and its side data; the user bytes hang on its code words alone. Assumes nothing.
 use mathlib.Core.Path.{_≡_, sym, ap, ap₂, subst, _∙_}
 use mathlib.Core.Logic.{_↔_}
 use mathlib.Core.Bool.{Bool, true, false, not}
@@ -39,9 +39,9 @@ use Rattle.bis.specs.Reading.{wrongColumn, firstWrongColumn}
 use Rattle.bis.proofs.Blocks.{written-block}
 use Rattle.bis.proofs.Statements as Bis
 use Rattle.cluster.specs.EccCluster.{User, sectorOf, frames, eccCluster}
-use Rattle.cluster.specs.Multiplex.{ldcIndex, multiplexed, ldcIn, bisIn}
-use Rattle.cluster.specs.Reading.{wrongWord, firstWrongWord, dataFrameIn, wrongSector, firstWrongSector, userByteIn, userIn, Reads}
-use Rattle.cluster.proofs.Multiplex.{bytes-multiplexed, length-multiplexed, ldc-back, bis-back, is-block-in, multiplexed-back, multiplexed-ext}
+use Rattle.cluster.specs.Multiplex.{ldcIndex, multiplexed, ldcIn, columnIn, bisIn}
+use Rattle.cluster.specs.Reading.{ldcColumn, wrongWord, firstWrongWord, dataFrameIn, wrongSector, firstWrongSector, userByteIn, userIn, Reads}
+use Rattle.cluster.proofs.Multiplex.{bytes-multiplexed, length-multiplexed, ldc-back, bis-back, bis-column, is-block-in, multiplexed-back, multiplexed-ext}
 
 not-wrong : (b : Bool) → not b ≡ false → b ≡ true
 not-wrong = not-false
@@ -118,12 +118,12 @@ module _ (user : List ℕ) (psn : ℕ) (side : List ℕ) (is-user : User user) (
       (written-block psn side accepted (is-side .bytes))
 
   -- code word L, as it is read, is the one that was made
-  pub word-back : (L : ℕ) → L < 304 → wordIn (ldcIn work) L ≡ codeWord (frames psn user) L
-  word-back L h = same-word (ldcIn work) (ldcByte (frames psn user)) made-ldc L ∙ words-back (frames psn user) bytes-frames L h
+  pub word-made : (L : ℕ) → L < 304 → ldcColumn work L ≡ codeWord (frames psn user) L
+  word-made L h = same-word (ldcIn work) (ldcByte (frames psn user)) made-ldc L ∙ words-back (frames psn user) bytes-frames L h
 
   made-word : (L : ℕ) → L < 304 → wrongWord work L ≡ false
   unfolding wrongWord
-  made-word L h = ap (λ (w : List ℕ). not (hasRoots 32 w)) (word-back L h) ∙ ap not (word-roots (frames psn user) L bytes-frames)
+  made-word L h = ap (λ (w : List ℕ). not (hasRoots 32 w)) (word-made L h) ∙ ap not (word-roots (frames psn user) L bytes-frames)
 
   made-frame : (F : ℕ) → F < 32 → dataFrameIn stream work F ≡ dataFrame (sectorOf user F)
   unfolding dataFrameIn
@@ -165,30 +165,31 @@ module _ (user : List ℕ) (psn : ℕ) (side : List ℕ) (is-user : User user) (
       }
 
   -- the columns that are read in it are right: LDC's, and BIS's
-  pub ldc-right : (L : ℕ) → L < 304 → Right 32 248 (wordIn (ldcIn work) L)
+  pub ldc-right : (L : ℕ) → L < 304 → Right 32 248 (ldcColumn work L)
   unfolding wrongWord
   ldc-right L h =
       record {
         size = length-word-in (ldcIn work) L;
         bytes = bytes-word-in (ldcIn work) (λ row column hr hc. bytes-cluster (ldcIndex row column)) L;
-        roots = has-roots 32 (wordIn (ldcIn work) L) .0 (not-wrong (hasRoots 32 (wordIn (ldcIn work) L)) (made-word L h));
+        roots = has-roots 32 (ldcColumn work L) .0 (not-wrong (hasRoots 32 (ldcColumn work L)) (made-word L h));
       }
 
-  pub bis-right : (C : ℕ) → C < 24 → Right 32 62 (getD (bisIn work) C [])
+  pub bis-right : (C : ℕ) → C < 24 → Right 32 62 (columnIn work C)
   unfolding firstWrongColumn wrongColumn
   bis-right C h =
-      record {
+      subst (Right 32 62) (bis-column work C h)
+      (record {
         size = is-block-in work bytes-cluster .size C h;
         bytes = is-block-in work bytes-cluster .bytes C h;
         roots = has-roots 32 column .0 (not-wrong (hasRoots 32 column) (first-all 24 (wrongColumn (bisIn work)) (omega (arith, read-back .bis .right-columns)) C h));
-      }
+      })
     where
       column : List ℕ
       column = getD (bisIn work) C []
 
 -- ---- the user bytes hang on the code words alone
 
-same-user : (stream a b : List ℕ) → ((L : ℕ) → L < 304 → wordIn (ldcIn a) L ≡ wordIn (ldcIn b) L) → userIn stream a ≡ userIn stream b
+same-user : (stream a b : List ℕ) → ((L : ℕ) → L < 304 → ldcColumn a L ≡ ldcColumn b L) → userIn stream a ≡ userIn stream b
 unfolding userIn dataFrameIn
 same-user stream a b same =
     tabulate-ext 0 65536 (userByteIn stream a) (userByteIn stream b)
@@ -196,8 +197,8 @@ same-user stream a b same =
 
 -- so, under one PSN, some code word differs where user bytes do
 pub other-word : (user user′ side side′ : List ℕ) (psn : ℕ) → User user → User user′ → judged psn ≡ Done → Side side → Side side′ → (user ≡ user′ → ⊥)
-    → (L : ℕ) × (L < 304) × (wordIn (ldcIn (eccCluster user psn side)) L ≡ wordIn (ldcIn (eccCluster user′ psn side′)) L → ⊥)
-other-word user user′ side side′ psn hu hu′ hp hs hs′ different = some-unlike 304 (wordIn (ldcIn work₁)) (wordIn (ldcIn work₂)) unlike
+    → (L : ℕ) × (L < 304) × (ldcColumn (eccCluster user psn side) L ≡ ldcColumn (eccCluster user′ psn side′) L → ⊥)
+other-word user user′ side side′ psn hu hu′ hp hs hs′ different = some-unlike 304 (ldcColumn work₁) (ldcColumn work₂) unlike
   where
     work₁ : List ℕ
     work₁ = eccCluster user psn side
@@ -205,7 +206,7 @@ other-word user user′ side side′ psn hu hu′ hp hs hs′ different = some-u
     work₂ : List ℕ
     work₂ = eccCluster user′ psn side′
 
-    unlike : ((L : ℕ) → L < 304 → wordIn (ldcIn work₁) L ≡ wordIn (ldcIn work₂) L) → ⊥
+    unlike : ((L : ℕ) → L < 304 → ldcColumn work₁ L ≡ ldcColumn work₂ L) → ⊥
     unlike same =
         different
         (sym (read-back user psn side hu hp hs .has-user)

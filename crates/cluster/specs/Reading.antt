@@ -16,8 +16,12 @@ use Rattle.sizes.specs.Sizes.{userSize}
 
 -- ---- 15: the lowest LDC column without its 32 roots, or 304
 
+-- LDC column L, as it is read in the cluster
+abbrev pub ldcColumn : List ℕ → ℕ → List ℕ
+ldcColumn work L = wordIn (ldcIn work) L
+
 unfoldable pub wrongWord : List ℕ → ℕ → Bool
-wrongWord work L = not (hasRoots 32 (wordIn (ldcIn work) L))
+wrongWord work L = not (hasRoots 32 (ldcColumn work L))
 
 unfoldable pub firstWrongWord : List ℕ → ℕ
 firstWrongWord work = first 304 (wrongWord work)

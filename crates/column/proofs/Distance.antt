@@ -1,4 +1,5 @@
--- Two different columns of at most 255 bytes with r roots differ in more than r places, and each differs from some other in just r + 1. Assumes nothing.
+-- Two different columns of one length, at most 255 bytes, with r roots differ in more than r places; and each, of r + 1 bytes or more, differs from some
+-- other in just r + 1. Assumes nothing.
 use mathlib.Core.Path.{_≡_, refl, sym, ap, ap₂, subst, _∙_, subst⁻¹}
 use mathlib.Core.List.{List, _++_}
 use mathlib.Core.Logic.{_↔_}
@@ -37,7 +38,7 @@ right-parity r n few column bytes size = (
     whole : drop n column ≡ parity r (take n column) → take n column ++ parity r (take n column) ≡ column
     whole same = ap (_++_ (take n column)) (sym same) ∙ take-append-drop n column
 
-pub right-sums : (r n : ℕ) (c d : List ℕ) → Right r n c → Right r n d → Right r n (sums c d)
+right-sums : (r n : ℕ) (c d : List ℕ) → Right r n c → Right r n d → Right r n (sums c d)
 right-sums r n c d right other =
     record {
       size = length-sums c d e ∙ right .size;

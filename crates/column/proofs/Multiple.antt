@@ -4,24 +4,24 @@ use mathlib.Core.Path.{_≡_, refl, sym, ap, ap₂, subst, _∙_}
 use mathlib.Core.Bool.{true}
 use mathlib.Core.List.{List, [], _∷_, _++_, append-assoc, append-nil}
 use mathlib.Core.Logic.{_↔_}
-use Prim.Native.Nat.{ℕ, zero, suc, _+_, _-_, _<_, _≤_}
+use Prim.Native.Nat.{ℕ, suc, _+_, _-_, _<_, _≤_}
 use native.Mathlib.Nat.{suc-inj}
 use native.Mathlib.Omega.{arith}
 use lib.ListN.{length, getD, drop, take, length-append}
 use Rattle.laws.specs.Bytes.{Bytes}
 use Rattle.laws.specs.Tabulate.{tabulate}
-use Rattle.laws.proofs.Bytes.{bytes-none, bytes-cons, bytes-tabulate, bytes-take}
+use Rattle.laws.proofs.Bytes.{bytes-none, bytes-cons, bytes-take}
 use Rattle.laws.proofs.Tabulate.{length-tabulate}
 use Rattle.galois.specs.Field.{α, sum, product, power}
 use Rattle.galois.proofs.Sum.{sum-assoc, sum-comm, sum-zero, zero-sum, sum-self, sum-byte, sum-cancel}
 use Rattle.galois.proofs.Product.{product-byte, product-comm, product-assoc, sum-product, product-zero, zero-product, one-product, product-one}
 use Rattle.column.specs.Column.{valueFrom, value, Roots, hasRoots, sums, scaled, timesRoot, generator, multiplied, MultipleOf, ParityExactly, pushed, remainder, parity}
 use Rattle.column.proofs.Sums.{length-snoc, length-sums, length-scaled}
-use Rattle.column.proofs.Value.{zeroColumn, value-append, value-cons, value-sums, value-scaled, value-out, value-moved, value-zeros}
-use Rattle.column.proofs.Generator.{generator-roots, generator-first, generator-bytes, coefficients-length}
+use Rattle.column.proofs.Value.{zeroColumn, zeros-bytes, zeros-append, value-append, value-cons, value-sums, value-scaled, value-out, value-moved, value-zeros}
+use Rattle.column.proofs.Generator.{generator-roots, generator-first, generator-bytes}
 use Rattle.column.proofs.Division.{length-pushed, bytes-pushed}
 use Rattle.column.proofs.Roots.{has-roots}
-use Rattle.column.proofs.Linear.{sums-none, zeros-sums}
+use Rattle.column.proofs.Linear.{sums-none, zeros-sums, zeros-length}
 use Rattle.column.proofs.Parity.{parity-length, parity-only, roots-parity, test-parity, test-column}
 
 -- ---- the product: its length, its value
@@ -134,7 +134,7 @@ unfolding sums tabulate
 sums-self [] = refl
 sums-self (x ∷ l) = ap₂ _∷_ (sum-self x) (sums-self l)
 
--- zeroColumn behind both
+-- zeros behind both
 sums-behind : (a b : List ℕ) (n : ℕ) → length a ≡ length b → sums a b ++ zeroColumn n ≡ sums (a ++ zeroColumn n) (b ++ zeroColumn n)
 unfolding sums
 sums-behind [] [] n e = sym (zeros-sums n (zeroColumn n) (length-tabulate n (λ _. 0)))
@@ -154,12 +154,9 @@ sums-twice (u ∷ a) (v ∷ b) (w ∷ x) e = ap₂ _∷_ twice (sums-twice a b x
     twice : sum u (sum (sum v u) w) ≡ sum v w
     twice = ap (sum u) (ap (λ (k : ℕ). sum k w) (sum-comm v u) ∙ sum-assoc u v w) ∙ sum-cancel u (sum v w)
 
--- zeroColumn in front of zeroColumn
+-- zeros in front of zeros
 front-zeros : (r n : ℕ) (l : List ℕ) → length l ≡ r + n → sums (zeroColumn r ++ zeroColumn n) l ≡ l
-unfolding sums tabulate
-front-zeros zero n l e = zeros-sums n l (omega arith)
-front-zeros (suc r) n [] e = absurd (omega arith)
-front-zeros (suc r) n (x ∷ l) e = ap₂ _∷_ (zero-sum x) (front-zeros r n l (omega arith))
+front-zeros r n l e = ap (λ (k : List ℕ). sums k l) (zeros-append r n) ∙ zeros-sums (r + n) l e
 
 -- the first coefficient of f (1 ∷ g), with f = d + c
 first-of : (d c : ℕ) → d < 256 → c < 256 → sum (product (sum d c) 1) 0 ≡ sum d c
@@ -222,10 +219,10 @@ unfolding parity
 parity-multiple r message bytes =
     record {
       quotient = quotientOf g (zeroColumn r) message;
-      bytes = bytes-quotient g (zeroColumn r) message (bytes-tabulate r (λ _. 0) (λ k h. omega arith)) bytes;
+      bytes = bytes-quotient g (zeroColumn r) message (zeros-bytes r) bytes;
       product =
           sym (front-zeros r (length message) (message ++ parity r message) size)
-          ∙ divided-product g (zeroColumn r) message (length-tabulate r (λ _. 0) ∙ sym (coefficients-length r)) (bytes-tabulate r (λ _. 0) (λ k h. omega arith)) bytes
+          ∙ divided-product g (zeroColumn r) message (zeros-length r) (zeros-bytes r) bytes
           ∙ ap (multiplied (quotientOf g (zeroColumn r) message)) (sym (generator-first r));
     }
   where

@@ -1,4 +1,4 @@
--- The value of a column: it is linear, and a loop finds it byte by byte. Assumes nothing.
+-- The value of a column: it is linear, 0 for zeros, and a loop finds it byte by byte. Assumes nothing.
 use mathlib.Core.Path.{_≡_, refl, sym, ap, ap₂, _∙_}
 use mathlib.Core.List.{List, [], _∷_, _++_}
 use Prim.Native.Nat.{ℕ, zero, suc, _+_, _<_, _≤_}

@@ -71,11 +71,11 @@ not-noticed-33 notices = false≢true (sym missing ∙ roots-computed)
 abbrev between : List ℕ
 between = take 17 generator33 ++ zeroColumn 16
 
-pub from-generator : differing between generator33 ≡ 16
+from-generator : differing between generator33 ≡ 16
 unfolding coefficients32 differing tabulate
 from-generator = refl
 
-pub from-zeros : differing between (zeroColumn 33) ≡ 17
+from-zeros : differing between (zeroColumn 33) ≡ 17
 unfolding coefficients32 differing tabulate
 from-zeros = refl
 
@@ -95,7 +95,7 @@ not-both-33 trades =
     (trades 16 17 (omega arith) between (zeroColumn 33) generator33 (omega arith) (omega arith) (record { right = zeros-right 32 33; few = omega (arith, from-zeros) })
     (record { right = right33; few = omega (arith, from-generator) }))
 
--- ---- columns of 32 bytes: zeros alone are right
+-- ---- columns of 32 bytes: no two differ in 33 places
 
 pub not-of-32 : IsDistance 32 32 33 → ⊥
 not-of-32 is =

@@ -1,13 +1,13 @@
 -- W-208. Assumes nothing.
-use mathlib.Core.Path.{_≡_, refl, sym, ap, _∙_}
+use mathlib.Core.Path.{_≡_, refl, sym, ap, subst, _∙_}
 use mathlib.Core.Bool.{Bool, true, false, not}
 use mathlib.Core.List.{List}
-use Prim.Native.Nat.{ℕ, _<_, _≤_}
+use Prim.Native.Nat.{ℕ, _+_, _<_, _≤_}
 use native.Mathlib.Omega.{arith}
 use lib.ListN.{length}
 use Rattle.laws.specs.Bytes.{Bytes}
 use Rattle.laws.specs.Differing.{differing}
-use Rattle.laws.proofs.Differing.{differing-self}
+use Rattle.laws.proofs.Differing.{differing-self, Between, between}
 use Rattle.column.specs.Column.{hasRoots}
 use Rattle.column.specs.Distance.{Right}
 use Rattle.column.proofs.Roots.{has-roots}
@@ -15,23 +15,12 @@ use Rattle.column.proofs.Distance.{apart, near-once, distance-is, distance-once
 use Rattle.ldc.proofs.CodeWords.{length-word-in, bytes-word-in}
 use Rattle.bis.specs.Reading.{wrongColumn}
 use Rattle.cluster.specs.EccCluster.{eccCluster}
-use Rattle.cluster.specs.Multiplex.{ldcIndex, ldcIn, bisIn}
-use Rattle.cluster.specs.Reading.{wrongWord}
-use Rattle.cluster.proofs.Multiplex.{is-block-in}
+use Rattle.cluster.specs.Multiplex.{ldcIndex, ldcIn, columnIn, bisIn}
+use Rattle.cluster.specs.Reading.{ldcColumn, wrongWord}
+use Rattle.cluster.proofs.Multiplex.{bis-column, is-block-in}
 use Rattle.cluster.proofs.Statements.{ldc-right, bis-right, other-word}
 use Rattle.image.specs.Image.{Input, IsAccepted, cluster}
-use Rattle.distance.specs.Distance.{
-  longest,
-  distance,
-  noticeable,
-  correctable,
-  ColumnsApart,
-  RetryLimits,
-  ldcColumn,
-  bisColumn,
-  ClustersApart,
-  ClustersNoticed,
-}
+use Rattle.distance.specs.Distance.{longest, distance, noticeable, correctable, ColumnsApart, Misleads, RetryLimits, ClustersApart, ClustersNoticed}
 
 -- TWO DIFFERENT COLUMNS OF EQUAL LENGTH, 33 TO 255 BYTES, WHOSE PARITY IS RIGHT, DIFFER IN AT LEAST 33 BYTES
 pub columns-apart : ColumnsApart
@@ -56,12 +45,33 @@ notices n short w c size bytes right some few true t = absurd (omega (arith, far
     far : 32 < differing w c
     far = apart 32 n (omega arith) w c (record { size = size; bytes = bytes; roots = has-roots 32 w .0 t }) right unlike
 
+-- between c and a right column at the distance
+misleads : (e f : ℕ) → e + f ≡ distance → (c : List ℕ) → 33 ≤ length c → length c ≤ 255 → Right 32 (length c) c → Misleads e f c
+misleads e f sum c long short right =
+    record {
+      read = found .list;
+      size = found .size;
+      bytes = found .bytes;
+      wrong = found .from-first;
+      other = pair .0;
+      right = pair .1;
+      different = pair .2;
+      near = omega (arith, found .from-second, pair .3);
+    }
+  where
+    pair : (d : List ℕ) × Right 32 (length c) d × (c ≡ d → ⊥) × (differing c d ≡ 33)
+    pair = distance-is 32 (length c) long short .met c right
+
+    found : Between c (pair .0) f
+    found = between c (pair .0) (sym (pair .1 .size)) (right .bytes) (pair .1 .bytes) f (omega (arith, pair .3))
+
 pub retry-limits : RetryLimits
 retry-limits =
     record {
       noticed = λ w c long short bytes right some few. notices (length w) short w c refl bytes right some few (hasRoots 32 w) refl;
       corrected = λ w c c′ long short near near′. near-once 32 correctable correctable (omega arith) w c c′ (omega arith) near near′;
       both = λ e f most w c c′ long short near near′. near-once 32 e f (omega arith) w c′ c (omega arith) near′ near;
+      no-more = λ e f sum c long short right. misleads e f sum c (omega arith) (omega arith) right;
     }
 
 -- TWO DIFFERENT USER CLUSTERS WITH THE SAME PSN AND SIDE DATA HAVE SOME LDC COLUMN THAT DIFFERS IN AT LEAST 33 PLACES
@@ -70,7 +80,7 @@ module _ (a : Input) (ha : IsAccepted a) where
   right-ldc : (L : ℕ) → L < 304 → Right 32 248 (ldcColumn (cluster a) L)
   right-ldc = ldc-right (a .user) (a .psn) (a .side) (ha .user) (ha .psn) (ha .side)
 
-  right-bis : (C : ℕ) → C < 24 → Right 32 62 (bisColumn (cluster a) C)
+  right-bis : (C : ℕ) → C < 24 → Right 32 62 (columnIn (cluster a) C)
   right-bis = bis-right (a .user) (a .psn) (a .side) (ha .user) (ha .psn) (ha .side)
 
 module _ (a b : Input) (ha : IsAccepted a) (hb : IsAccepted b) where
@@ -106,9 +116,15 @@ clusters-noticed = record { ldc = ldc; bis = bis }
         ap not (notices 248 (omega arith) (ldcColumn work L) (ldcColumn (cluster a) L) (length-word-in (ldcIn work) L)
         (bytes-word-in (ldcIn work) (λ row column hr hc. bytes (ldcIndex row column)) L) (right-ldc a ha L h) some few (hasRoots 32 (ldcColumn work L)) refl)
 
-    bis : (a : Input) → IsAccepted a → (work : List ℕ) → Bytes work → (C : ℕ) → C < 24 → 0 < differing (bisColumn work C) (bisColumn (cluster a) C)
-        → differing (bisColumn work C) (bisColumn (cluster a) C) ≤ noticeable → wrongColumn (bisIn work) C ≡ true
+    bis : (a : Input) → IsAccepted a → (work : List ℕ) → Bytes work → (C : ℕ) → C < 24 → 0 < differing (columnIn work C) (columnIn (cluster a) C)
+        → differing (columnIn work C) (columnIn (cluster a) C) ≤ noticeable → wrongColumn (bisIn work) C ≡ true
     bis a ha work bytes C h some few =
         unfold wrongColumn in
-        ap not (notices 62 (omega arith) (bisColumn work C) (bisColumn (cluster a) C) (is-block-in work bytes .size C h)
-        (is-block-in work bytes .bytes C h) (right-bis a ha C h) some few (hasRoots 32 (bisColumn work C)) refl)
+        ap (λ (c : List ℕ). not (hasRoots 32 c)) (bis-column work C h)
+        ∙ ap not (notices 62 (omega arith) (columnIn work C) (columnIn (cluster a) C) size all (right-bis a ha C h) some few (hasRoots 32 (columnIn work C)) refl)
+      where
+        size : length (columnIn work C) ≡ 62
+        size = ap length (sym (bis-column work C h)) ∙ is-block-in work bytes .size C h
+
+        all : Bytes (columnIn work C)
+        all = subst Bytes (bis-column work C h) (is-block-in work bytes .bytes C h)

@@ -1,17 +1,16 @@
 -- Document 02, W-208: how far apart two columns lie. The columns of 13.7 and 13.12 have 32 parity bytes, and so 32 roots.
 use mathlib.Core.Path.{_≡_}
 use mathlib.Core.Bool.{true, false}
-use mathlib.Core.List.{List, []}
+use mathlib.Core.List.{List}
 use Prim.Native.Nat.{ℕ, suc, _+_, _<_, _≤_}
-use lib.ListN.{length, getD}
+use lib.ListN.{length}
 use Rattle.laws.specs.Bytes.{Bytes}
 use Rattle.laws.specs.Differing.{differing}
 use Rattle.column.specs.Column.{hasRoots}
 use Rattle.column.specs.Distance.{Right, Near, IsDistance}
-use Rattle.ldc.specs.Places.{wordIn}
 use Rattle.bis.specs.Reading.{wrongColumn}
-use Rattle.cluster.specs.Multiplex.{ldcIn, bisIn}
-use Rattle.cluster.specs.Reading.{wrongWord}
+use Rattle.cluster.specs.Multiplex.{columnIn, bisIn}
+use Rattle.cluster.specs.Reading.{ldcColumn, wrongWord}
 use Rattle.image.specs.Image.{Input, IsAccepted, cluster}
 
 -- how many bytes a column has
@@ -52,23 +51,29 @@ Notices m = (w c : List ℕ) → shortest ≤ length w → length w ≤ longest 
 abbrev pub OneWithin : ℕ → Type 0
 OneWithin m = (w c c′ : List ℕ) → shortest ≤ length w → length w ≤ longest → Near 32 m w c → Near 32 m w c′ → c ≡ c′
 
--- who corrects up to e bytes is led to c alone where up to m - e bytes of it are wrong
+-- who corrects up to e bytes is led to no column but c where up to m - e bytes of it are wrong
 abbrev pub Trades : ℕ → Type 0
 Trades m = (e f : ℕ) → e + f ≤ m → (w c c′ : List ℕ) → shortest ≤ length w → length w ≤ longest → Near 32 f w c → Near 32 e w c′ → c′ ≡ c
+
+-- f bytes of c can be wrong so that another right column differs from what is read in just e
+pub record Misleads (e f : ℕ) (c : List ℕ) : Type 0 where
+  pub read : List ℕ
+  pub size : length read ≡ length c
+  pub bytes : Bytes read
+  pub wrong : differing read c ≡ f
+  pub other : List ℕ
+  pub right : Right 32 (length c) other
+  pub different : c ≡ other → ⊥
+  pub near : differing read other ≡ e
 
 pub record RetryLimits : Type 0 where
   pub noticed : Notices noticeable
   pub corrected : OneWithin correctable
   pub both : Trades noticeable
+  -- and no more, whatever the right column
+  pub no-more : (e f : ℕ) → e + f ≡ distance → (c : List ℕ) → shortest ≤ length c → length c ≤ longest → Right 32 (length c) c → Misleads e f c
 
 -- ---- clusters
-
--- LDC column L and BIS column C in an ECC cluster
-abbrev pub ldcColumn : List ℕ → ℕ → List ℕ
-ldcColumn work L = wordIn (ldcIn work) L
-
-abbrev pub bisColumn : List ℕ → ℕ → List ℕ
-bisColumn work C = getD (bisIn work) C []
 
 -- of the ECC clusters (`eccCluster`) of two accepted inputs, whatever their dc words, which no ECC cluster has
 pub record ClustersApart : Type 0 where
@@ -85,5 +90,5 @@ pub record ClustersNoticed : Type 0 where
       → 0 < differing (ldcColumn work L) (ldcColumn (cluster a) L) → differing (ldcColumn work L) (ldcColumn (cluster a) L) ≤ noticeable
       → wrongWord work L ≡ true
   pub bis : (a : Input) → IsAccepted a → (work : List ℕ) → Bytes work → (C : ℕ) → C < 24
-      → 0 < differing (bisColumn work C) (bisColumn (cluster a) C) → differing (bisColumn work C) (bisColumn (cluster a) C) ≤ noticeable
+      → 0 < differing (columnIn work C) (columnIn (cluster a) C) → differing (columnIn work C) (columnIn (cluster a) C) ≤ noticeable
       → wrongColumn (bisIn work) C ≡ true

@@ -1,18 +1,20 @@
--- In how many places two lists of one length differ: counted by indexes; that it is a distance; and that it stays when both are combined with one
--- list. Assumes nothing.
+-- In how many places two lists of one length differ: counted by indexes; that it is a distance, stays when both are combined with one list, and can be
+-- divided by a list between them. Assumes nothing.
 use mathlib.Core.Path.{_≡_, refl, sym, ap, ap₂, _∙_}
 use mathlib.Core.Bool.{Bool, true, false, cond, not}
 use mathlib.Core.List.{List, [], _∷_, _++_}
-use Prim.Native.Nat.{ℕ, suc, _+_, _≤_}
-use native.Mathlib.Nat.{suc-inj}
+use Prim.Native.Nat.{ℕ, zero, suc, _+_, _≤_}
+use native.Mathlib.Nat.{suc-inj, le-of-suc-le-suc, add-zero}
 use native.Mathlib.Omega.{arith}
 use lib.Bits.{bitXor}
 use lib.Dec.{eqb}
 use borrow.Author.Tests.{eqb-true, eqb-false, eq-eqb, ne-eqb}
 use lib.ListN.{length, getD}
+use Rattle.laws.specs.Bytes.{Bytes}
 use Rattle.laws.specs.Combined.{combined}
 use Rattle.laws.specs.Differing.{differsAt, differing}
 use Rattle.laws.specs.HowMany.{howMany}
+use Rattle.laws.proofs.Bytes.{bytes-none, bytes-cons}
 use Rattle.laws.proofs.Xor.{xor-twice}
 
 -- ---- one place
@@ -120,3 +122,48 @@ differing-combined (x ∷ k) (y ∷ l) (z ∷ m) e f = ap₂ (λ (t : Bool) (n :
     test : (t : Bool) → eqb y z ≡ t → eqb (bitXor x y) (bitXor x z) ≡ t
     test true t = eq-eqb (bitXor x y) (bitXor x z) (ap (bitXor x) (eqb-true y z t))
     test false t = ne-eqb (bitXor x y) (bitXor x z) (λ same. eqb-false y z t (sym (xor-twice x y) ∙ ap (bitXor x) same ∙ xor-twice x z))
+
+-- ---- a list between two others: in k of the places where they differ the second's number, elsewhere the first's
+
+pub record Between (l m : List ℕ) (k : ℕ) : Type 0 where
+  pub list : List ℕ
+  pub size : length list ≡ length l
+  pub bytes : Bytes list
+  pub from-first : differing list l ≡ k
+  pub from-second : differing list m + k ≡ differing l m
+
+pub between : (l m : List ℕ) → length l ≡ length m → Bytes l → Bytes m → (k : ℕ) → k ≤ differing l m → Between l m k
+unfolding differing
+between [] [] e bl bm k h = record { list = []; size = refl; bytes = bytes-none; from-first = omega arith; from-second = omega arith }
+between [] (y ∷ m) e bl bm k h = absurd (omega arith)
+between (x ∷ l) [] e bl bm k h = absurd (omega arith)
+between (x ∷ l) (y ∷ m) e bl bm k h = by (eqb x y) refl k h (λ j g. between l m (suc-inj e) (λ i. bl (suc i)) (λ i. bm (suc i)) j g)
+  where
+    by : (t : Bool) → eqb x y ≡ t → (k : ℕ) → k ≤ cond t (differing l m) (suc (differing l m)) → ((j : ℕ) → j ≤ differing l m → Between l m j)
+        → Between (x ∷ l) (y ∷ m) k
+    by true t k h rest =
+        let below = rest k h in
+        record {
+          list = x ∷ below .list;
+          size = ap suc (below .size);
+          bytes = bytes-cons x (below .list) (bl 0) (below .bytes);
+          from-first = rw (eq-eqb x x refl) (below .from-first);
+          from-second = rw t (below .from-second);
+        }
+    by false t zero h rest =
+        record {
+          list = x ∷ l;
+          size = refl;
+          bytes = bl;
+          from-first = rw (eq-eqb x x refl) (differing-self l);
+          from-second = rw t (add-zero (suc (differing l m)));
+        }
+    by false t (suc k) h rest =
+        let below = rest k (le-of-suc-le-suc h) in
+        record {
+          list = y ∷ below .list;
+          size = ap suc (below .size);
+          bytes = bytes-cons y (below .list) (bm 0) (below .bytes);
+          from-first = rw (ne-eqb y x (λ same. eqb-false x y t (sym same))) (ap suc (below .from-first));
+          from-second = rw (eq-eqb y y refl, t) (omega (arith, below .from-second));
+        }

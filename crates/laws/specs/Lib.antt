@@ -1,4 +1,4 @@
--- Lists given by their elements, written at places or combined, bytes, and the lowest index that passes a test.
+-- Lists given by their elements, written at places, combined or compared, bytes, the lowest index that passes a test, and how many do.
 pub mod Tabulate
 pub mod Bytes
 pub mod First
