@@ -111,10 +111,13 @@ ends-right : (r : ℕ) → Right r 256 ends256
 ends-right r =
     record {
       size = unfold tabulate in refl;
-      bytes = bytes-cons 1 (zeroColumn 254 ++ 1 ∷ []) (omega arith) (bytes-append (zeroColumn 254) (1 ∷ []) (zeros-bytes 254) (bytes-cons 1 [] (omega arith) bytes-none));
+      bytes = bytes-cons 1 (zeroColumn 254 ++ 1 ∷ []) (omega arith) (bytes-append (zeroColumn 254) (1 ∷ []) (zeros-bytes 254) last);
       roots = λ i h. root (power α i) (power-swap α i 255 ∙ ap (λ (a : ℕ). power a i) α-cycle ∙ power-one i);
     }
   where
+    last : Bytes (1 ∷ [])
+    last = bytes-cons 1 [] (omega arith) bytes-none
+
     first : (x : ℕ) → valueFrom 1 (zeroColumn 254) x ≡ power x 254
     first x = value-moved 1 254 x (omega arith) ∙ one-product (power x 254) (power-byte x 254)
 

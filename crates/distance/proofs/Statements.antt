@@ -84,7 +84,8 @@ module _ (a : Input) (ha : IsAccepted a) where
   right-bis = bis-right (a .user) (a .psn) (a .side) (ha .user) (ha .psn) (ha .side)
 
 module _ (a b : Input) (ha : IsAccepted a) (hb : IsAccepted b) where
-  each : (L : ℕ) → L < 304 → (ldcColumn (cluster a) L ≡ ldcColumn (cluster b) L → ⊥) → distance ≤ differing (ldcColumn (cluster a) L) (ldcColumn (cluster b) L)
+  each : (L : ℕ) → L < 304 → (ldcColumn (cluster a) L ≡ ldcColumn (cluster b) L → ⊥)
+      → distance ≤ differing (ldcColumn (cluster a) L) (ldcColumn (cluster b) L)
   each L h different =
       omega (arith, apart 32 248 (omega arith) (ldcColumn (cluster a) L) (ldcColumn (cluster b) L) (right-ldc a ha L h) (right-ldc b hb L h) different)
 
