@@ -97,30 +97,27 @@ bis-back ldc block is = sym (is-tabulate [] 24 (λ C. tabulate 62 (byte C)) bloc
 -- ---- 76,880 bytes are what they are made of
 
 -- a column of the block is the one that stands there
-pub bis-column : (work : List ℕ) (C : ℕ) → C < 24 → getD (bisIn work) C [] ≡ columnIn work C
+pub block-column : (work : List ℕ) (C : ℕ) → C < 24 → getD (bisIn work) C [] ≡ columnIn work C
 unfolding bisIn
-bis-column work C h = getD-tabulate 24 (columnIn work) C [] h
+block-column work C h = getD-tabulate 24 (columnIn work) C [] h
 
 pub is-block-in : (work : List ℕ) → Bytes work → Block (bisIn work)
 unfolding bisIn columnIn
 is-block-in work bytes =
     record {
-      columns = length-tabulate 24 columns;
-      size = λ C h. ap (length {A = ℕ}) (getD-tabulate 24 columns C [] h) ∙ length-tabulate 62 (byte C);
-      bytes = λ C h. subst (λ (l : List ℕ). Bytes l) (sym (getD-tabulate 24 columns C [] h)) (bytes-tabulate 62 (byte C) (λ N _. bytes (bisIndex (Bis.bisRow N C) (Bis.bisColumn N C))));
+      columns = length-tabulate 24 (columnIn work);
+      size = λ C h. ap (length {A = ℕ}) (block-column work C h) ∙ length-tabulate 62 (byte C);
+      bytes = λ C h. subst (λ (l : List ℕ). Bytes l) (sym (block-column work C h)) (bytes-tabulate 62 (byte C) (λ N _. bytes (bisIndex (Bis.bisRow N C) (Bis.bisColumn N C))));
     }
   where
     byte : ℕ → ℕ → ℕ
     byte C N = getD work (bisIndex (Bis.bisRow N C) (Bis.bisColumn N C)) 0
 
-    columns : ℕ → List ℕ
-    columns C = tabulate 62 (byte C)
-
 -- byte N of column C of the block
 pub getD-block-in : (work : List ℕ) (N C : ℕ) → N < 62 → C < 24 → getD (getD (bisIn work) C []) N 0 ≡ getD work (bisIndex (Bis.bisRow N C) (Bis.bisColumn N C)) 0
-unfolding bisIn columnIn
+unfolding columnIn
 getD-block-in work N C hN hC =
-    ap (λ (l : List ℕ). getD l N 0) (getD-tabulate 24 (λ C. tabulate 62 (λ N. getD work (bisIndex (Bis.bisRow N C) (Bis.bisColumn N C)) 0)) C [] hC)
+    ap (λ (l : List ℕ). getD l N 0) (block-column work C hC)
     ∙ getD-tabulate 62 (λ N. getD work (bisIndex (Bis.bisRow N C) (Bis.bisColumn N C)) 0) N 0 hN
 
 pub multiplexed-back : (work : List ℕ) → length work ≡ 76880 → multiplexed (ldcIn work) (bisIn work) ≡ work

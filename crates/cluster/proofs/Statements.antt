@@ -1,5 +1,5 @@
 -- What is promised of ECC clusters, on their definitions: one that was made is read back, with right columns, nothing else is read, and so a cluster
--- determines its user bytes, its PSN and its side data; the user bytes hang on its code words alone. Assumes nothing.
+-- determines its user bytes, its PSN and its side data; under one PSN the user bytes hang on its code words alone. Assumes nothing.
 use mathlib.Core.Path.{_≡_, sym, ap, ap₂, subst, _∙_}
 use mathlib.Core.Logic.{_↔_}
 use mathlib.Core.Bool.{Bool, true, false, not}
@@ -41,10 +41,7 @@ use Rattle.bis.proofs.Statements as Bis
 use Rattle.cluster.specs.EccCluster.{User, sectorOf, frames, eccCluster}
 use Rattle.cluster.specs.Multiplex.{ldcIndex, multiplexed, ldcIn, columnIn, bisIn}
 use Rattle.cluster.specs.Reading.{ldcColumn, wrongWord, firstWrongWord, dataFrameIn, wrongSector, firstWrongSector, userByteIn, userIn, Reads}
-use Rattle.cluster.proofs.Multiplex.{bytes-multiplexed, length-multiplexed, ldc-back, bis-back, bis-column, is-block-in, multiplexed-back, multiplexed-ext}
-
-not-wrong : (b : Bool) → not b ≡ false → b ≡ true
-not-wrong = not-false
+use Rattle.cluster.proofs.Multiplex.{bytes-multiplexed, length-multiplexed, ldc-back, bis-back, block-column, is-block-in, multiplexed-back, multiplexed-ext}
 
 -- ---- code words and data frames depend on the 496 rows and 152 columns alone
 
@@ -171,23 +168,23 @@ module _ (user : List ℕ) (psn : ℕ) (side : List ℕ) (is-user : User user) (
       record {
         size = length-word-in (ldcIn work) L;
         bytes = bytes-word-in (ldcIn work) (λ row column hr hc. bytes-cluster (ldcIndex row column)) L;
-        roots = has-roots 32 (ldcColumn work L) .0 (not-wrong (hasRoots 32 (ldcColumn work L)) (made-word L h));
+        roots = has-roots 32 (ldcColumn work L) .0 (not-false (hasRoots 32 (ldcColumn work L)) (made-word L h));
       }
 
   pub bis-right : (C : ℕ) → C < 24 → Right 32 62 (columnIn work C)
   unfolding firstWrongColumn wrongColumn
   bis-right C h =
-      subst (Right 32 62) (bis-column work C h)
+      subst (Right 32 62) (block-column work C h)
       (record {
         size = is-block-in work bytes-cluster .size C h;
         bytes = is-block-in work bytes-cluster .bytes C h;
-        roots = has-roots 32 column .0 (not-wrong (hasRoots 32 column) (first-all 24 (wrongColumn (bisIn work)) (omega (arith, read-back .bis .right-columns)) C h));
+        roots = has-roots 32 column .0 (not-false (hasRoots 32 column) (first-all 24 (wrongColumn (bisIn work)) (omega (arith, read-back .bis .right-columns)) C h));
       })
     where
       column : List ℕ
       column = getD (bisIn work) C []
 
--- ---- the user bytes hang on the code words alone
+-- ---- under one PSN the user bytes hang on the code words alone
 
 same-user : (stream a b : List ℕ) → ((L : ℕ) → L < 304 → ldcColumn a L ≡ ldcColumn b L) → userIn stream a ≡ userIn stream b
 unfolding userIn dataFrameIn
@@ -230,12 +227,12 @@ module _ (work user : List ℕ) (psn : ℕ) (side : List ℕ) (size : length wor
 
   read-words : (L : ℕ) → L < 304 → hasRoots 32 (wordIn ldc L) ≡ true
   unfolding firstWrongWord wrongWord
-  read-words L h = not-wrong (hasRoots 32 (wordIn ldc L)) (first-all 304 (wrongWord work) (omega (arith, reads .right-words)) L h)
+  read-words L h = not-false (hasRoots 32 (wordIn ldc L)) (first-all 304 (wrongWord work) (omega (arith, reads .right-words)) L h)
 
   read-sectors : (F : ℕ) → F < 32 → edcRight (dataFrameIn (scramblingOf psn) work F) ≡ true
   unfolding firstWrongSector wrongSector
   read-sectors F h =
-      not-wrong (edcRight (dataFrameIn (scramblingOf psn) work F)) (first-all 32 (wrongSector (scramblingOf psn) work) (omega (arith, reads .right-sectors)) F h)
+      not-false (edcRight (dataFrameIn (scramblingOf psn) work F)) (first-all 32 (wrongSector (scramblingOf psn) work) (omega (arith, reads .right-sectors)) F h)
 
   length-read : length user ≡ 65536
   unfolding userIn

@@ -68,14 +68,14 @@ not-noticed-33 notices = false≢true (sym missing ∙ roots-computed)
 
 -- ---- a column between them: 16 places from the generator, 17 from zeros
 
-abbrev between : List ℕ
-between = take 17 generator33 ++ zeroColumn 16
+abbrev between33 : List ℕ
+between33 = take 17 generator33 ++ zeroColumn 16
 
-from-generator : differing between generator33 ≡ 16
+from-generator : differing between33 generator33 ≡ 16
 unfolding coefficients32 differing tabulate
 from-generator = refl
 
-from-zeros : differing between (zeroColumn 33) ≡ 17
+from-zeros : differing between33 (zeroColumn 33) ≡ 17
 unfolding coefficients32 differing tabulate
 from-zeros = refl
 
@@ -84,7 +84,7 @@ pub not-one-within-17 : OneWithin 17 → ⊥
 unfolding coefficients32 tabulate
 not-one-within-17 one =
     unlike33
-    (one between generator33 (zeroColumn 33) (omega arith) (omega arith) (record { right = right33; few = omega (arith, from-generator) })
+    (one between33 generator33 (zeroColumn 33) (omega arith) (omega arith) (record { right = right33; few = omega (arith, from-generator) })
     (record { right = zeros-right 32 33; few = omega (arith, from-zeros) }))
 
 -- who corrects up to 16 is not sure to notice 17
@@ -92,7 +92,7 @@ pub not-both-33 : Trades 33 → ⊥
 unfolding coefficients32 tabulate
 not-both-33 trades =
     unlike33
-    (trades 16 17 (omega arith) between (zeroColumn 33) generator33 (omega arith) (omega arith) (record { right = zeros-right 32 33; few = omega (arith, from-zeros) })
+    (trades 16 17 (omega arith) between33 (zeroColumn 33) generator33 (omega arith) (omega arith) (record { right = zeros-right 32 33; few = omega (arith, from-zeros) })
     (record { right = right33; few = omega (arith, from-generator) }))
 
 -- ---- columns of 32 bytes: no two differ in 33 places

@@ -7,7 +7,7 @@ use native.Mathlib.Omega.{arith}
 use lib.ListN.{length}
 use Rattle.laws.specs.Bytes.{Bytes}
 use Rattle.laws.specs.Differing.{differing}
-use Rattle.laws.proofs.Differing.{differing-self, Between, between}
+use Rattle.laws.proofs.Differing.{differing-self, Between, list-between}
 use Rattle.column.specs.Column.{hasRoots}
 use Rattle.column.specs.Distance.{Right}
 use Rattle.column.proofs.Roots.{has-roots}
@@ -17,7 +17,7 @@ use Rattle.bis.specs.Reading.{wrongColumn}
 use Rattle.cluster.specs.EccCluster.{eccCluster}
 use Rattle.cluster.specs.Multiplex.{ldcIndex, ldcIn, columnIn, bisIn}
 use Rattle.cluster.specs.Reading.{ldcColumn, wrongWord}
-use Rattle.cluster.proofs.Multiplex.{bis-column, is-block-in}
+use Rattle.cluster.proofs.Multiplex.{block-column, is-block-in}
 use Rattle.cluster.proofs.Statements.{ldc-right, bis-right, other-word}
 use Rattle.image.specs.Image.{Input, IsAccepted, cluster}
 use Rattle.distance.specs.Distance.{longest, distance, noticeable, correctable, ColumnsApart, Misleads, RetryLimits, ClustersApart, ClustersNoticed}
@@ -63,7 +63,7 @@ misleads e f sum c long short right =
     pair = distance-is 32 (length c) long short .met c right
 
     found : Between c (pair .0) f
-    found = between c (pair .0) (sym (pair .1 .size)) (right .bytes) (pair .1 .bytes) f (omega (arith, pair .3))
+    found = list-between c (pair .0) (sym (pair .1 .size)) (right .bytes) (pair .1 .bytes) f (omega (arith, pair .3))
 
 pub retry-limits : RetryLimits
 retry-limits =
@@ -121,11 +121,11 @@ clusters-noticed = record { ldc = ldc; bis = bis }
         → differing (columnIn work C) (columnIn (cluster a) C) ≤ noticeable → wrongColumn (bisIn work) C ≡ true
     bis a ha work bytes C h some few =
         unfold wrongColumn in
-        ap (λ (c : List ℕ). not (hasRoots 32 c)) (bis-column work C h)
+        ap (λ (c : List ℕ). not (hasRoots 32 c)) (block-column work C h)
         ∙ ap not (notices 62 (omega arith) (columnIn work C) (columnIn (cluster a) C) size all (right-bis a ha C h) some few (hasRoots 32 (columnIn work C)) refl)
       where
         size : length (columnIn work C) ≡ 62
-        size = ap length (sym (bis-column work C h)) ∙ is-block-in work bytes .size C h
+        size = ap length (sym (block-column work C h)) ∙ is-block-in work bytes .size C h
 
         all : Bytes (columnIn work C)
-        all = subst Bytes (bis-column work C h) (is-block-in work bytes .bytes C h)
+        all = subst Bytes (block-column work C h) (is-block-in work bytes .bytes C h)

@@ -75,7 +75,7 @@ pub record RetryLimits : Type 0 where
 
 -- ---- clusters
 
--- of the ECC clusters (`eccCluster`) of two accepted inputs, whatever their dc words, which no ECC cluster has
+-- of the ECC clusters (`eccCluster`) of two accepted inputs, whatever their dc words and #, which no ECC cluster has
 pub record ClustersApart : Type 0 where
   -- an LDC column that is not the same in both differs in at least 33 places
   pub each : (a b : Input) → IsAccepted a → IsAccepted b → (L : ℕ) → L < 304 → (ldcColumn (cluster a) L ≡ ldcColumn (cluster b) L → ⊥)

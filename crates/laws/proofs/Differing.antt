@@ -132,12 +132,12 @@ pub record Between (l m : List ℕ) (k : ℕ) : Type 0 where
   pub from-first : differing list l ≡ k
   pub from-second : differing list m + k ≡ differing l m
 
-pub between : (l m : List ℕ) → length l ≡ length m → Bytes l → Bytes m → (k : ℕ) → k ≤ differing l m → Between l m k
+pub list-between : (l m : List ℕ) → length l ≡ length m → Bytes l → Bytes m → (k : ℕ) → k ≤ differing l m → Between l m k
 unfolding differing
-between [] [] e bl bm k h = record { list = []; size = refl; bytes = bytes-none; from-first = omega arith; from-second = omega arith }
-between [] (y ∷ m) e bl bm k h = absurd (omega arith)
-between (x ∷ l) [] e bl bm k h = absurd (omega arith)
-between (x ∷ l) (y ∷ m) e bl bm k h = by (eqb x y) refl k h (λ j g. between l m (suc-inj e) (λ i. bl (suc i)) (λ i. bm (suc i)) j g)
+list-between [] [] e bl bm k h = record { list = []; size = refl; bytes = bytes-none; from-first = omega arith; from-second = omega arith }
+list-between [] (y ∷ m) e bl bm k h = absurd (omega arith)
+list-between (x ∷ l) [] e bl bm k h = absurd (omega arith)
+list-between (x ∷ l) (y ∷ m) e bl bm k h = by (eqb x y) refl k h (λ j g. list-between l m (suc-inj e) (λ i. bl (suc i)) (λ i. bm (suc i)) j g)
   where
     by : (t : Bool) → eqb x y ≡ t → (k : ℕ) → k ≤ cond t (differing l m) (suc (differing l m)) → ((j : ℕ) → j ≤ differing l m → Between l m j)
         → Between (x ∷ l) (y ∷ m) k
