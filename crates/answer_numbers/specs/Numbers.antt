@@ -1,4 +1,5 @@
 -- What a caller in another language sees of an answer: the documents' number and place instead of an enum.
+use mathlib.Core.Bool.{Bool}
 use Prim.Native.Nat.{ℕ}
 use Rattle.answer.specs.declared.Answer.{Answer}
 use Rattle.answer.specs.Answer.{numberOf, placeOf}
@@ -12,8 +13,8 @@ use Rattle.answer_numbers.specs.declared.Converted.{Converted}
 abbrev pub answered : Answer → Answered
 answered a = record { number = numberOf a; place = placeOf a }
 
-abbrev pub readAnswered : Answer → ℕ → ReadAnswered
-readAnswered a psn = record { number = numberOf a; psn = psn; place = placeOf a }
+abbrev pub readAnswered : Answer → ℕ → Bool → ReadAnswered
+readAnswered a psn first = record { number = numberOf a; psn = psn; place = placeOf a; first = first }
 
 abbrev pub marking : Verdict → Marking
 marking v = record { verdict = kindOf v; number = refusalIn v; psn = ownPsn v; place = placeIn v }

@@ -12,12 +12,13 @@ pub struct Answered {
     pub place: usize,
 }
 
-// What the reader answers; the PSN is 0 on refusal.
+// What the reader answers; on refusal the PSN is 0 and the first # false.
 #[repr(C)]
 pub struct ReadAnswered {
     pub number: u32,
     pub psn: u32,
     pub place: usize,
+    pub first: bool,
 }
 
 // What the marker answers: 0 pass; 1 refused, with the reader's number and place; 2 another PSN, with the image's own; 3 other user bytes and
@@ -49,13 +50,14 @@ impl Answered {
 }
 
 impl ReadAnswered {
-    pub fn of(read: Answer, psn: Psn) -> ReadAnswered
-        ensures { λ r. ⌜ r ≡ readAnswered read (psn .0) ⌝ }
+    pub fn of(read: Answer, psn: Psn, first: bool) -> ReadAnswered
+        ensures { λ r. ⌜ r ≡ readAnswered read (psn .0) first ⌝ }
     {
         ReadAnswered {
             number: read.number(),
             psn: psn.0,
             place: read.place(),
+            first: first,
         }
     }
 }

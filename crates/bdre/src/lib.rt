@@ -26,15 +26,16 @@ pub extern "C" fn bdre_write_image(
     psn: u32,
     side: &[u8],
     dc: &[u32],
+    first: bool,
     image: &mut [u8],
     work: &mut [u8],
 ) -> Answered
     ensures { λ r. ⌜ record { number = r .number; place = r .place; image = now (image .exit); work = now (work .exit) }
-        ≡ writing (writer.outcome (record { user = now (user .entry); psn = psn; side = now (side .entry); dc = now (dc .entry) }) (now (image .entry)) (now (work .entry))) ⌝ }
-    ensures { λ r. ⌜ WritesExactly (record { user = now (user .entry); psn = psn; side = now (side .entry); dc = now (dc .entry) }) (now (image .entry)) (now (work .entry))
+        ≡ writing (writer.outcome (record { user = now (user .entry); psn = psn; side = now (side .entry); dc = now (dc .entry); first = first }) (now (image .entry)) (now (work .entry))) ⌝ }
+    ensures { λ r. ⌜ WritesExactly (record { user = now (user .entry); psn = psn; side = now (side .entry); dc = now (dc .entry); first = first }) (now (image .entry)) (now (work .entry))
         (r .number) (now (image .exit)) (now (work .exit)) ⌝ }
 {
-    export_writer::write_image(user, psn, side, dc, image, work)
+    export_writer::write_image(user, psn, side, dc, first, image, work)
 }
 
 // Reads an image strictly.
@@ -46,15 +47,15 @@ pub extern "C" fn bdre_read_image(
     dc: &mut [u32],
     work: &mut [u8],
 ) -> ReadAnswered
-    ensures { λ r. ⌜ record { number = r .number; place = r .place; psn = r .psn; lent = record { user = now (user .exit); side = now (side .exit); dc = now (dc .exit); work = now (work .exit) } }
+    ensures { λ r. ⌜ record { number = r .number; place = r .place; psn = r .psn; first = r .first; lent = record { user = now (user .exit); side = now (side .exit); dc = now (dc .exit); work = now (work .exit) } }
         ≡ reading (reader.outcome (now (image .entry)) (record { user = now (user .entry); side = now (side .entry); dc = now (dc .entry); work = now (work .entry) })) ⌝ }
     ensures { λ r. ⌜ ReadsExactly (now (image .entry)) (record { user = now (user .entry); side = now (side .entry); dc = now (dc .entry); work = now (work .entry) })
-        (r .number) (r .psn) (record { user = now (user .exit); side = now (side .exit); dc = now (dc .exit); work = now (work .exit) }) ⌝ }
+        (r .number) (r .psn) (r .first) (record { user = now (user .exit); side = now (side .exit); dc = now (dc .exit); work = now (work .exit) }) ⌝ }
 {
     export_reader::read_image(image, user, side, dc, work)
 }
 
-// Marks an image: whether it is that of these user bytes, this side data and this PSN under some dc words. The other slices are lent to read it.
+// Marks an image: whether it is that of these user bytes, this side data and this PSN under some dc words and some first #. The other slices are lent to read it.
 #[no_mangle]
 pub extern "C" fn bdre_mark_image(
     psn: u32,

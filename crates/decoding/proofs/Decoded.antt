@@ -15,32 +15,32 @@ use Rattle.notation.specs.Words.{wordCount, bytesRead}
 use Rattle.reader.specs.Outcome as reader
 use Rattle.texts.specs.declared.Text.{Text}
 use Rattle.texts.specs.Text.{textOf}
-use Rattle.report.specs.Words.{answerText, psnText}
+use Rattle.report.specs.Words.{answerText, readText}
 use Rattle.decoding.specs.Decoded.{SaidOf, Decoded, decodedBy, decodedWords, decoded}
 
 -- ---- what is said
 
-pub said-done : (a : Answer) (psn : ℕ) (words before dc : List ℕ) (done : Bool) (t : Text) → done ≡ isDone a → done ≡ true → dc ≡ bytesRead words before → t ≡ textOf (psnText psn)
-    → SaidOf a psn words before true t dc
-said-done a psn words before dc done t hd e hb ht =
+pub said-done : (a : Answer) (psn : ℕ) (first : Bool) (words before dc : List ℕ) (done : Bool) (t : Text) → done ≡ isDone a → done ≡ true → dc ≡ bytesRead words before → t ≡ textOf (readText psn first)
+    → SaidOf a psn first words before true t dc
+said-done a psn first words before dc done t hd e hb ht =
     let is : isDone a ≡ true = sym hd ∙ e in
     record { keep-is = sym is; text-is = ht ∙ rw is; dc-is = hb ∙ rw is }
 
-pub said-refused : (a : Answer) (psn : ℕ) (words before : List ℕ) (done : Bool) (t : Text) → done ≡ isDone a → done ≡ false → t ≡ textOf (answerText a)
-    → SaidOf a psn words before false t before
-said-refused a psn words before done t hd e ht =
+pub said-refused : (a : Answer) (psn : ℕ) (first : Bool) (words before : List ℕ) (done : Bool) (t : Text) → done ≡ isDone a → done ≡ false → t ≡ textOf (answerText a)
+    → SaidOf a psn first words before false t before
+said-refused a psn first words before done t hd e ht =
     let is : isDone a ≡ false = sym hd ∙ e in
     record { keep-is = sym is; text-is = ht ∙ rw is; dc-is = rw is }
 
 -- ---- of what was read, with a work slice of zeros
 
-pub words-decoded : (image user side dc words work user' side' dc' words' work' : List ℕ) (a : Answer) (psn : ℕ) (keep : Bool) (t : Text)
+pub words-decoded : (image user side dc words work user' side' dc' words' work' : List ℕ) (a : Answer) (psn : ℕ) (first keep : Bool) (t : Text)
     → work ≡ zeros 76880
-    → record { answer = a; psn = psn; lent = record { user = user'; side = side'; dc = words'; work = work' } } ≡ reader.outcome image (record { user = user; side = side; dc = words; work = work })
-    → SaidOf a psn words' dc keep t dc'
+    → record { answer = a; psn = psn; first = first; lent = record { user = user'; side = side'; dc = words'; work = work' } } ≡ reader.outcome image (record { user = user; side = side; dc = words; work = work })
+    → SaidOf a psn first words' dc keep t dc'
     → record { keep = keep; text = t; user = user'; side = side'; dc = dc' } ≡ decodedWords image user side words dc
-words-decoded image user side dc words work user' side' dc' words' work' a psn keep t hk ho s =
-    let said : record { keep = keep; text = t; user = user'; side = side'; dc = dc' } ≡ decodedBy (record { answer = a; psn = psn; lent = record { user = user'; side = side'; dc = words'; work = work' } }) dc =
+words-decoded image user side dc words work user' side' dc' words' work' a psn first keep t hk ho s =
+    let said : record { keep = keep; text = t; user = user'; side = side'; dc = dc' } ≡ decodedBy (record { answer = a; psn = psn; first = first; lent = record { user = user'; side = side'; dc = words'; work = work' } }) dc =
     λ i. record { keep = s .keep-is i; text = s .text-is i; user = user'; side = side'; dc = s .dc-is i } in
     said
     ∙ ap (λ (o : reader.Outcome). decodedBy o dc) ho

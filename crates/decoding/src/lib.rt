@@ -5,15 +5,15 @@ use report::Said;
 ghost use mathlib.Core.Path.{_≡_};
 ghost use Rattle.decoding.specs.Decoded.{SaidOf, decodedWords, decoded};
 
-// What is said of an image that was read: the PSN, and dc gets the bytes of the words; or the answer that refuses it.
-fn say(answer: Answer, psn: Psn, words: &[u32], dc: &mut [u8]) -> Said
-    ensures { λ r. ⌜ SaidOf answer (psn .0) (now (words .entry)) (now (dc .entry)) (r .keep) (r .text) (now (dc .exit)) ⌝ }
+// What is said of an image that was read: the PSN and the first #, and dc gets the bytes of the words; or the answer that refuses it.
+fn say(answer: Answer, psn: Psn, first: bool, words: &[u32], dc: &mut [u8]) -> Said
+    ensures { λ r. ⌜ SaidOf answer (psn .0) first (now (words .entry)) (now (dc .entry)) (r .keep) (r .text) (now (dc .exit)) ⌝ }
 {
     if answer.is_done() {
         notation::bytes_of(words, dc);
         return Said {
             keep: true,
-            text: psn_report::psn_text(psn),
+            text: psn_report::read_text(psn, first),
         };
     }
     Said {
@@ -37,7 +37,8 @@ fn decode_words(
     let read = reader::read_image(image, user, side, words, &mut work);
     let answer = read.answer;
     let psn = read.psn;
-    say(answer, psn, words, dc)
+    let first = read.first;
+    say(answer, psn, first, words, dc)
 }
 
 // What an image was made of; the dc words as four bytes each. No words are read for a slice of another length: 3 refuses it.

@@ -22,9 +22,9 @@ pub record Encoded : Type 0 where
 abbrev pub encodedBy : writer.Outcome → Encoded
 encodedBy o = record { keep = isDone (o .answer); text = textOf (answerText (o .answer)); image = o .image }
 
-abbrev pub encodedWords : ℕ → List ℕ → List ℕ → List ℕ → List ℕ → Encoded
-encodedWords psn user side words image = encodedBy (writer.outcome (record { user = user; psn = psn; side = side; dc = words }) image (zeros workSize))
+abbrev pub encodedWords : ℕ → List ℕ → List ℕ → List ℕ → Bool → List ℕ → Encoded
+encodedWords psn user side words first image = encodedBy (writer.outcome (record { user = user; psn = psn; side = side; dc = words; first = first }) image (zeros workSize))
 
 -- the words of dc, which has 1,984 bytes; else none, and 3 refuses
-unfoldable pub encoded : ℕ → List ℕ → List ℕ → List ℕ → List ℕ → Encoded
-encoded psn user side dc image = encodedWords psn user side (cond (eqb (length dc) dcSize) (wordsOf dc) []) image
+unfoldable pub encoded : ℕ → List ℕ → List ℕ → List ℕ → Bool → List ℕ → Encoded
+encoded psn user side dc first image = encodedWords psn user side (cond (eqb (length dc) dcSize) (wordsOf dc) []) first image

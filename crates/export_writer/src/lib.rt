@@ -12,13 +12,14 @@ pub fn write_image(
     psn: u32,
     side: &[u8],
     dc: &[u32],
+    first: bool,
     image: &mut [u8],
     work: &mut [u8],
 ) -> Answered
     ensures { λ r. ⌜ record { number = r .number; place = r .place; image = now (image .exit); work = now (work .exit) }
-        ≡ writing (writer.outcome (record { user = now (user .entry); psn = psn; side = now (side .entry); dc = now (dc .entry) }) (now (image .entry)) (now (work .entry))) ⌝ }
-    ensures { λ r. ⌜ WritesExactly (record { user = now (user .entry); psn = psn; side = now (side .entry); dc = now (dc .entry) }) (now (image .entry)) (now (work .entry))
+        ≡ writing (writer.outcome (record { user = now (user .entry); psn = psn; side = now (side .entry); dc = now (dc .entry); first = first }) (now (image .entry)) (now (work .entry))) ⌝ }
+    ensures { λ r. ⌜ WritesExactly (record { user = now (user .entry); psn = psn; side = now (side .entry); dc = now (dc .entry); first = first }) (now (image .entry)) (now (work .entry))
         (r .number) (now (image .exit)) (now (work .exit)) ⌝ }
 {
-    Answered::of(writer::write_image(user, Psn(psn), side, dc, image, work))
+    Answered::of(writer::write_image(user, Psn(psn), side, dc, first, image, work))
 }

@@ -1,13 +1,16 @@
 -- Demand 3, on the definition of the image. Assumes nothing.
 use mathlib.Core.Path.{_≡_, refl, sym, ap, _∙_}
 use mathlib.Core.Logic.{_↔_}
-use mathlib.Core.Bool.{Bool, false}
+use mathlib.Core.Bool.{Bool, true, false, cond, not}
 use mathlib.Core.List.{List, [], _∷_, _++_}
 use Prim.Native.Nat.{ℕ, zero, suc, _+_, _*_, _%_, _^_, _<_, _≤_}
 use native.Mathlib.Omega.{arith}
-use lib.ListN.{length, getD, take, length-append}
-use lib.Seq.{ext-getD, take-append-seam}
+use borrow.Author.Tests.{eq-eqb, ne-eqb}
+use lib.Dec.{eqb}
+use lib.ListN.{length, getD, take, drop, length-append}
+use lib.Seq.{ext-getD, take-append-seam, drop-append-le}
 use Rattle.laws.specs.Bytes.{Bytes}
+use Rattle.laws.specs.Differing.{differsAt}
 use Rattle.bits.specs.Bits.{Bits, bitsOf, packed}
 use Rattle.bits.proofs.Bits.{bits-then}
 use Rattle.bits.proofs.Pack.{bits-packed}
@@ -18,23 +21,25 @@ use Rattle.modulation.proofs.Fronts.{bits-groups}
 use Rattle.modulation.proofs.Streams.{length-stream}
 use Rattle.modulation.proofs.Limits.{long-gaps, spaced, no-seven}
 use Rattle.modulation.proofs.Unique.{unique}
+use Rattle.modulation.proofs.FirstHash.{first-bit as stream-first-bit}
 use Rattle.frame_bits.specs.FrameBits.{frameBits}
 use Rattle.frame.specs.Frame.{framePairs}
 use Rattle.frame_bits.proofs.FrameBits.{length-frame-bits, frame-bits-bits, frame-bits-inj}
 use Rattle.cluster.specs.EccCluster.{rowOf}
 use Rattle.cluster.proofs.Statements.{length-cluster, bytes-cluster, cluster-inj}
-use Rattle.image.specs.Image.{Input, IsAccepted, cluster, recording, imageBitsFrom, imageBits, image}
+use Rattle.image.specs.Image.{Input, IsAccepted, cluster, recording, imageBits, image}
 use Rattle.image.proofs.Recordings.{full}
 use Rattle.cluster.proofs.Rows.{length-row, bytes-row, rows-same}
 
 -- ---- equal images come from equal inputs
 
--- the four parts of two inputs are equal
+-- the five parts of two inputs are equal
 pub record Same (a b : Input) : Type 0 where
   pub user : a .user ≡ b .user
   pub psn : a .psn ≡ b .psn
   pub side : a .side ≡ b .side
   pub dc : a .dc ≡ b .dc
+  pub first : a .first ≡ b .first
 
 size-of : (input : Input) → IsAccepted input → length (cluster input) ≡ 76880
 size-of input is = length-cluster (input .user) (input .psn) (input .side) (is .user) (is .psn) (is .side)
@@ -65,17 +70,19 @@ same-frame a b ha hb n h e =
     even : (input : Input) → length (frameBits (row input) (dc input)) % 2 ≡ 0
     even input = ap (λ (m : ℕ). m % 2) (length-frame-bits (row input) (dc input))
 
--- DEMAND 3, first half: for two accepted inputs, whoever picked their dc words, the 958,302 bits are equal exactly when the user bytes, the
--- PSN, the side data and the dc words are; for either value of the first #
-pub images-equal : (first : Bool) (a b : Input) → IsAccepted a → IsAccepted b → (imageBitsFrom first a ≡ imageBitsFrom first b) ↔ Same a b
-unfolding imageBitsFrom
-images-equal first a b ha hb = (apart, together)
+-- DEMAND 3, first half: for two accepted inputs, whoever picked their dc words and first #, the 958,302 bits are equal exactly when the user
+-- bytes, the PSN, the side data, the dc words and the first # are
+pub images-equal : (a b : Input) → IsAccepted a → IsAccepted b → (imageBits a ≡ imageBits b) ↔ Same a b
+unfolding imageBits
+images-equal a b ha hb = (apart, together)
   where
-    same : imageBitsFrom first a ≡ imageBitsFrom first b → (n : ℕ) → n < 496 → (rowOf (cluster a) n ≡ rowOf (cluster b) n) × (getD (a .dc) n 0 ≡ getD (b .dc) n 0)
-    same e n h =
-        same-frame a b ha hb n h (unique (recording first a) (recording first b) 496 (λ k _. refl) (full first a 496) (full first b 496) e .1 n h)
+    determined : imageBits a ≡ imageBits b → (a .first ≡ b .first) × ((n : ℕ) → n < 496 → recording a .frames n ≡ recording b .frames n)
+    determined e = unique (recording a) (recording b) 496 (λ k _. refl) (full a 496) (full b 496) e
 
-    apart : imageBitsFrom first a ≡ imageBitsFrom first b → Same a b
+    same : imageBits a ≡ imageBits b → (n : ℕ) → n < 496 → (rowOf (cluster a) n ≡ rowOf (cluster b) n) × (getD (a .dc) n 0 ≡ getD (b .dc) n 0)
+    same e n h = same-frame a b ha hb n h (determined e .1 n h)
+
+    apart : imageBits a ≡ imageBits b → Same a b
     apart e =
         let parts =
         cluster-inj (a .user) (b .user) (a .side) (b .side) (a .psn) (b .psn) (ha .user) (hb .user) (ha .psn) (hb .psn) (ha .side) (hb .side) .0
@@ -85,10 +92,11 @@ images-equal first a b ha hb = (apart, together)
           psn = parts .1;
           side = parts .2;
           dc = ext-getD 0 (a .dc) (b .dc) (ha .dc .size ∙ sym (hb .dc .size)) (λ n h. same e n (omega (arith, ha .dc .size)) .1);
+          first = determined e .0;
         }
 
-    together : Same a b → imageBitsFrom first a ≡ imageBitsFrom first b
-    together s = ap (imageBitsFrom first) (λ i. record { user = s .user i; psn = s .psn i; side = s .side i; dc = s .dc i })
+    together : Same a b → imageBits a ≡ imageBits b
+    together s = ap imageBits (λ i. record { user = s .user i; psn = s .psn i; side = s .side i; dc = s .dc i; first = s .first i })
 
 -- ---- gaps
 
@@ -98,18 +106,18 @@ pub record Limits (l : List ℕ) : Type 0 where
   pub others : Spaced EndsLong l
   pub singles : NoSeven l
 
--- DEMAND 3, second half: whatever the dc words, from one frame into the next as well as inside each, the closing sync included
-pub image-limits : (first : Bool) (input : Input) → Limits (imageBitsFrom first input)
-unfolding imageBitsFrom
-image-limits first input =
-    let c = recording first input in
-    let all = full first input 496 in
+-- DEMAND 3, second half: whatever the dc words and the first #, from one frame into the next as well as inside each, the closing sync included
+pub image-limits : (input : Input) → Limits (imageBits input)
+unfolding imageBits
+image-limits input =
+    let c = recording input in
+    let all = full input 496 in
     record { long = long-gaps c 496 all; others = spaced c 496 all; singles = no-seven c 496 all }
 
 -- the image has 958,302 bits
-pub image-size : (first : Bool) (input : Input) → length (imageBitsFrom first input) ≡ 958302
-unfolding imageBitsFrom
-image-size first input = length-stream (recording first input) 496 (full first input 496)
+pub image-size : (input : Input) → length (imageBits input) ≡ 958302
+unfolding imageBits
+image-size input = length-stream (recording input) 496 (full input 496)
 
 -- ---- in bytes
 
@@ -119,7 +127,7 @@ unfolding image
 image-bits input = bits-packed (imageBits input ++ (0 ∷ 0 ∷ [])) (bits-then (imageBits input) (0 ∷ 0 ∷ []) all two) whole
   where
     all : Bits (imageBits input)
-    all = unfold imageBitsFrom in bits-groups (stream (recording false input) 496)
+    all = unfold imageBits in bits-groups (stream (recording input) 496)
 
     two : Bits (0 ∷ 0 ∷ [])
     two zero = omega arith
@@ -127,17 +135,52 @@ image-bits input = bits-packed (imageBits input ++ (0 ∷ 0 ∷ [])) (bits-then 
     two (suc (suc i)) = omega arith
 
     whole : length (imageBits input ++ (0 ∷ 0 ∷ [])) % 8 ≡ 0
-    whole = ap (λ (n : ℕ). n % 8) (length-append (imageBits input) (0 ∷ 0 ∷ []) ∙ ap (λ (n : ℕ). n + 2) (image-size false input))
+    whole = ap (λ (n : ℕ). n % 8) (length-append (imageBits input) (0 ∷ 0 ∷ []) ∙ ap (λ (n : ℕ). n + 2) (image-size input))
 
--- two accepted inputs have equal images exactly when their four parts are equal
+-- two accepted inputs have equal images exactly when their five parts are equal
 pub equal-images : (a b : Input) → IsAccepted a → IsAccepted b → (image a ≡ image b) ↔ Same a b
-equal-images a b ha hb = (λ e. images-equal false a b ha hb .0 (front e), λ s. unfold image in ap (λ (l : List ℕ). packed (l ++ (0 ∷ 0 ∷ []))) (images-equal false a b ha hb .1 s))
+equal-images a b ha hb = (λ e. images-equal a b ha hb .0 (front e), λ s. unfold image in ap (λ (l : List ℕ). packed (l ++ (0 ∷ 0 ∷ []))) (images-equal a b ha hb .1 s))
   where
     taken : (input : Input) → take 958302 (bitsOf (image input)) ≡ imageBits input
     taken input =
         ap (take 958302) (image-bits input)
-        ∙ ap (λ (n : ℕ). take n (imageBits input ++ (0 ∷ 0 ∷ []))) (sym (image-size false input))
+        ∙ ap (λ (n : ℕ). take n (imageBits input ++ (0 ∷ 0 ∷ []))) (sym (image-size input))
         ∙ take-append-seam (imageBits input) (0 ∷ 0 ∷ [])
 
     front : image a ≡ image b → imageBits a ≡ imageBits b
     front e = sym (taken a) ∙ ap (λ (l : List ℕ). take 958302 (bitsOf l)) e ∙ taken b
+
+-- ---- # of the first sync
+
+-- an input with h as its first #
+abbrev pub withFirst : Bool → Input → Input
+withFirst h input = record { user = input .user; psn = input .psn; side = input .side; dc = input .dc; first = h }
+
+-- it is the first bit, and no other bit depends on it
+pub first-bit : (h : Bool) (input : Input) → imageBits (withFirst h input) ≡ cond h 1 0 ∷ drop 1 (imageBits input)
+unfolding imageBits
+first-bit h input = stream-first-bit (recording input) h 495
+
+-- in the image's bytes, msb first, as well
+pub first-bit-packed : (h : Bool) (input : Input) → bitsOf (image (withFirst h input)) ≡ cond h 1 0 ∷ drop 1 (bitsOf (image input))
+first-bit-packed h input =
+    image-bits (withFirst h input)
+    ∙ ap (λ (l : List ℕ). l ++ (0 ∷ 0 ∷ [])) (first-bit h input)
+    ∙ ap (_∷_ (cond h 1 0)) (sym (ap (drop 1) (image-bits input) ∙ drop-append-le 1 (imageBits input) (0 ∷ 0 ∷ []) (omega (arith, image-size input))))
+
+-- lists that begin with other bits and go on alike
+one-differs : (h : Bool) (l m : List ℕ) → l ≡ cond (not h) 1 0 ∷ drop 1 m → m ≡ cond h 1 0 ∷ drop 1 m → (k : ℕ) → differsAt l m k ≡ eqb k 0
+unfolding differsAt
+one-differs h l m el em k = ap (λ (x : List ℕ). differsAt x m k) el ∙ ap (λ (x : List ℕ). differsAt (cond (not h) 1 0 ∷ drop 1 m) x k) em ∙ by h k
+  where
+    by : (h : Bool) (k : ℕ) → differsAt (cond (not h) 1 0 ∷ drop 1 m) (cond h 1 0 ∷ drop 1 m) k ≡ eqb k 0
+    by true zero = refl
+    by false zero = refl
+    by h (suc k) = ap not (eq-eqb (getD (drop 1 m) k 0) (getD (drop 1 m) k 0) refl) ∙ sym (ne-eqb (suc k) 0 (λ e. omega (arith, e)))
+
+-- HENCE: the image with the other first # differs in its first bit and in no other
+pub other-first : (input : Input) (k : ℕ) → differsAt (imageBits (withFirst (not (input .first)) input)) (imageBits input) k ≡ eqb k 0
+other-first input = one-differs (input .first) _ (imageBits input) (first-bit (not (input .first)) input) (first-bit (input .first) input)
+
+pub other-first-packed : (input : Input) (k : ℕ) → differsAt (bitsOf (image (withFirst (not (input .first)) input))) (bitsOf (image input)) k ≡ eqb k 0
+other-first-packed input = one-differs (input .first) _ (bitsOf (image input)) (first-bit-packed (not (input .first)) input) (first-bit-packed (input .first) input)

@@ -28,16 +28,16 @@ use Rattle.gaps.proofs.Neighbours.{counts-often}
 use Rattle.frame_gaps.proofs.TallyCases.{bytes-input, frame-tallied}
 use Rattle.cluster.specs.EccCluster.{rowOf}
 use Rattle.cluster.proofs.Statements.{length-cluster, bytes-cluster}
-use Rattle.image.specs.Image.{Input, IsAccepted, cluster, recording, imageBitsFrom, imageBits, image}
+use Rattle.image.specs.Image.{Input, IsAccepted, cluster, recording, imageBits, image}
 use Rattle.image.proofs.Recordings.{full}
 use Rattle.cluster.proofs.Rows.{length-row, bytes-row}
 use Rattle.image.proofs.Demand3.{image-size, image-bits}
 
 -- ---- an accepted input
 
--- zone 0's first cluster, of zeros
+-- zone 0's first cluster, of zeros, with first # ZERO
 abbrev pub zeros : Input
-zeros = record { user = tabulate 65536 (λ _. 0); psn = 0x0010_0000; side = tabulate 592 (λ _. 0); dc = tabulate 496 (λ _. 0) }
+zeros = record { user = tabulate 65536 (λ _. 0); psn = 0x0010_0000; side = tabulate 592 (λ _. 0); dc = tabulate 496 (λ _. 0); first = false }
 
 pub zeros-accepted : IsAccepted zeros
 unfolding judged
@@ -60,7 +60,7 @@ frameBitsOf input n = take 1932 (drop (1932 * n) (imageBits input))
 
 -- frame n: # and number of its sync, its row, its dc word
 abbrev pub ownHash : Input → ℕ → Bool
-ownHash input n = hash (recording false input) n
+ownHash input n = hash (recording input) n
 
 abbrev pub ownNumber : ℕ → ℕ
 ownNumber n = fsNumber (syncNumber n)
@@ -79,15 +79,15 @@ module _ (input : Input) (n : ℕ) (h : n < 496) where
   -- the bits of frame n stand in the image's bytes
   pub image-part : take 1932 (drop (1932 * n) (bitsOf (image input))) ≡ frameBitsOf input n
   image-part =
-      let size = image-size false input in
+      let size = image-size input in
       ap (λ (l : List ℕ). take 1932 (drop (1932 * n) l)) (image-bits input)
       ∙ ap (take 1932) (drop-append-le (1932 * n) (imageBits input) (0 ∷ 0 ∷ []) (omega arith))
       ∙ take-append-le 1932 (drop (1932 * n) (imageBits input)) (0 ∷ 0 ∷ []) (omega (arith, length-drop (1932 * n) (imageBits input)))
 
   -- they are the frame of its sync, row and dc word
   pub image-frame : frameBitsOf input n ≡ frame (ownHash input n) (syncNumber n) (ownRow input n) (ownDc input n)
-  unfolding frame imageBitsFrom
-  image-frame = frame-bits (recording false input) 496 n (full false input 496) h
+  unfolding frame imageBits
+  image-frame = frame-bits (recording input) 496 n (full input 496) h
 
   module _ (is : IsAccepted input) where
     row-size : length (ownRow input n) ≡ 155

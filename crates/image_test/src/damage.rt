@@ -37,4 +37,10 @@ pub fn refuse(whole: [u8; 119788], file: [u8; 53135]) {
     refuse_each(&whole, &file, &mut image);
     io::write_all(1, b"reading refused\n");
     reading::refuse_slices(&whole);
+    io::write_all(1, b"reading refused, first # ONE\n");
+    let mut one = whole;
+    compare::flip(&mut one, 0, 128);
+    reading::refuse_slices(&one);
+    compare::flip(&mut one, 119787, 1);
+    reading::refuse_image(&one);
 }

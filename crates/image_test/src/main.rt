@@ -4,11 +4,12 @@ mod reading;
 mod writing;
 
 use test_clusters::cut;
+use test_support::compare;
 use test_support::lines;
 
 // A cluster of files, written.
-fn write(psn: u32, given: test_clusters::Cluster) {
-    let made = writing::write(b"  written ", psn, given, test_clusters::marked());
+fn write(psn: u32, first: bool, given: test_clusters::Cluster) {
+    let made = writing::write(b"  written ", psn, first, given, test_clusters::marked());
     let x = made.image;
     let y = given.image;
     test_clusters::compare_images(x, y);
@@ -18,22 +19,35 @@ fn write(psn: u32, given: test_clusters::Cluster) {
 }
 
 // Its image read.
-fn read(psn: u32, given: test_clusters::Cluster) {
+fn read(psn: u32, first: bool, given: test_clusters::Cluster) {
     let image = given.image;
-    let read = reading::read(psn, image, test_clusters::marked());
+    let read = reading::read(psn, first, image, test_clusters::marked());
     test_clusters::compare_inputs(read, given);
     let x = read.work;
     let y = given.work;
     test_clusters::compare_works(x, y);
 }
 
+// The image with first # ONE: the first bit is changed, and nothing else.
+fn with_one(given: test_clusters::Cluster) -> test_clusters::Cluster {
+    let mut image = given.image;
+    compare::flip(&mut image, 0, 128);
+    let mut out = given;
+    out.image = image;
+    out
+}
+
+// With first # ZERO, as the files have it, and with ONE.
 fn both_ways(k: usize, psn: u32) {
     let name = cut::line(b"zero\nzone0\nzone1\nzone2\nones", k);
     io::write_all(1, name);
     lines::end_line();
     let given = test_clusters::load(name, test_clusters::marked());
-    write(psn, given);
-    read(psn, given);
+    write(psn, false, given);
+    read(psn, false, given);
+    io::write_all(1, b"first # ONE\n");
+    write(psn, true, with_one(given));
+    read(psn, true, with_one(given));
 }
 
 fn files() {
@@ -53,23 +67,23 @@ fn images_refused() {
 }
 
 // A cluster drawn from a seed, written and read, and what was read written again.
-fn trip(psn: u32, seed: u64) {
+fn trip(psn: u32, first: bool, seed: u64) {
     let blank = test_clusters::marked();
     let given = test_clusters::draw(seed, blank);
-    let made = writing::write(b"  written ", psn, given, blank);
+    let made = writing::write(b"  written ", psn, first, given, blank);
     let image = made.image;
-    let read = reading::read(psn, image, blank);
+    let read = reading::read(psn, first, image, blank);
     test_clusters::compare_inputs(read, given);
-    let again = writing::write(b"  written again ", psn, read, blank);
+    let again = writing::write(b"  written again ", psn, first, read, blank);
     let other = again.image;
     test_clusters::compare_images(other, image);
 }
 
 fn round_trips() {
     io::write_all(1, b"round trips\n");
-    trip(0x0108_9BE0, 1);
-    trip(0x03EF_FFE0, 2);
-    trip(0x0410_0000, 3);
+    trip(0x0108_9BE0, false, 1);
+    trip(0x03EF_FFE0, true, 2);
+    trip(0x0410_0000, false, 3);
 }
 
 fn inputs_refused() {

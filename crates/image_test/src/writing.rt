@@ -10,13 +10,13 @@ ghost use mathlib.Core.Path.{_≡_};
 ghost use lib.ListN.{length};
 
 // Writes the image of a cluster into marked slices, and says the answer.
-pub fn write(text: &[u8], psn: u32, from: Cluster, blank: Cluster) -> Cluster {
+pub fn write(text: &[u8], psn: u32, first: bool, from: Cluster, blank: Cluster) -> Cluster {
     let user = from.user;
     let side = from.side;
     let dc = from.dc;
     let mut image = blank.image;
     let mut work = blank.work;
-    let answer = writer::write_image(&user, Psn(psn), &side, &dc, &mut image, &mut work);
+    let answer = writer::write_image(&user, Psn(psn), &side, &dc, first, &mut image, &mut work);
     lines::answer_line(text, answer);
     Cluster {
         user,
@@ -56,6 +56,7 @@ fn refuse(psn: u32, first: usize, user: usize, side: usize, dc: usize, image: us
         Psn(psn),
         compare::part(&sides, 0, side),
         cut::part_words(&words, dc),
+        true,
         compare::first(&mut images, image),
         compare::first(&mut works, work),
     );

@@ -1,6 +1,6 @@
 -- The frames, the sync that follows them and two zero bits are the image. Assumes nothing.
 use mathlib.Core.Path.{_≡_, refl, sym, ap, _∙_}
-use mathlib.Core.Bool.{Bool, false}
+use mathlib.Core.Bool.{Bool}
 use mathlib.Core.List.{List, [], _∷_, _++_, append-assoc}
 use Prim.Native.Nat.{ℕ, _+_, _*_, _%_}
 use native.Mathlib.Omega.{arith}
@@ -22,14 +22,14 @@ use Rattle.cluster.specs.EccCluster.{eccCluster}
 use Rattle.recording.specs.Recording.{recordingOf}
 use Rattle.recording_writer.specs.steps.Written.{FramesWritten}
 use Rattle.recording.proofs.Frames.{full-of}
-use Rattle.image.specs.Image.{Input, cluster, imageBitsFrom, image}
+use Rattle.image.specs.Image.{Input, cluster, imageBits, image}
 use Rattle.image_writer.specs.steps.Written.{ImageWritten, Filled}
 
 -- the frames, the sync that follows the last, and two zero bits
-pub image-done : (work dc before now synced third fourth : List ℕ) (hash : Bool) → length before ≡ 119788 → FramesWritten false work dc before 0 496 now hash
+pub image-done : (first : Bool) (work dc before now synced third fourth : List ℕ) (hash : Bool) → length before ≡ 119788 → FramesWritten first work dc before 0 496 now hash
     → SyncWritten (fs 0) hash now 958272 synced → bitsOf third ≡ set (bitsOf synced) 958302 (0 % 2) → bitsOf fourth ≡ set (bitsOf third) 958303 (0 % 2)
-    → ImageWritten work dc fourth
-image-done work dc before now synced third fourth hash size w s e f =
+    → ImageWritten first work dc fourth
+image-done first work dc before now synced third fourth hash size w s e f =
     record {
       whole =
           f
@@ -44,7 +44,7 @@ image-done work dc before now synced third fourth hash size w s e f =
     }
   where
     c : Stream.Recording
-    c = recordingOf false work dc
+    c = recordingOf first work dc
 
     frames : List ℕ
     frames = bits (Stream.run c 496)
@@ -56,7 +56,7 @@ image-done work dc before now synced third fourth hash size w s e f =
     zeros = 0 ∷ 0 ∷ []
 
     frames-long : length frames ≡ 958272
-    frames-long = length-run-bits c 496 (full-of false work dc 496)
+    frames-long = length-run-bits c 496 (full-of first work dc 496)
 
     closing-long : length closing ≡ 30
     closing-long = length-bits (sync hash (fs 0)) ∙ ap (λ (k : ℕ). 3 * k) (length-sync hash (fs 0))
@@ -80,10 +80,10 @@ image-done work dc before now synced third fourth hash size w s e f =
 
 -- ---- the bytes
 
-pub image-is : (input : Input) (work after : List ℕ) → Bytes after → work ≡ cluster input → ImageWritten work (input .dc) after → after ≡ image input
-unfolding image imageBitsFrom
+pub image-is : (input : Input) (work after : List ℕ) → Bytes after → work ≡ cluster input → ImageWritten (input .first) work (input .dc) after → after ≡ image input
+unfolding image imageBits
 image-is input work after bytes e w =
-    sym (packed-bits after bytes) ∙ ap packed (w .whole ∙ ap (λ (l : List ℕ). bits (Stream.stream (recordingOf false l (input .dc)) 496) ++ (0 ∷ 0 ∷ [])) e)
+    sym (packed-bits after bytes) ∙ ap packed (w .whole ∙ ap (λ (l : List ℕ). bits (Stream.stream (recordingOf (input .first) l (input .dc)) 496) ++ (0 ∷ 0 ∷ [])) e)
 
-pub filled : (input : Input) (work after : List ℕ) → Bytes after → work ≡ eccCluster (input .user) (input .psn) (input .side) → ImageWritten work (input .dc) after → Filled input after work
+pub filled : (input : Input) (work after : List ℕ) → Bytes after → work ≡ eccCluster (input .user) (input .psn) (input .side) → ImageWritten (input .first) work (input .dc) after → Filled input after work
 filled input work after bytes e w = record { image-is = image-is input work after bytes e w; work-is = e }

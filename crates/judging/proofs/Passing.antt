@@ -1,6 +1,5 @@
 -- What it means that tests are passed: 10 and 11 by a recording, 12 to 16 by an ECC cluster. Assumes nothing.
 use mathlib.Core.Path.{_≡_, refl, ap, _∙_}
-use mathlib.Core.Bool.{Bool}
 use mathlib.Core.List.{List}
 use Prim.Native.Nat.{ℕ}
 use native.Mathlib.Omega.{arith}
@@ -20,8 +19,8 @@ use Rattle.judging.specs.Tests.{syncsAnswer, framesAnswer, bisColumnsAns
 
 -- ---- 10 and 11: no sync and no frame is wrong
 
-module _ (first : Bool) (b : List ℕ) where
-  pub syncs-passed : firstWrongSync first b ≡ 497 → syncsAnswer first b ≡ Done
+module _ (b : List ℕ) where
+  pub syncs-passed : firstWrongSync b ≡ 497 → syncsAnswer b ≡ Done
   unfolding syncsAnswer
   syncs-passed e = lowest-end Sync e
 
@@ -29,7 +28,7 @@ module _ (first : Bool) (b : List ℕ) where
   unfolding framesAnswer
   frames-passed e = lowest-end Frame e
 
-  pub recording-passes : syncsAnswer first b ≡ Done → framesAnswer b ≡ Done → Passes first b
+  pub recording-passes : syncsAnswer b ≡ Done → framesAnswer b ≡ Done → Passes b
   unfolding syncsAnswer framesAnswer
   recording-passes syncs frames = record { syncs = lowest-done Sync (λ k. refl) syncs; frames = lowest-done Frame (λ k. refl) frames }
 

@@ -1,5 +1,5 @@
 -- Document 01's tests 9 to 16, each as an answer: `Done`, or the refusal with the lowest place that fails.
-use mathlib.Core.Bool.{Bool, _&&_, cond}
+use mathlib.Core.Bool.{_&&_, cond}
 use mathlib.Core.List.{List}
 use Prim.Native.Nat.{ℕ, _+_}
 use lib.Dec.{eqb}
@@ -24,9 +24,9 @@ lastBitsAnswer b = cond (eqb (getD b (recordingSize + 30) 0) 0 && eqb (getD b (r
 
 -- ---- in the bits b of a recording, from its first on
 
--- 10: the syncs; # of frame 0 is to be the one given
-unfoldable pub syncsAnswer : Bool → List ℕ → Answer
-syncsAnswer first b = lowest Sync 497 (firstWrongSync first b)
+-- 10: the syncs, of which # is not judged
+unfoldable pub syncsAnswer : List ℕ → Answer
+syncsAnswer b = lowest Sync 497 (firstWrongSync b)
 
 -- 11: the frames
 unfoldable pub framesAnswer : List ℕ → Answer

@@ -38,12 +38,12 @@ pub fn last_bits(image: &[u8]) -> Answer
     Answer::Done
 }
 
-// 10: the syncs of a recording from bit `at` on; # of frame 0 is to be `first`.
-pub fn syncs(image: &[u8], at: usize, first: bool) -> Answer
+// 10: the syncs of a recording from bit `at` on.
+pub fn syncs(image: &[u8], at: usize) -> Answer
     requires { ⌜ Within (now image) at ⌝ }
-    ensures { λ r. ⌜ r ≡ syncsAnswer first (drop at (bitsOf (now (image .entry)))) ⌝ }
+    ensures { λ r. ⌜ r ≡ syncsAnswer (drop at (bitsOf (now (image .entry)))) ⌝ }
 {
-    let sync = recording_syncs::steps::first_wrong_sync(image, at, first);
+    let sync = recording_syncs::steps::first_wrong_sync(image, at);
     lowest(sync, 497, Answer::Sync(sync))
 }
 

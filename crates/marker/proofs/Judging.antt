@@ -10,7 +10,7 @@ use Rattle.answer.specs.Answer.{isDone, andThen}
 use Rattle.lengths.specs.Lengths.{sized}
 use Rattle.answer.proofs.Tests.{done-is, done-told, then-done}
 use Rattle.lengths.proofs.RightLengths.{sized-done, lengths-done}
-use Rattle.reader.specs.Outcome.{Lent, Outcome, imageOutcome, sizesAnswer, outcome}
+use Rattle.reader.specs.Outcome.{Lent, Outcome, imageOutcome, sizesAnswer, wrongSizes, outcome}
 use Rattle.reader.specs.Promise.{RightSlices}
 use Rattle.bits.specs.Bits.{bitsOf}
 use Rattle.verdict.specs.declared.Verdict.{Verdict}
@@ -26,9 +26,9 @@ module _ (user side : ℕ) where
       let both = then-done (sized user 65536 (WrongUser 0)) (sized side 592 WrongSide) e in
       (sized-done (WrongUser 0) refl (both .0), sized-done WrongSide refl (both .1))
 
--- ---- as the code has it: a, p and l are what the reader answered and left, d whether a is `Done`
+-- ---- as the code has it: a, p, h and l are what the reader answered and left, d whether a is `Done`
 
-module _ (psn : ℕ) (user side : List ℕ) (o : Outcome) (a : Answer) (p : ℕ) (l : Lent) (d : Bool) (e : record { answer = a; psn = p; lent = l } ≡ o) (hd : d ≡ isDone a) where
+module _ (psn : ℕ) (user side : List ℕ) (o : Outcome) (a : Answer) (p : ℕ) (h : Bool) (l : Lent) (d : Bool) (e : record { answer = a; psn = p; first = h; lent = l } ≡ o) (hd : d ≡ isDone a) where
   pub is-compared : (v : Verdict) → d ≡ true → v ≡ compared psn user side p (l .user) (l .side) → record { verdict = v; lent = l } ≡ markedRead psn user side o
   is-compared v t h =
       let done : isDone a ≡ true = sym hd ∙ t in
@@ -48,9 +48,9 @@ read-sizes image before e = lengths-done _ _ _ _ _ (by (isDone (sizesAnswer imag
   where
     by : (t : Bool) → isDone (sizesAnswer image before) ≡ t → outcome image before .answer ≡ Done → sizesAnswer image before ≡ Done
     by true s e = done-is (sizesAnswer image before) s
-    by false s e = sym (ap (λ (t : Bool). cond t (imageOutcome (bitsOf image) before) (record { answer = sizesAnswer image before; psn = 0; lent = before }) .answer) s) ∙ e
+    by false s e = sym (ap (λ (t : Bool). cond t (imageOutcome (bitsOf image) before) (wrongSizes (sizesAnswer image before) before) .answer) s) ∙ e
 
-pub sizes : (image : List ℕ) (before : Lent) {a : Answer} {p : ℕ} (l : Lent) {d : Bool} → record { answer = a; psn = p; lent = l } ≡ outcome image before → d ≡ isDone a → d ≡ true
+pub sizes : (image : List ℕ) (before : Lent) {a : Answer} {p : ℕ} {h : Bool} (l : Lent) {d : Bool} → record { answer = a; psn = p; first = h; lent = l } ≡ outcome image before → d ≡ isDone a → d ≡ true
     → RightSlices before × (length image ≡ 119788)
 sizes image before l e hd t = read-sizes image before (done-told (ap (λ (o : Outcome). o .answer) e) hd t)
 

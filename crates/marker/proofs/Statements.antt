@@ -1,4 +1,4 @@
--- What a pass says: some dc words make an accepted input whose image this is. From what is promised of the reader. Assumes nothing.
+-- What a pass says: some dc words and some first # make an accepted input whose image this is. From what is promised of the reader. Assumes nothing.
 use mathlib.Core.Path.{_≡_, refl, sym, ap, subst, _∙_}
 use mathlib.Core.Logic.{_↔_}
 use mathlib.Core.Bool.{Bool, true, false, cond}
@@ -95,15 +95,15 @@ module _ (psn : ℕ) (user side image : List ℕ) (before : Lent) where
       let made = nothing-else image before bytes (ap numberOf (pass .0)) in
       let user-is : user ≡ read .lent .user = no-other 65536 user (read .lent .user) (lengths .0) (made .0 .user .size) (same .user-same) in
       let side-is : side ≡ read .lent .side = no-other 592 side (read .lent .side) (lengths .1) (made .0 .side .size) (same .side-same) in
-      let is : returned read ≡ record { user = user; psn = psn; side = side; dc = read .lent .dc } =
-      λ i. record { user = sym user-is i; psn = same .psn-same i; side = sym side-is i; dc = read .lent .dc } in
-      record { dc = read .lent .dc; accepted = subst IsAccepted is (made .0); image-is = made .1 ∙ ap Image.image is }
+      let is : returned read ≡ record { user = user; psn = psn; side = side; dc = read .lent .dc; first = read .first } =
+      λ i. record { user = sym user-is i; psn = same .psn-same i; side = sym side-is i; dc = read .lent .dc; first = read .first } in
+      record { dc = read .lent .dc; first = read .first; accepted = subst IsAccepted is (made .0); image-is = made .1 ∙ ap Image.image is }
 
   -- and every image of what is given passes
   passing : RightSlices before → IsImageOf psn user side image → marked psn user side image before .verdict ≡ Pass
   unfolding marked
   passing f is =
-      let input : Input = record { user = user; psn = psn; side = side; dc = is .dc } in
+      let input : Input = record { user = user; psn = psn; side = side; dc = is .dc; first = is .first } in
       let back = ap (λ (l : List ℕ). outcome l before) (is .image-is) ∙ read-back input (is .accepted) before f in
       let right : given ≡ Done =
       then-both (sized (length user) 65536 (WrongUser 0)) (sized (length side) 592 WrongSide) (sized-right (WrongUser 0) (is .accepted .user .size))
@@ -112,7 +112,7 @@ module _ (psn : ℕ) (user side image : List ℕ) (before : Lent) where
       ∙ ap (verdictOf psn user side) back
       ∙ sym (all-same psn user side psn user side _ _ refl refl (same-none 65536 user) refl (same-none 592 side))
 
-  -- PASS IF AND ONLY IF some dc words make an accepted input whose image this is
+  -- PASS IF AND ONLY IF some dc words and some first # make an accepted input whose image this is
   pub pass-iff : Bytes image → RightSlices before → (marked psn user side image before .verdict ≡ Pass) ↔ IsImageOf psn user side image
   pass-iff bytes f = (passed bytes, passing f)
 

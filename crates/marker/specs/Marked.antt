@@ -1,6 +1,6 @@
 -- The marker's verdict on an image, and what it leaves in the slices that it is lent.
 use mathlib.Core.Path.{_≡_}
-use mathlib.Core.Bool.{cond}
+use mathlib.Core.Bool.{Bool, cond}
 use mathlib.Core.List.{List}
 use Prim.Native.Nat.{ℕ}
 use lib.ListN.{length}
@@ -16,11 +16,12 @@ use Rattle.sizes.specs.Sizes.{sideSize, userSize}
 
 -- ---- what a pass says
 
--- some dc words make an accepted input whose image this is
+-- some dc words and some first # make an accepted input whose image this is: 13.17.3 and 14.2.2.4 leave both to the recorder
 pub record IsImageOf (psn : ℕ) (user side image : List ℕ) : Type 0 where
   pub dc : List ℕ
-  pub accepted : Image.IsAccepted (record { user = user; psn = psn; side = side; dc = dc })
-  pub image-is : image ≡ Image.image (record { user = user; psn = psn; side = side; dc = dc })
+  pub first : Bool
+  pub accepted : Image.IsAccepted (record { user = user; psn = psn; side = side; dc = dc; first = first })
+  pub image-is : image ≡ Image.image (record { user = user; psn = psn; side = side; dc = dc; first = first })
 
 -- ---- the verdict, test by test
 

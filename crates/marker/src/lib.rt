@@ -1,4 +1,4 @@
-// The marker's verdict: whether an image is that of these user bytes, this side data and this PSN under some dc-control bits.
+// The marker's verdict: whether an image is that of these user bytes, this side data and this PSN under some dc-control bits and some first #.
 use address::Psn;
 use answer::Answer;
 use verdict::Verdict;

@@ -106,13 +106,13 @@ fn words_of(word: u32) -> [u32; 496] {
     [word; 496]
 }
 
-// With the image under these dc words.
-fn with_image(given: Given, dc: [u32; 496]) -> Given {
+// With the image under these dc words and this first #.
+fn with_image(given: Given, dc: [u32; 496], first: bool) -> Given {
     let user = given.user;
     let side = given.side;
     let mut image = given.image;
     let mut work = lent::work();
-    writer::write_image(&user, Psn(given.psn), &side, &dc, &mut image, &mut work);
+    writer::write_image(&user, Psn(given.psn), &side, &dc, first, &mut image, &mut work);
     let mut out = given;
     out.image = image;
     out
@@ -137,9 +137,11 @@ fn other_parts(given: Given) -> Given {
 
 fn images(given: Given) -> Given {
     verdict(b"zeros: ", given);
-    let ones = with_image(given, words_of(0x0FFF_FFFF));
+    let ones = with_image(given, words_of(0x0FFF_FFFF), false);
     verdict(b"dc words all ones: ", ones);
-    let zeros = with_image(given, words_of(0));
+    let hash = with_image(given, words_of(0x0FFF_FFFF), true);
+    verdict(b"and first # ONE: ", hash);
+    let zeros = with_image(given, words_of(0), false);
     verdict(b"dc words zero: ", zeros);
     zeros
 }

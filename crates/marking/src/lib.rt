@@ -7,7 +7,7 @@ ghost use Rattle.texts.specs.Text.{the, textOf};
 ghost use Rattle.marker.specs.Marked.{IsImageOf};
 ghost use Rattle.marking.specs.Marking.{markText};
 
-// Whether an image is that of these user bytes, this side data and this PSN under some dc words.
+// Whether an image is that of these user bytes, this side data and this PSN under some dc words and some first #.
 pub fn mark(psn: Psn, user: &[u8], side: &[u8], image: &[u8]) -> Text
     ensures { λ r. ⌜ r ≡ textOf (markText (psn .0) (now (user .entry)) (now (side .entry)) (now (image .entry))) ⌝ }
     ensures { λ r. ⌜ ((r ≡ textOf (the "pass\n")) ↔ IsImageOf (psn .0) (now (user .entry)) (now (side .entry)) (now (image .entry))) ⌝ }

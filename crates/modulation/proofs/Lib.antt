@@ -12,6 +12,7 @@ pub mod Spacing
 pub mod Streams
 pub mod Limits
 pub mod Unique
+pub mod FirstHash
 pub mod Syncs
 pub mod Groups
 pub mod Statements

@@ -1,3 +1,4 @@
--- PSNs and dc words, as arguments and files have them.
+-- PSNs, the first # and dc words, as arguments and files have them.
 pub mod Psn
+pub mod First
 pub mod Words

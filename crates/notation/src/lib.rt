@@ -1,4 +1,4 @@
-// How the programs' arguments and files write a PSN and the dc words.
+// How the programs' arguments and files write a PSN, the first # and the dc words.
 use address::Psn;
 use big_endian::steps::word_at;
 use big_endian::word_bytes;
@@ -6,12 +6,19 @@ ghost use mathlib.Core.Path.{_≡_};
 ghost use Prim.Native.Nat.{_≤_};
 ghost use Rattle.sizes.specs.Sizes.{frameCount};
 ghost use Rattle.notation.specs.Psn.{digitOf, psnOf};
+ghost use Rattle.notation.specs.First.{firstOf};
 ghost use Rattle.notation.specs.Words.{wordCount, wordsRead, bytesRead};
 
 // A PSN, or a text that is not eight hexadecimal digits. Document 01 has no number for it.
 pub enum PsnText {
     Number(Psn),
     NoNumber,
+}
+
+// The first #, or a text that is neither 0 nor 1.
+pub enum FirstText {
+    Hash(bool),
+    NoHash,
 }
 
 // The value of a hexadecimal digit, 16 for any other byte.
@@ -44,6 +51,22 @@ pub fn psn_of(text: &[u8]) -> PsnText
         k += 1;
     }
     PsnText::Number(Psn(value))
+}
+
+// 0 for ZERO, 1 for ONE.
+pub fn first_of(text: &[u8]) -> FirstText
+    ensures { λ r. ⌜ r ≡ firstOf (now (text .entry)) ⌝ }
+{
+    if text.len() != 1 {
+        return FirstText::NoHash;
+    }
+    if text[0] == b'0' {
+        return FirstText::Hash(false);
+    }
+    if text[0] == b'1' {
+        return FirstText::Hash(true);
+    }
+    FirstText::NoHash
 }
 
 // How many dc words so many bytes hold: 496 are 1,984 bytes, and no other number holds any.

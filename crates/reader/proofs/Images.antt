@@ -22,10 +22,10 @@ use Rattle.cluster.specs.EccCluster.{eccCluster}
 use Rattle.cluster.specs.Reading.{Reads}
 use Rattle.cluster.proofs.Statements as Cluster
 use Rattle.recording.specs.Recording.{recordingOf}
-use Rattle.recording.specs.Reading.{clusterIn, dcIn}
+use Rattle.recording.specs.Reading.{firstHash, clusterIn, dcIn}
 use Rattle.recording.proofs.Accepting.{Passes, stream-there}
 use Rattle.recording.proofs.Back as Back
-use Rattle.image.specs.Image.{Input, IsAccepted, cluster, imageBitsFrom, imageBits, image}
+use Rattle.image.specs.Image.{Input, IsAccepted, cluster, imageBits, image}
 use Rattle.image.proofs.Demand3.{image-bits, image-size}
 use Rattle.judging.specs.Tests.{lastBitsAnswer, syncsAnswer, framesAnswer, bisColumnsAnswer, addressFieldsAnswer, psnAnswer, ldcColumnsAnswer}
 use Rattle.judging.proofs.Passing.{syncs-passed, frames-passed, recording-passes, ClusterPasses, reads-passes}
@@ -35,7 +35,7 @@ use Rattle.reader.specs.Outcome.{imageAnswer}
 
 pub record ImagePasses (b : List ℕ) : Type 0 where
   pub last : lastBitsAnswer b ≡ Done
-  pub syncs : syncsAnswer false b ≡ Done
+  pub syncs : syncsAnswer b ≡ Done
   pub frames : framesAnswer b ≡ Done
   pub cluster : ClusterPasses (clusterIn b)
 
@@ -57,7 +57,7 @@ module _ (b : List ℕ) where
   done-passes e =
       let work = clusterIn b in
       let nine = then-done (lastBitsAnswer b) _ e in
-      let ten = then-done (syncsAnswer false b) _ (nine .1) in
+      let ten = then-done (syncsAnswer b) _ (nine .1) in
       let eleven = then-done (framesAnswer b) _ (ten .1) in
       let twelve = then-done (bisColumnsAnswer (bisIn work)) _ (eleven .1) in
       let thirteen = then-done (addressFieldsAnswer (bisIn work)) _ (twelve .1) in
@@ -88,14 +88,14 @@ module _ (input : Input) (is : IsAccepted input) where
         small = λ n h. omega (arith, is .dc .small n h);
       }
 
-  bits-are : b ≡ bits (stream (recordingOf false (cluster input) (input .dc)) 496) ++ end
-  unfolding imageBitsFrom
+  bits-are : b ≡ bits (stream (recordingOf (input .first) (cluster input) (input .dc)) 496) ++ end
+  unfolding imageBits
   bits-are = image-bits input
 
   last-bit : (k : ℕ) → getD b (958302 + k) 0 ≡ getD end k 0
   last-bit k =
       ap (λ (l : List ℕ). getD l (958302 + k) 0) (image-bits input)
-      ∙ ap (λ (n : ℕ). getD (imageBits input ++ end) (n + k) 0) (sym (image-size false input))
+      ∙ ap (λ (n : ℕ). getD (imageBits input ++ end) (n + k) 0) (sym (image-size input))
       ∙ getD-append-add (imageBits input) end k 0
 
   last-passed : lastBitsAnswer b ≡ Done
@@ -103,10 +103,13 @@ module _ (input : Input) (is : IsAccepted input) where
   last-passed = ap₂ (λ (x y : ℕ). cond (eqb x 0 && eqb y 0) Done LastBits) (last-bit 0) (last-bit 1)
 
   pub cluster-back : clusterIn b ≡ cluster input
-  cluster-back = Back.cluster-there false (cluster input) (input .dc) b end recordable bits-are
+  cluster-back = Back.cluster-there (input .first) (cluster input) (input .dc) b end recordable bits-are
 
   pub dc-back : dcIn b ≡ input .dc
-  dc-back = Back.dc-there false (cluster input) (input .dc) b end recordable bits-are
+  dc-back = Back.dc-there (input .first) (cluster input) (input .dc) b end recordable bits-are
+
+  pub first-back : firstHash b ≡ input .first
+  first-back = Back.first-there (input .first) (cluster input) (input .dc) b end recordable bits-are
 
   pub reads : Reads (clusterIn b) (input .user) (input .psn) (input .side)
   reads =
@@ -118,16 +121,16 @@ module _ (input : Input) (is : IsAccepted input) where
       passes-done b
       (record {
         last = last-passed;
-        syncs = syncs-passed false b (Back.right-syncs false (cluster input) (input .dc) b end recordable bits-are);
-        frames = frames-passed false b (Back.all-frames false (cluster input) (input .dc) b end recordable bits-are);
+        syncs = syncs-passed b (Back.right-syncs (input .first) (cluster input) (input .dc) b end recordable bits-are);
+        frames = frames-passed b (Back.all-frames (input .first) (cluster input) (input .dc) b end recordable bits-are);
         cluster = reads-passes (clusterIn b) (input .user) (input .side) (input .psn) reads;
       })
 
 -- ---- an image that passes
 
 module _ (b : List ℕ) (size : length b ≡ 958304) (passes : ImagePasses b) where
-  pub recording-there : Passes false b
-  recording-there = recording-passes false b (passes .syncs) (passes .frames)
+  pub recording-there : Passes b
+  recording-there = recording-passes b (passes .syncs) (passes .frames)
 
   end-there : drop 958302 b ≡ 0 ∷ 0 ∷ []
   unfolding lastBitsAnswer
@@ -142,15 +145,15 @@ module _ (b : List ℕ) (size : length b ≡ 958304) (passes : ImagePasses b) wh
       zeros true e = refl
       zeros false e = absurd (done-not LastBits refl e)
 
-  bits-there : b ≡ bits (stream (recordingOf false (clusterIn b) (dcIn b)) 496) ++ (0 ∷ 0 ∷ [])
-  bits-there = sym (take-append-drop 958302 b) ∙ ap₂ _++_ (stream-there false b recording-there) end-there
+  bits-there : b ≡ bits (stream (recordingOf (firstHash b) (clusterIn b) (dcIn b)) 496) ++ (0 ∷ 0 ∷ [])
+  bits-there = sym (take-append-drop 958302 b) ∙ ap₂ _++_ (stream-there b recording-there) end-there
 
 -- in bytes
 pub image-there : (l user side : List ℕ) (psn : ℕ) → Bytes l → length l ≡ 119788 → ImagePasses (bitsOf l) → clusterIn (bitsOf l) ≡ eccCluster user psn side
-    → l ≡ image (record { user = user; psn = psn; side = side; dc = dcIn (bitsOf l) })
-unfolding image imageBitsFrom
+    → l ≡ image (record { user = user; psn = psn; side = side; dc = dcIn (bitsOf l); first = firstHash (bitsOf l) })
+unfolding image imageBits
 image-there l user side psn bytes size passes e =
     sym (packed-bits l bytes)
     ∙ ap packed
     (bits-there (bitsOf l) (B.length-bits l ∙ ap (λ (n : ℕ). 8 * n) size) passes
-    ∙ ap (λ (w : List ℕ). bits (stream (recordingOf false w (dcIn (bitsOf l))) 496) ++ (0 ∷ 0 ∷ [])) e)
+    ∙ ap (λ (w : List ℕ). bits (stream (recordingOf (firstHash (bitsOf l)) w (dcIn (bitsOf l))) 496) ++ (0 ∷ 0 ∷ [])) e)

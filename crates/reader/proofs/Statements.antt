@@ -23,28 +23,28 @@ use Rattle.bis.specs.Reading as Bis
 use Rattle.cluster.specs.Multiplex.{bisIn}
 use Rattle.cluster.specs.Reading.{firstWrongWord, firstWrongSector, userIn}
 use Rattle.cluster.proofs.Statements as Cluster
-use Rattle.recording.specs.Reading.{firstWrongSync, firstNoFrame, clusterIn, dcIn}
+use Rattle.recording.specs.Reading.{firstWrongSync, firstNoFrame, firstHash, clusterIn, dcIn}
 use Rattle.recording.proofs.Accepting.{Passes, length-work, bytes-work, length-dc, dc-small}
 use Rattle.image.specs.Image.{Input, IsAccepted, cluster, imageBits, image}
 use Rattle.image.proofs.Demand3.{image-bits, image-size}
 use Rattle.image.proofs.Statements.{zeros, zeros-accepted}
 use Rattle.judging.specs.Tests.{lastBitsAnswer, syncsAnswer, framesAnswer, bisColumnsAnswer, addressFieldsAnswer, foundAnswer, psnAnswer, clusterPsn, ldcColumnsAnswer, sectorsAnswer}
 use Rattle.judging.proofs.Passing.{read-psn, passes-reads}
-use Rattle.strict_cluster.specs.Outcome.{accepted, cleared}
-use Rattle.reader.specs.Outcome.{Lent, Outcome, imageAnswer, imageOutcome, sizesAnswer, outcome}
+use Rattle.strict_cluster.specs.Outcome.{accepted, cleared, outcomeBy}
+use Rattle.reader.specs.Outcome.{Lent, Outcome, imageAnswer, withFirst, imageOutcome, sizesAnswer, wrongSizes, outcome}
 use Rattle.reader.specs.Promise.{RightSlices, asInput, ReadsExactly}
-use Rattle.reader.proofs.Images.{ImagePasses, done-passes, cluster-back, dc-back, reads, image-done, recording-there, image-there}
+use Rattle.reader.proofs.Images.{ImagePasses, done-passes, cluster-back, dc-back, first-back, reads, image-done, recording-there, image-there}
 
 length-image : (input : Input) → length (image input) ≡ 119788
-length-image input = omega (arith, B.length-bits (image input), ap (length {A = ℕ}) (image-bits input), length-append (imageBits input) (0 ∷ 0 ∷ []), image-size false input)
+length-image input = omega (arith, B.length-bits (image input), ap (length {A = ℕ}) (image-bits input), length-append (imageBits input) (0 ∷ 0 ∷ []), image-size input)
 
 -- what is returned, as an input
 abbrev pub returned : Outcome → Input
-returned o = asInput (o .psn) (o .lent)
+returned o = asInput (o .psn) (o .first) (o .lent)
 
 -- what reading gives of an input: number and place are 0, exactly the input comes back, work is its ECC cluster
 abbrev pub given : Input → Outcome
-given input = record { answer = Done; psn = input .psn; lent = record { user = input .user; side = input .side; dc = input .dc; work = cluster input } }
+given input = record { answer = Done; psn = input .psn; first = input .first; lent = record { user = input .user; side = input .side; dc = input .dc; work = cluster input } }
 
 -- ---- READING A WRITTEN IMAGE: the answer is 0, 0, and exactly the input comes back, work its ECC cluster
 
@@ -52,20 +52,20 @@ module _ (input : Input) (is : IsAccepted input) where
   abbrev b : List ℕ
   b = bitsOf (image input)
 
-  is-input : accepted (clusterIn b) (dcIn b) ≡ given input
+  is-input : withFirst (firstHash b) (accepted (clusterIn b) (dcIn b)) ≡ given input
   is-input =
       let read = reads input is in
       let psn = read-psn (clusterIn b) (input .user) (input .side) (input .psn) read in
       let user = ap (λ (p : ℕ). userIn (scramblingOf p) (clusterIn b)) psn ∙ read .has-user in
-      λ i. record { answer = Done; psn = psn i; lent = record { user = user i; side = (read .bis .has-side) i; dc = dc-back input is i; work = cluster-back input is i } }
+      λ i. record { answer = Done; psn = psn i; first = first-back input is i; lent = record { user = user i; side = (read .bis .has-side) i; dc = dc-back input is i; work = cluster-back input is i } }
 
   pub read-back : (before : Lent) → RightSlices before → outcome (image input) before ≡ given input
   unfolding outcome imageOutcome
   read-back before right =
       let sizes : sizesAnswer (image input) before ≡ Done =
       lengths-right (length (before .user)) (length (before .side)) (length (before .dc)) (length (image input)) (length (before .work)) right (length-image input) in
-      ap (λ (a : Answer). cond (isDone a) (imageOutcome b before) (record { answer = a; psn = 0; lent = before })) sizes
-      ∙ ap (λ (a : Answer). cond (isDone a) (accepted (clusterIn b) (dcIn b)) (record { answer = a; psn = 0; lent = cleared before })) (image-done input is)
+      ap (λ (a : Answer). cond (isDone a) (imageOutcome b before) (wrongSizes a before)) sizes
+      ∙ ap (λ (a : Answer). withFirst (firstHash b) (outcomeBy a (clusterIn b) (dcIn b) before)) (image-done input is)
       ∙ is-input
 
 -- ---- NOTHING ELSE: where the number is 0, what is returned is an accepted input, and the image is its image
@@ -73,17 +73,17 @@ module _ (input : Input) (is : IsAccepted input) where
 module _ (l : List ℕ) (before : Lent) (bytes : Bytes l) where
   -- what is read in the image
   abbrev read-there : Outcome
-  read-there = accepted (clusterIn (bitsOf l)) (dcIn (bitsOf l))
+  read-there = withFirst (firstHash (bitsOf l)) (accepted (clusterIn (bitsOf l)) (dcIn (bitsOf l)))
 
   is-done : numberOf (outcome l before .answer) ≡ 0 → (sizesAnswer l before ≡ Done) × (imageAnswer (bitsOf l) ≡ Done)
   unfolding outcome imageOutcome
   is-done e = by (sizesAnswer l before) (isDone (sizesAnswer l before)) refl e
     where
-      by-image : (a : Answer) (t : Bool) → isDone a ≡ t → numberOf (cond t read-there (record { answer = a; psn = 0; lent = cleared before }) .answer) ≡ 0 → a ≡ Done
+      by-image : (a : Answer) (t : Bool) → isDone a ≡ t → numberOf (cond t (accepted (clusterIn (bitsOf l)) (dcIn (bitsOf l))) (record { answer = a; psn = 0; lent = cleared before }) .answer) ≡ 0 → a ≡ Done
       by-image a true t e = done-is a t
       by-image a false t e = number-zero a e
 
-      by : (a : Answer) (t : Bool) → isDone a ≡ t → numberOf (cond t (imageOutcome (bitsOf l) before) (record { answer = a; psn = 0; lent = before }) .answer) ≡ 0
+      by : (a : Answer) (t : Bool) → isDone a ≡ t → numberOf (cond t (imageOutcome (bitsOf l) before) (wrongSizes a before) .answer) ≡ 0
           → (a ≡ Done) × (imageAnswer (bitsOf l) ≡ Done)
       by a true t e = (done-is a t, by-image (imageAnswer (bitsOf l)) (isDone (imageAnswer (bitsOf l))) refl e)
       by a false t e = absurd (done-not a t (number-zero a e))
@@ -93,8 +93,8 @@ module _ (l : List ℕ) (before : Lent) (bytes : Bytes l) where
   unfolding outcome imageOutcome
   outcome-is e =
       let done = is-done e in
-      ap (λ (a : Answer). cond (isDone a) (imageOutcome (bitsOf l) before) (record { answer = a; psn = 0; lent = before })) (done .0)
-      ∙ ap (λ (a : Answer). cond (isDone a) read-there (record { answer = a; psn = 0; lent = cleared before })) (done .1)
+      ap (λ (a : Answer). cond (isDone a) (imageOutcome (bitsOf l) before) (wrongSizes a before)) (done .0)
+      ∙ ap (λ (a : Answer). withFirst (firstHash (bitsOf l)) (outcomeBy a (clusterIn (bitsOf l)) (dcIn (bitsOf l)) before)) (done .1)
 
   module _ (size : length l ≡ 119788) (done : imageAnswer (bitsOf l) ≡ Done) where
     abbrev read : Input
@@ -106,13 +106,13 @@ module _ (l : List ℕ) (before : Lent) (bytes : Bytes l) where
     passes : ImagePasses (bitsOf l)
     passes = done-passes (bitsOf l) done
 
-    recorded : Passes false (bitsOf l)
+    recorded : Passes (bitsOf l)
     recorded = recording-there (bitsOf l) bit-size passes
 
     -- its cluster is the ECC cluster of what is read
     written : Cluster.Written (clusterIn (bitsOf l)) (read .user) (read .psn) (read .side)
     written =
-        Cluster.nothing-else (clusterIn (bitsOf l)) (read .user) (read .psn) (read .side) (length-work false (bitsOf l) recorded) (bytes-work false (bitsOf l) recorded)
+        Cluster.nothing-else (clusterIn (bitsOf l)) (read .user) (read .psn) (read .side) (length-work (bitsOf l) recorded) (bytes-work (bitsOf l) recorded)
         (passes-reads (clusterIn (bitsOf l)) (passes .cluster))
 
     read-accepted : IsAccepted read
@@ -121,7 +121,7 @@ module _ (l : List ℕ) (before : Lent) (bytes : Bytes l) where
           user = written .is-user;
           psn = written .accepted;
           side = written .is-side;
-          dc = record { size = length-dc false (bitsOf l) recorded; small = dc-small false (bitsOf l) recorded };
+          dc = record { size = length-dc (bitsOf l) recorded; small = dc-small (bitsOf l) recorded };
         }
 
     is-image : l ≡ image read
@@ -150,16 +150,16 @@ module _ (l : List ℕ) (before : Lent) (bytes : Bytes l) where
       let sizes = lengths-done (length (before .user)) (length (before .side)) (length (before .dc)) (length l) (length (before .work)) (is-done e .0) in
       ap (λ (x : List ℕ). outcome x before .lent .work) (made .1) ∙ ap (λ (o : Outcome). o .lent .work) (read-back (returned (outcome l before)) (made .0) before (sizes .0))
 
-  -- as the contract has it: o is the answer, the PSN and the slices at exit
-  pub with-exactly : {o : Outcome} → o ≡ outcome l before → (o ≡ outcome l before) × ReadsExactly l before (numberOf (o .answer)) (o .psn) (o .lent)
-  with-exactly e = (e, subst (λ (o : Outcome). ReadsExactly l before (numberOf (o .answer)) (o .psn) (o .lent)) (sym e) exactly)
+  -- as the contract has it: o is the answer, the PSN, the first # and the slices at exit
+  pub with-exactly : {o : Outcome} → o ≡ outcome l before → (o ≡ outcome l before) × ReadsExactly l before (numberOf (o .answer)) (o .psn) (o .first) (o .lent)
+  with-exactly e = (e, subst (λ (o : Outcome). ReadsExactly l before (numberOf (o .answer)) (o .psn) (o .first) (o .lent)) (sym e) exactly)
     where
       back : RightSlices before → (input : Input) → IsAccepted input → l ≡ image input → outcome l before ≡ given input
       back f input is h =
           ap (λ (x : List ℕ). outcome x before) h
           ∙ read-back input is before f
 
-      exactly : ReadsExactly l before (numberOf (outcome l before .answer)) (outcome l before .psn) (outcome l before .lent)
+      exactly : ReadsExactly l before (numberOf (outcome l before .answer)) (outcome l before .psn) (outcome l before .first) (outcome l before .lent)
       exactly =
           record {
             only = λ z. record { accepted = nothing-else z .0; image-is = nothing-else z .1; work-is = work-there z };
@@ -170,10 +170,11 @@ module _ (l : List ℕ) (before : Lent) (bytes : Bytes l) where
 pub zeros-read : (before : Lent) → RightSlices before → outcome (image zeros) before ≡ given zeros
 zeros-read before right = read-back zeros zeros-accepted before right
 
--- ---- A REFUSAL: the PSN is 0; user, side and dc are as they were; work is as it was under 1 to 5 and zeros under 9 to 16
+-- ---- A REFUSAL: the PSN is 0 and the first # false; user, side and dc are as they were; work is as it was under 1 to 5 and zeros under 9 to 16
 
 pub record Refused (before : Lent) (o : Outcome) : Type 0 where
   pub psn-zero : o .psn ≡ 0
+  pub first-false : o .first ≡ false
   pub user-kept : o .lent .user ≡ before .user
   pub side-kept : o .lent .side ≡ before .side
   pub dc-kept : o .lent .dc ≡ before .dc
@@ -211,7 +212,7 @@ late-image b =
     let work = clusterIn b in
     let block = bisIn work in
     late-then (late-either (eqb (getD b 958302 0) 0 && eqb (getD b 958303 0) 0) late-done (late-number LastBits (omega arith)))
-    (late-then (late-test Sync 497 (firstWrongSync false b) (λ k. omega arith))
+    (late-then (late-test Sync 497 (firstWrongSync b) (λ k. omega arith))
     (late-then (late-test Frame 496 (firstNoFrame b) (λ k. omega arith))
     (late-then (late-test BisColumn 24 (Bis.firstWrongColumn block) (λ k. omega arith))
     (late-then (late-test AddressUnit 16 (Bis.firstWrongField block) (λ k. omega arith))
@@ -228,14 +229,32 @@ refused l before h =
     nine-up a g h = ⊎-elim (λ e. absurd (h e)) (λ k. k) (g .late)
 
     by-image : (a : Answer) (t : Bool) → isDone a ≡ t → Late a → (numberOf (cond t (accepted (clusterIn (bitsOf l)) (dcIn (bitsOf l))) (record { answer = a; psn = 0; lent = cleared before }) .answer) ≡ 0 → ⊥)
-        → Refused before (cond t (accepted (clusterIn (bitsOf l)) (dcIn (bitsOf l))) (record { answer = a; psn = 0; lent = cleared before }))
+        → Refused before (withFirst (firstHash (bitsOf l)) (cond t (accepted (clusterIn (bitsOf l)) (dcIn (bitsOf l))) (record { answer = a; psn = 0; lent = cleared before })))
     by-image a true t g h = absurd (h refl)
     by-image a false t g h =
         let nine = nine-up a g h in
-        record { psn-zero = refl; user-kept = refl; side-kept = refl; dc-kept = refl; work-kept = λ k. absurd (omega arith); work-cleared = λ _. refl; number = inr nine }
+        record {
+          psn-zero = refl;
+          first-false = ap (λ (d : Bool). d && firstHash (bitsOf l)) t;
+          user-kept = refl;
+          side-kept = refl;
+          dc-kept = refl;
+          work-kept = λ k. absurd (omega arith);
+          work-cleared = λ _. refl;
+          number = inr nine;
+        }
 
-    by : (a : Answer) (t : Bool) → isDone a ≡ t → numberOf a ≤ 5 → (numberOf (cond t (imageOutcome (bitsOf l) before) (record { answer = a; psn = 0; lent = before }) .answer) ≡ 0 → ⊥)
-        → Refused before (cond t (imageOutcome (bitsOf l) before) (record { answer = a; psn = 0; lent = before }))
+    by : (a : Answer) (t : Bool) → isDone a ≡ t → numberOf a ≤ 5 → (numberOf (cond t (imageOutcome (bitsOf l) before) (wrongSizes a before) .answer) ≡ 0 → ⊥)
+        → Refused before (cond t (imageOutcome (bitsOf l) before) (wrongSizes a before))
     by a true t small h = by-image (imageAnswer (bitsOf l)) (isDone (imageAnswer (bitsOf l))) refl (late-image (bitsOf l)) h
     by a false t small h =
-        record { psn-zero = refl; user-kept = refl; side-kept = refl; dc-kept = refl; work-kept = λ _. refl; work-cleared = λ k. absurd (omega arith); number = inl small }
+        record {
+          psn-zero = refl;
+          first-false = refl;
+          user-kept = refl;
+          side-kept = refl;
+          dc-kept = refl;
+          work-kept = λ _. refl;
+          work-cleared = λ k. absurd (omega arith);
+          number = inl small;
+        }

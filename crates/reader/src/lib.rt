@@ -2,18 +2,21 @@
 use address::Psn;
 use answer::Answer;
 ghost use mathlib.Core.Path.{_≡_};
+ghost use mathlib.Core.Bool.{_&&_};
 ghost use lib.ListN.{length};
 ghost use Rattle.sizes.specs.Sizes.{frameCount, imageSize, workSize};
 ghost use Rattle.bits.specs.Bits.{bitsOf};
-ghost use Rattle.answer.specs.Answer.{numberOf};
+ghost use Rattle.answer.specs.Answer.{numberOf, isDone};
+ghost use Rattle.recording.specs.Reading.{firstHash};
 ghost use Rattle.reader.specs.Outcome.{outcome};
 ghost use Rattle.reader.specs.Promise.{ReadsExactly};
 ghost use Rattle.reader.specs.steps.Read.{RecordingTested};
 
-// What the reader answers; the PSN is 0 on refusal.
+// What the reader answers; `first` is # of the sync of frame 0, true for ONE. On refusal the PSN is 0 and `first` false.
 pub struct Read {
     pub answer: Answer,
     pub psn: Psn,
+    pub first: bool,
 }
 
 // Tests 9 to 11; where they are passed the ECC cluster stands in work and its dc words in words.
@@ -22,11 +25,21 @@ fn test_recording(image: &[u8], words: &mut [u32], work: &mut [u8]) -> Answer
     ensures { λ r. ⌜ RecordingTested (bitsOf (now (image .entry))) r (now (words .exit)) (now (work .exit)) ⌝ }
 {
     let last = judging::steps::last_bits(image);
-    let answer = last.and_then(judging::steps::syncs(image, 0, false));
+    let answer = last.and_then(judging::steps::syncs(image, 0));
     if answer.is_done() {
         return judging::steps::frames(image, 0, words, work);
     }
     answer
+}
+
+// # of the sync of frame 0, false on refusal.
+fn first_hash(answer: Answer, image: &[u8]) -> bool
+    ensures { λ r. ⌜ r ≡ (isDone answer && firstHash (bitsOf (now (image .entry)))) ⌝ }
+{
+    if answer.is_done() {
+        return frame_sync::hash_at(image, 0);
+    }
+    false
 }
 
 fn no_words() -> [u32; sizes::FRAMES]
@@ -44,10 +57,10 @@ pub fn read_image(
     dc: &mut [u32],
     work: &mut [u8],
 ) -> Read
-    ensures { λ r. ⌜ record { answer = r .answer; psn = r .psn .0; lent = record { user = now (user .exit); side = now (side .exit); dc = now (dc .exit); work = now (work .exit) } }
+    ensures { λ r. ⌜ record { answer = r .answer; psn = r .psn .0; first = r .first; lent = record { user = now (user .exit); side = now (side .exit); dc = now (dc .exit); work = now (work .exit) } }
         ≡ outcome (now (image .entry)) (record { user = now (user .entry); side = now (side .entry); dc = now (dc .entry); work = now (work .entry) }) ⌝ }
     ensures { λ r. ⌜ ReadsExactly (now (image .entry)) (record { user = now (user .entry); side = now (side .entry); dc = now (dc .entry); work = now (work .entry) })
-        (numberOf (r .answer)) (r .psn .0) (record { user = now (user .exit); side = now (side .exit); dc = now (dc .exit); work = now (work .exit) }) ⌝ }
+        (numberOf (r .answer)) (r .psn .0) (r .first) (record { user = now (user .exit); side = now (side .exit); dc = now (dc .exit); work = now (work .exit) }) ⌝ }
 {
     let given = lengths::judge(user.len(), side.len(), dc.len(), image.len(), work.len());
     if given.is_done() {
@@ -56,10 +69,12 @@ pub fn read_image(
         let read = strict_cluster::steps::read(tested, work, &words, user, side, dc);
         let answer = read.answer;
         let psn = read.psn;
-        return Read { answer, psn };
+        let first = first_hash(answer, image);
+        return Read { answer, psn, first };
     }
     Read {
         answer: given,
         psn: Psn(0),
+        first: false,
     }
 }

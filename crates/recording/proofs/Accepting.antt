@@ -1,16 +1,14 @@
 -- Bits that pass tests 10 and 11 are the recording of what is read in them. Assumes nothing.
 use mathlib.Core.Path.{_≡_, refl, sym, ap, ap₂, _∙_}
-use mathlib.Core.Bool.{Bool, true, false, _&&_, not, Bool·beq}
+use mathlib.Core.Bool.{Bool, true, false}
 use mathlib.Core.List.{List, _++_}
 use Prim.Native.Nat.{ℕ, zero, suc, _+_, _*_, _/_, _%_, _<_, _≤_}
 use native.Mathlib.Numerals.{add-one}
 use native.Mathlib.Omega.{arith}
-use borrow.Author.Tests.{not-false, not-true}
-use lib.Dec.{eqb}
+use borrow.Author.Tests.{not-false}
 use lib.ListN.{length, getD, take, drop}
 use lib.Seq.{ext-getD, getD-take, getD-drop, take-add}
 use Rattle.laws.specs.Bytes.{Bytes}
-use Rattle.laws.proofs.Booleans.{and-left, and-right, beq-same, true-T}
 use Rattle.laws.proofs.First.{first-all}
 use Rattle.laws.proofs.Bytes.{bytes-tabulate}
 use Rattle.laws.proofs.Tabulate.{length-tabulate, getD-tabulate}
@@ -28,19 +26,19 @@ use Rattle.frame_sync.proofs.SyncRight.{sync-as-read}
 use Rattle.cluster.specs.EccCluster as Ecc
 use Rattle.cluster.proofs.Rows.{length-row}
 use Rattle.recording.specs.Recording.{recordingOf}
-use Rattle.recording.specs.Reading.{wrongSync, firstWrongSync, modulatedAt, hashBehind, noFrame, firstNoFrame, frameBitsIn, clusterByte, clusterIn, dcWordIn, dcIn}
+use Rattle.recording.specs.Reading.{wrongSync, firstWrongSync, firstHash, modulatedAt, hashBehind, noFrame, firstNoFrame, frameBitsIn, clusterByte, clusterIn, dcWordIn, dcIn}
 
 -- what is no refusal of test 11
 pub readable-is : (b : List ℕ) (n : ℕ) → noFrame b n ≡ false → readable (syncNumber n) (modulatedAt b n) (hashBehind b n) ≡ true
 unfolding noFrame
 readable-is b n e = not-false (readable (syncNumber n) (modulatedAt b n) (hashBehind b n)) e
 
--- tests 10 and 11 are passed by the bits b, with # of the first sync as given
-pub record Passes (first : Bool) (b : List ℕ) : Type 0 where
-  pub syncs : 497 ≤ firstWrongSync first b
+-- tests 10 and 11 are passed by the bits b
+pub record Passes (b : List ℕ) : Type 0 where
+  pub syncs : 497 ≤ firstWrongSync b
   pub frames : 496 ≤ firstNoFrame b
 
-module _ (first : Bool) (b : List ℕ) (passes : Passes first b) where
+module _ (b : List ℕ) (passes : Passes b) where
   abbrev work : List ℕ
   work = clusterIn b
 
@@ -48,21 +46,13 @@ module _ (first : Bool) (b : List ℕ) (passes : Passes first b) where
   dc = dcIn b
 
   abbrev c : Recording
-  c = recordingOf first work dc
+  c = recordingOf (firstHash b) work dc
 
   -- ---- syncs
 
-  sync-judged : (n : ℕ) → n < 497 → (syncRight (syncNumber n) b (1932 * n) && not (eqb n 0 && not (Bool·beq (hashAt b 0) first))) ≡ true
-  unfolding firstWrongSync wrongSync
-  sync-judged n h = not-false _ (first-all 497 (wrongSync first b) (passes .syncs) n h)
-
   right : (n : ℕ) → n < 497 → syncRight (syncNumber n) b (1932 * n) ≡ true
-  right n h = and-left (syncRight (syncNumber n) b (1932 * n)) _ (sync-judged n h)
-
-  hash-first : hashAt b 0 ≡ first
-  hash-first =
-      beq-same (hashAt b 0) first
-      (true-T (Bool·beq (hashAt b 0) first) (not-false _ (not-true _ (and-right (syncRight (syncNumber 0) b (1932 * 0)) _ (sync-judged 0 (omega arith))))))
+  unfolding firstWrongSync wrongSync
+  right n h = not-false _ (first-all 497 (wrongSync b) (passes .syncs) n h)
 
   -- ---- rows and dc words
 
@@ -110,7 +100,7 @@ module _ (first : Bool) (b : List ℕ) (passes : Passes first b) where
 
   -- # of each sync says how the frame before it ended
   hash-there : (n : ℕ) → n < 497 → hashAt b (1932 * n) ≡ hash c n
-  hash-there zero h = hash-first
+  hash-there zero h = refl
   hash-there (suc n) h = ap (λ (k : ℕ). hashAt b (1932 * k)) (sym (add-one n)) ∙ sym (given n (omega arith) .next-is)
 
   frame-there : (n : ℕ) → n < 496 → take 1932 (drop (1932 * n) b) ≡ bits (recorded c n)

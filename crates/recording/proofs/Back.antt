@@ -1,15 +1,13 @@
--- The bits of a recording: tests 10 and 11 are passed, and the ECC cluster and the dc words are read. Assumes nothing.
+-- The bits of a recording: tests 10 and 11 are passed, and the first #, the ECC cluster and the dc words are read. Assumes nothing.
 use mathlib.Core.Path.{_≡_, refl, sym, ap, _∙_}
-use mathlib.Core.Bool.{Bool, false, _&&_, not, Bool·beq}
+use mathlib.Core.Bool.{Bool, false, not}
 use mathlib.Core.List.{List, _++_}
 use Prim.Native.Nat.{ℕ, suc, _+_, _*_, _/_, _%_, _^_, _<_, _≤_}
 use native.Mathlib.Numerals.{add-one}
 use native.Mathlib.Omega.{arith}
-use lib.Dec.{eqb}
 use lib.ListN.{length, getD, take, drop, length-drop}
 use lib.Seq.{getD-take, getD-drop, take-append-le, drop-append-le}
 use Rattle.laws.specs.Bytes.{Bytes}
-use Rattle.laws.proofs.Booleans.{and-false, beq-refl}
 use Rattle.laws.proofs.First.{first-none}
 use Rattle.laws.proofs.Tabulate.{is-tabulate}
 use Rattle.modulation.specs.Bits.{bits}
@@ -27,7 +25,7 @@ use Rattle.frame.proofs.Reading.{row-bits, bits-read, gives-readable}
 use Rattle.cluster.specs.EccCluster as Ecc
 use Rattle.cluster.proofs.Rows.{length-row, bytes-row}
 use Rattle.recording.specs.Recording.{recordingOf}
-use Rattle.recording.specs.Reading.{wrongSync, firstWrongSync, modulatedAt, hashBehind, noFrame, firstNoFrame, frameBitsIn, clusterByte, clusterIn, dcWordIn, dcIn}
+use Rattle.recording.specs.Reading.{wrongSync, firstWrongSync, firstHash, modulatedAt, hashBehind, noFrame, firstNoFrame, frameBitsIn, clusterByte, clusterIn, dcWordIn, dcIn}
 use Rattle.recording.proofs.Frames.{full-of}
 
 -- a part of the front
@@ -60,17 +58,13 @@ module _ (first : Bool) (work dc b z : List ℕ) (is : Recordable work dc) (ther
   hash-there : (n : ℕ) → n ≤ 496 → hashAt b (1932 * n) ≡ hash c n
   hash-there n h = hash-as-read (syncNumber n) b (1932 * n) (hash c n) (sync-there n h)
 
-  right-sync : (n : ℕ) → n < 497 → wrongSync first b n ≡ false
+  right-sync : (n : ℕ) → n < 497 → wrongSync b n ≡ false
   unfolding wrongSync
-  right-sync n h =
-      ap (λ (t : Bool). not (t && not (eqb n 0 && not (Bool·beq (hashAt b 0) first)))) (sync-is-right (syncNumber n) b (1932 * n) (hash c n) (sync-there n (omega arith)))
-      ∙ ap (λ (t : Bool). not (not (eqb n 0 && not (Bool·beq t first)))) (hash-there 0 (omega arith))
-      ∙ ap (λ (t : Bool). not (not (eqb n 0 && not t))) (beq-refl first)
-      ∙ ap (λ (t : Bool). not (not t)) (and-false (eqb n 0) false refl)
+  right-sync n h = ap not (sync-is-right (syncNumber n) b (1932 * n) (hash c n) (sync-there n (omega arith)))
 
-  pub right-syncs : firstWrongSync first b ≡ 497
+  pub right-syncs : firstWrongSync b ≡ 497
   unfolding firstWrongSync
-  right-syncs = first-none 497 (wrongSync first b) (record { fails = right-sync })
+  right-syncs = first-none 497 (wrongSync b) (record { fails = right-sync })
 
   -- ---- 11
 
@@ -102,6 +96,9 @@ module _ (first : Bool) (work dc b z : List ℕ) (is : Recordable work dc) (ther
   all-frames = first-none 496 (noFrame b) (record { fails = a-frame })
 
   -- ---- what is read
+
+  pub first-there : firstHash b ≡ first
+  first-there = hash-there 0 (omega arith)
 
   pub cluster-there : clusterIn b ≡ work
   unfolding clusterIn

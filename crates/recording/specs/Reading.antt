@@ -1,8 +1,7 @@
 -- What is read in the bits b of a recording, from its first bit on: answers 10 and 11 of document 01, the ECC cluster and the dc words.
-use mathlib.Core.Bool.{Bool, _&&_, not, Bool·beq}
+use mathlib.Core.Bool.{Bool, not}
 use mathlib.Core.List.{List}
 use Prim.Native.Nat.{ℕ, _+_, _*_, _/_, _%_}
-use lib.Dec.{eqb}
 use lib.ListN.{getD, take, drop}
 use Rattle.laws.specs.First.{first}
 use Rattle.laws.specs.Tabulate.{tabulate}
@@ -12,13 +11,17 @@ use Rattle.frame_sync.specs.Sync.{hashAt, syncRight}
 use Rattle.frame.specs.Reading.{bitsRead, readable}
 use Rattle.sizes.specs.Sizes.{workSize, frameCount, frameSize, rowSize}
 
--- ---- 10: the lowest frame whose sync is wrong, or 497; # is judged at frame 0 alone, where it is to be the one given
+-- ---- 10: the lowest frame whose sync is wrong, or 497; # is judged at no frame
 
-unfoldable pub wrongSync : Bool → List ℕ → ℕ → Bool
-wrongSync given b n = not (syncRight (syncNumber n) b (frameSize * n) && not (eqb n 0 && not (Bool·beq (hashAt b 0) given)))
+unfoldable pub wrongSync : List ℕ → ℕ → Bool
+wrongSync b n = not (syncRight (syncNumber n) b (frameSize * n))
 
-unfoldable pub firstWrongSync : Bool → List ℕ → ℕ
-firstWrongSync given b = first 497 (wrongSync given b)
+unfoldable pub firstWrongSync : List ℕ → ℕ
+firstWrongSync b = first 497 (wrongSync b)
+
+-- # of the sync of frame 0, as it stands there
+abbrev pub firstHash : List ℕ → Bool
+firstHash b = hashAt b 0
 
 -- ---- 11: the lowest frame that no 1,268 bits give together with # of the next sync, or 496
 

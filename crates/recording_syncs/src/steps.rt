@@ -5,14 +5,11 @@ ghost use Rattle.bits.specs.Bits.{bitsOf};
 ghost use Rattle.recording.specs.Reading.{firstWrongSync};
 ghost use Rattle.recording.specs.steps.Within.{Within};
 
-// Test 10: the lowest frame whose sync is wrong, or 497; # of frame 0 is to be `first`.
-pub fn first_wrong_sync(image: &[u8], at: usize, first: bool) -> usize
+// Test 10: the lowest frame whose sync is wrong, or 497; # is not judged.
+pub fn first_wrong_sync(image: &[u8], at: usize) -> usize
     requires { ⌜ Within (now image) at ⌝ }
-    ensures { λ r. ⌜ r ≡ firstWrongSync first (drop at (bitsOf (now (image .entry)))) ⌝ }
+    ensures { λ r. ⌜ r ≡ firstWrongSync (drop at (bitsOf (now (image .entry)))) ⌝ }
 {
-    if frame_sync::hash_at(image, at) != first {
-        return 0;
-    }
     let mut sync = 0;
     while sync < 497 {
         let number = frame_sync::sync_number(sync);

@@ -1,5 +1,6 @@
 -- The words of an answer and a verdict: how long they are, and how they are put together. Assumes nothing.
 use mathlib.Core.Path.{_≡_, refl, sym, ap, ap₂, _∙_}
+use mathlib.Core.Bool.{Bool, true, false}
 use mathlib.Core.List.{List, _++_, append-assoc}
 use Prim.Native.Nat.{ℕ, _+_, _≤_}
 use native.Mathlib.Omega.{arith}
@@ -13,9 +14,9 @@ use Rattle.texts.specs.declared.Text.{Text}
 use Rattle.texts.specs.Text.{the, textOf, blankText, added}
 use Rattle.texts.specs.Numbers.{decimal, hexadecimal}
 use Rattle.texts.specs.Pieces.{piece}
-use Rattle.texts.proofs.Texts.{added-three, from-blank}
+use Rattle.texts.proofs.Texts.{added-two, added-three, from-blank}
 use Rattle.texts.proofs.Numbers.{decimal-short}
-use Rattle.report.specs.Words.{meaning, answerText, psnText, verdictText}
+use Rattle.report.specs.Words.{meaning, answerText, psnText, firstText, readText, verdictText}
 
 -- ---- every text has room
 
@@ -46,6 +47,11 @@ answer-short a = simp length-append (omega (arith, decimal-short 20 (numberOf a)
 pub psn-short : (psn : ℕ) → length (psnText psn) ≡ 9
 unfolding psnText hexadecimal
 psn-short psn = refl
+
+pub read-short : (psn : ℕ) (first : Bool) → length (readText psn first) ≡ 19
+unfolding readText
+read-short psn true = omega (arith, length-append (psnText psn) (firstText true), psn-short psn)
+read-short psn false = omega (arith, length-append (psnText psn) (firstText false), psn-short psn)
 
 pub verdict-short : (v : Verdict) → length (verdictText v) ≤ 256
 unfolding verdictText
@@ -80,8 +86,12 @@ unfolding psnText
 psn-behind-is words psn b t u v hb ht hu hv =
     added-three b words (hexadecimal psn) (the "\n") t u v ht hu hv ∙ ap₂ added hb (append-assoc words (hexadecimal psn) (the "\n"))
 
-pub psn-is : (psn : ℕ) (t : Text) → t ≡ added blankText (psnText psn) → t ≡ textOf (psnText psn)
-psn-is psn t h = from-blank (psnText psn) t (omega (arith, psn-short psn)) h
+-- of a first # that is known to be h
+pub read-is : (psn : ℕ) (first h : Bool) (t u : Text) → first ≡ h → t ≡ added blankText (psnText psn) → u ≡ added t (firstText h) → u ≡ textOf (readText psn first)
+unfolding readText
+read-is psn first h t u e ht hu =
+    from-blank (readText psn first) u (omega (arith, read-short psn first))
+    (added-two blankText (psnText psn) (firstText h) t u ht hu ∙ ap (λ (f : Bool). added blankText (psnText psn ++ firstText f)) (sym e))
 
 -- of a verdict that is known to be k
 pub verdict-is : (v k : Verdict) (b t : Text) → v ≡ k → b ≡ blankText → t ≡ added b (verdictText k) → t ≡ textOf (verdictText v)

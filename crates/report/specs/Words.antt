@@ -1,4 +1,5 @@
--- What is printed for an answer, a verdict and a PSN.
+-- What is printed for an answer, a verdict and what was read of an image.
+use mathlib.Core.Bool.{Bool, cond}
 use mathlib.Core.List.{List, [], _++_}
 use Prim.Native.Nat.{ℕ}
 use Rattle.answer.specs.declared.Answer.{Answer}
@@ -40,6 +41,13 @@ answerText a = decimal (numberOf a) ++ the " " ++ decimal (placeOf a) ++ the "\n
 
 unfoldable pub psnText : ℕ → List ℕ
 psnText psn = hexadecimal psn ++ the "\n"
+
+-- what was read: the PSN and the first #, a line each
+abbrev pub firstText : Bool → List ℕ
+firstText first = cond first (the "first # 1\n") (the "first # 0\n")
+
+unfoldable pub readText : ℕ → Bool → List ℕ
+readText psn first = psnText psn ++ firstText first
 
 unfoldable pub verdictText : Verdict → List ℕ
 verdictText Pass = the "pass\n"

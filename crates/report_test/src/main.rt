@@ -1,4 +1,4 @@
-// Every answer, verdict and tally in words, and PSNs.
+// Every answer, verdict and tally in words, and what was read.
 use address::Psn;
 use answer::Answer;
 use gaps::Tally;
@@ -48,10 +48,10 @@ fn verdicts() {
     console::print(verdict_report::verdict_text(Verdict::OtherSide(0)));
 }
 
-fn psns() {
-    console::print(psn_report::psn_text(Psn(0)));
-    console::print(psn_report::psn_text(Psn(0x0010_0000)));
-    console::print(psn_report::psn_text(Psn(0xFEDC_BA98)));
+fn reads() {
+    console::print(psn_report::read_text(Psn(0), false));
+    console::print(psn_report::read_text(Psn(0x0010_0000), true));
+    console::print(psn_report::read_text(Psn(0xFEDC_BA98), true));
 }
 
 fn tallies() {
@@ -71,6 +71,6 @@ fn main() {
     columns();
     longest();
     verdicts();
-    psns();
+    reads();
     tallies();
 }

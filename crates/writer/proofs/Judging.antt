@@ -33,10 +33,10 @@ module _ (u s d i w psn : ℕ) (dc : List ℕ) where
 
 -- ---- the outcome; r is what was answered, d whether it is `Done`
 
-module _ (user side dc before work : List ℕ) (psn : ℕ) (r : Answer) (d : Bool)
+module _ (user side dc before work : List ℕ) (psn : ℕ) (first : Bool) (r : Answer) (d : Bool)
     (hr : r ≡ andThen (lengthsAnswer (length user) (length side) (length dc) (length before) (length work)) (partsAnswer psn dc)) (hd : d ≡ isDone r) where
   abbrev input : Input
-  input = record { user = user; psn = psn; side = side; dc = dc }
+  input = record { user = user; psn = psn; side = side; dc = dc; first = first }
 
   is-answer : r ≡ answer input (length before) (length work)
   unfolding answer

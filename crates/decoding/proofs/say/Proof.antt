@@ -10,8 +10,8 @@ is-done-requires c κs = search needs
 bytes-of-requires : tie.Need-bytes-of-requires
 bytes-of-requires c κs = search needs
 
-psn-text-requires : tie.Need-psn-text-requires
-psn-text-requires c κs = search needs
+read-text-requires : tie.Need-read-text-requires
+read-text-requires c κs = search needs
 
 same-length : tie.Need-same-length
 same-length c = search needs
@@ -31,7 +31,7 @@ say-spec =
     (tie.spec
     is-done-requires
     bytes-of-requires
-    psn-text-requires
+    read-text-requires
     same-length
     returns
     answer-text-requires

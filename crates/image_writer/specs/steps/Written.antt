@@ -1,6 +1,6 @@
 -- What the steps of writing leave in the image: `before` at entry, `after` at exit.
 use mathlib.Core.Path.{_≡_}
-use mathlib.Core.Bool.{false}
+use mathlib.Core.Bool.{Bool}
 use mathlib.Core.List.{List, [], _∷_, _++_}
 use Prim.Native.Nat.{ℕ}
 use Rattle.bits.specs.Bits.{bitsOf}
@@ -11,8 +11,8 @@ use Rattle.recording.specs.Recording.{recordingOf}
 use Rattle.sizes.specs.Sizes.{frameCount}
 
 -- the 496 frames, the sync that follows, and two zero bits
-pub record ImageWritten (work dc after : List ℕ) : Type 0 where
-  pub whole : bitsOf after ≡ bits (Stream.stream (recordingOf false work dc) frameCount) ++ (0 ∷ 0 ∷ [])
+pub record ImageWritten (first : Bool) (work dc after : List ℕ) : Type 0 where
+  pub whole : bitsOf after ≡ bits (Stream.stream (recordingOf first work dc) frameCount) ++ (0 ∷ 0 ∷ [])
 
 -- the slices as they are when all is written
 pub record Filled (input : Input) (after work : List ℕ) : Type 0 where

@@ -32,6 +32,9 @@ read-requires c κs =
     let sizes = lengths-passed _ _ _ _ _ (test .before .before .judge .ensures) (test .before .is-done .ensures) (test .if1 .taken) .0 in
     ((recording .test-recording .ensures .size, sizes .user), (sizes .side, (search needs, sizes .dc)))
 
+first-hash-requires : tie.Need-first-hash-requires
+first-hash-requires c κs = search needs
+
 same-length : tie.Need-same-length
 same-length c = search needs
 
@@ -46,11 +49,12 @@ same-length-4 c = search needs
 
 returns : tie.Need-returns
 returns c =
-    let read = c .before .before .before .before .before .before .before .before .before in
+    let read = c .before .before .before .before .before .before .before .before .before .before in
     let recording = read .before .before .before .before .before .before .before .before .before in
     let test = recording .before .before .before .before in
     let start = test .before .before .before .before .before .before .before in
-    with-exactly _ _ (λ k. start .shared-slice-known .given k .fits) (search (is-read))
+    with-exactly _ _ (λ k. start .shared-slice-known .given k .fits)
+    (is-read _ _ _ _ _ _ _ (test .before .before .judge .ensures) (test .before .is-done .ensures) _ _ _ _ _ _ _ (test .if1 .taken) (recording .test-recording .ensures) (read .read .ensures) (c .first-hash .ensures))
 
 returns-2 : tie.Need-returns-2
 returns-2 c =
@@ -67,6 +71,7 @@ read-image-spec =
     slice-aggregate-test-recording
     test-recording-requires
     read-requires
+    first-hash-requires
     same-length
     same-length-2
     same-length-3

@@ -1,6 +1,5 @@
 -- What tests 9 to 11 find in the bits b of an image; where they are passed, the dc words and the ECC cluster.
 use mathlib.Core.Path.{_≡_}
-use mathlib.Core.Bool.{false}
 use mathlib.Core.List.{List}
 use Prim.Native.Nat.{ℕ}
 use lib.ListN.{length}
@@ -12,7 +11,7 @@ use Rattle.recording.specs.Reading.{clusterIn, dcIn}
 use Rattle.judging.specs.Tests.{lastBitsAnswer, syncsAnswer, framesAnswer}
 
 pub record RecordingTested (b : List ℕ) (answer : Answer) (dc work : List ℕ) : Type 0 where
-  pub answer-is : answer ≡ andThen (lastBitsAnswer b) (andThen (syncsAnswer false b) (framesAnswer b))
+  pub answer-is : answer ≡ andThen (lastBitsAnswer b) (andThen (syncsAnswer b) (framesAnswer b))
   pub dc-is : answer ≡ Done → dc ≡ dcIn b
   pub work-is : answer ≡ Done → work ≡ clusterIn b
   pub size : length work ≡ workSize

@@ -28,13 +28,13 @@ returns c =
     let test = call .before .before .before in
     let sides = test .before .before .before .before .before .before in
     with-exactly _ _ _ (λ k. sides .before .shared-slice-known .given k .fits) (λ k. sides .shared-slice-known2 .given k .fits)
-    (is-written _ _ _ _ _ _ _ _ (test .before .before .judge .ensures) (test .before .is-done .ensures) _ _ (test .if1 .taken) (call .write .ensures))
+    (is-written _ _ _ _ _ _ _ _ _ (test .before .before .judge .ensures) (test .before .is-done .ensures) _ _ (test .if1 .taken) (call .write .ensures))
 
 returns-2 : tie.Need-returns-2
 returns-2 c =
     let sides = c .before .before .before .before .before .before in
     with-exactly _ _ _ (λ k. sides .before .shared-slice-known .given k .fits) (λ k. sides .shared-slice-known2 .given k .fits)
-    (is-refused _ _ _ _ _ _ _ _ (c .before .before .judge .ensures) (c .before .is-done .ensures) (c .if1 .left))
+    (is-refused _ _ _ _ _ _ _ _ _ (c .before .before .judge .ensures) (c .before .is-done .ensures) (c .if1 .left))
 
 pub write-image-spec : {M : Type 1} → statement M
 write-image-spec =

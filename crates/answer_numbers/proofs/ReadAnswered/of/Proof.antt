@@ -12,7 +12,9 @@ place-requires : tie.Need-place-requires
 place-requires c κs = search needs
 
 returns : tie.Need-returns
-returns c = ap₂ (λ (n p : ℕ). record { number = n; psn = c .before .before .args .psn .0; place = p }) (c .before .number .ensures) (c .place .ensures)
+returns c =
+    let args = c .before .before .args in
+    ap₂ (λ (n p : ℕ). record { number = n; psn = args .psn .0; place = p; first = args .first }) (c .before .number .ensures) (c .place .ensures)
 
 pub of-spec : {M : Type 1} → statement M
 of-spec = tie.close (tie.spec number-requires place-requires returns)

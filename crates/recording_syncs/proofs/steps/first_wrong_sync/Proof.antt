@@ -1,4 +1,4 @@
--- `first_wrong_sync` meets its contract: # of frame 0, then a search from the front (Judging).
+-- `first_wrong_sync` meets its contract: a search from the front (Judging).
 use borrow.Author.Needs.{needs}
 use mathlib.Core.Path.{_≡_, _∙_}
 use Prim.Native.Nat.{_-_, _≤_}
@@ -7,21 +7,15 @@ use lib.ListN.{drop}
 use Rattle.bits.specs.Bits.{bitsOf}
 use Rattle.laws.proofs.First.{Passed, passed-none, passed-more, first-here, first-past}
 use Rattle.recording.specs.Reading.{wrongSync, firstWrongSync}
-use Rattle.recording_syncs.proofs.Judging.{hash-wrong, sync-judged}
+use Rattle.recording_syncs.proofs.Judging.{sync-judged}
 use Rattle.recording_syncs.proofs.steps.first_wrong_sync.Statement.{statement}
 use Rattle.recording_syncs.proofs.steps.first_wrong_sync.Tie as tie
 
 abbrev Inv-loop : tie.InvT-loop
-Inv-loop image at first sync₀ sync = (sync ≤ 497) × Passed (wrongSync first (drop at (bitsOf image))) sync
+Inv-loop image at sync₀ sync = (sync ≤ 497) × Passed (wrongSync (drop at (bitsOf image))) sync
 
 abbrev μ-loop : tie.MeasureT-loop
-μ-loop image at first sync₀ sync = 497 - sync
-
-hash-at-requires : tie.Need-hash-at-requires Inv-loop μ-loop
-hash-at-requires c κs = search needs
-
-returns : tie.Need-returns Inv-loop μ-loop
-returns c = search (hash-wrong)
+μ-loop image at sync₀ sync = 497 - sync
 
 loop-holds : tie.Need-loop-holds Inv-loop μ-loop
 loop-holds c = (omega arith, passed-none)
@@ -38,9 +32,9 @@ add-sync-right c = search needs
 sync-right-requires : tie.Need-sync-right-requires Inv-loop μ-loop
 sync-right-requires c κs = search needs
 
-returns-2 : tie.Need-returns-2 Inv-loop μ-loop
+returns : tie.Need-returns Inv-loop μ-loop
 unfolding firstWrongSync
-returns-2 c = search (first-here, sync-judged)
+returns c = search (first-here, sync-judged)
 
 add-sync : tie.Need-add-sync Inv-loop μ-loop
 add-sync c = search needs
@@ -51,9 +45,9 @@ loop-less c = search needs
 loop-again : tie.Need-loop-again Inv-loop μ-loop
 loop-again c = (omega arith, search (passed-more, sync-judged))
 
-returns-3 : tie.Need-returns-3 Inv-loop μ-loop
+returns-2 : tie.Need-returns-2 Inv-loop μ-loop
 unfolding firstWrongSync
-returns-3 c = let all : c .before .loop .sync ≡ 497 = omega arith in all ∙ first-past (omega arith) (c .before .loop .inv .1)
+returns-2 c = let all : c .before .loop .sync ≡ 497 = omega arith in all ∙ first-past (omega arith) (c .before .loop .inv .1)
 
 pub first-wrong-sync-spec : {M : Type 1} → statement M
 first-wrong-sync-spec =
@@ -61,15 +55,13 @@ first-wrong-sync-spec =
     (tie.spec
     Inv-loop
     μ-loop
-    hash-at-requires
-    returns
     loop-holds
     sync-number-requires
     mul-sync-right
     add-sync-right
     sync-right-requires
-    returns-2
+    returns
     add-sync
     loop-less
     loop-again
-    returns-3)
+    returns-2)

@@ -1,0 +1,42 @@
+-- # of the first sync is the first bit of a run of frames, and no other bit depends on it. Assumes nothing.
+use mathlib.Core.Bool.{Bool, true, false, cond}
+use mathlib.Core.List.{List, _∷_, _++_}
+use mathlib.Core.Path.{_≡_, refl, sym, ap, _∙_}
+use Prim.Native.Nat.{ℕ, zero, suc}
+use lib.ListN.{drop}
+use Rattle.modulation.specs.Modulation.{Three, m001, m101}
+use Rattle.modulation.specs.Bits.{bits}
+use Rattle.modulation.specs.Sync.{sync}
+use Rattle.modulation.specs.Stream.{Recording, hash, modulated, recorded, run, stream}
+
+-- the first group of a sync
+abbrev lead : Bool → Three
+lead h = cond h m101 m001
+
+lead-bit : (g h : Bool) (ms : List Three) → bits (lead h ∷ ms) ≡ cond h 1 0 ∷ drop 1 (bits (lead g ∷ ms))
+lead-bit true true ms = refl
+lead-bit true false ms = refl
+lead-bit false true ms = refl
+lead-bit false false ms = refl
+
+module _ (c : Recording) where
+  -- the same frames behind another first #
+  abbrev pub from : Bool → Recording
+  from h = record { first = h; number = c .number; frames = c .frames }
+
+  -- what follows the first group, of the frames up to n
+  unfoldable behind : ℕ → List Three
+  behind zero = drop 1 (sync false (c .number 0)) ++ modulated (c .number 0) (c .frames 0) .groups
+  behind (suc n) = behind n ++ recorded c (suc n)
+
+  run-behind : (h : Bool) (n : ℕ) → run (from h) (suc n) ≡ lead h ∷ behind n
+  unfolding run behind
+  run-behind h zero = refl
+  run-behind h (suc n) = ap (λ (l : List Three). l ++ recorded c (suc n)) (run-behind h n)
+
+  pub first-bit : (h : Bool) (n : ℕ) → bits (stream (from h) (suc n)) ≡ cond h 1 0 ∷ drop 1 (bits (stream c (suc n)))
+  first-bit h n =
+      let end = sync (hash c (suc n)) (c .number (suc n)) in
+      ap (λ (l : List Three). bits (l ++ end)) (run-behind h n)
+      ∙ lead-bit (c .first) h (behind n ++ end)
+      ∙ ap (λ (l : List Three). cond h 1 0 ∷ drop 1 (bits (l ++ end))) (sym (run-behind (c .first) n))
