@@ -12,14 +12,15 @@ fn main() {
     user[..14].copy_from_slice(b"reference disk");
     dc[7] = 0x0FFF_FFFF;
 
-    let written = bdre::write_image(&user, 0x0010_0000, &side, &dc, &mut image, &mut work);
+    let written = bdre::write_image(&user, 0x0010_0000, &side, &dc, true, &mut image, &mut work);
     println!("written: {}", written.number);
 
     user.fill(0);
     dc.fill(0);
     let found = bdre::read_image(&image, &mut user, &mut side, &mut dc, &mut work);
     let text = String::from_utf8_lossy(&user[..14]);
-    println!("read: {}, PSN {:08X}, {text:?}, dc word 7 is {:07X}", found.number, found.psn, dc[7]);
+    let first = found.first as u8;
+    println!("read: {}, PSN {:08X}, {text:?}, dc word 7 is {:07X}, first # {first}", found.number, found.psn, dc[7]);
 
     let (mut given, control) = (user.clone(), side.clone());
     let psn = 0x0010_0000;
@@ -31,9 +32,9 @@ fn main() {
 
     image[60000] ^= 0x10;
     let found = bdre::read_image(&image, &mut user, &mut side, &mut dc, &mut work);
-    println!("damaged: {}, place {}", found.number, found.place);
+    println!("damaged: {}, place {}, first # {}", found.number, found.place, found.first as u8);
 
-    let written = bdre::write_image(&user, 0x0108_9C00, &side, &dc, &mut image, &mut work);
+    let written = bdre::write_image(&user, 0x0108_9C00, &side, &dc, true, &mut image, &mut work);
     println!("outside the data zones: {}", written.number);
 
     let paa = bdre::psn_to_paa(0x0010_0000);

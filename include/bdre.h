@@ -11,7 +11,7 @@
  *
  *    1  user is not 65,536 bytes long            9  the image's last two bits are not zero
  *    2  side is not 592 bytes long              10  the sync of frame `place` is wrong (496: the closing one)
- *    3  dc has not 496 words                    11  no bits give frame `place` and the next sync's first bit
+ *    3  dc has not 496 words                    11  no bits give frame `place` and the next sync's first bit, its #
  *    4  image is not 119,788 bytes long         12  the parity of BIS column `place` is wrong
  *    5  work is not 76,880 bytes long           13  the parity of the address field of unit `place` is wrong
  *    6  the PSN is no multiple of 32            14  no PSN in a data zone has these 16 address unit numbers
@@ -22,6 +22,7 @@
 #ifndef BDRE_H
 #define BDRE_H
 
+#include <stdbool.h>
 #include <stddef.h>
 #include <stdint.h>
 
@@ -29,7 +30,7 @@
 extern "C" {
 #endif
 
-#define BDRE_VERSION "1.2.0"
+#define BDRE_VERSION "2.0.0"
 
 #define BDRE_USER 65536      /* user data: 32 sectors of 2,048 bytes */
 #define BDRE_SIDE 592        /* side data: 16 flag bytes, then 32 x 18 bytes of user control data */
@@ -48,6 +49,7 @@ struct bdre_read_answer {
     uint32_t number;
     uint32_t psn; /* 0 unless number is 0 */
     size_t place;
+    bool first; /* # of the sync of frame 0, true for ONE; false unless number is 0 */
 };
 
 struct bdre_marking {
@@ -62,20 +64,20 @@ struct bdre_conversion {
     uint32_t value; /* 0 unless number is 0 */
 };
 
-/* Writes the image of a cluster, from its user data, the PSN of its first sector, its side data and its dc words. 0: image holds the
- * image, work the ECC cluster. 1 to 8: both are as they were. */
+/* Writes the image of a cluster, from its user data, the PSN of its first sector, its side data, its dc words and # of the sync of frame
+ * 0, true for ONE. 0: image holds the image, work the ECC cluster. 1 to 8: both are as they were. */
 struct bdre_answer bdre_write_image(const uint8_t *user, size_t user_length, uint32_t psn, const uint8_t *side, size_t side_length,
-                                    const uint32_t *dc, size_t dc_length, uint8_t *image, size_t image_length, uint8_t *work,
-                                    size_t work_length);
+                                    const uint32_t *dc, size_t dc_length, bool first, uint8_t *image, size_t image_length,
+                                    uint8_t *work, size_t work_length);
 
-/* Reads an image strictly. 0: user, side and dc hold what the image was made of, work its ECC cluster, and psn is its PSN. 1 to 5: all
- * are as they were. 9 to 16: work is all zeros, the others are as they were. */
+/* Reads an image strictly. 0: user, side and dc hold what the image was made of, work its ECC cluster; psn is its PSN and first its first
+ * #. 1 to 5: all are as they were. 9 to 16: work is all zeros, the others are as they were. */
 struct bdre_read_answer bdre_read_image(const uint8_t *image, size_t image_length, uint8_t *user, size_t user_length, uint8_t *side,
                                         size_t side_length, uint32_t *dc, size_t dc_length, uint8_t *work, size_t work_length);
 
-/* Marks an image: whether it is the image of this PSN, this user data and this side data, under any dc words at all. It is read into the
- * four slices lent for that, which are left as bdre_read_image leaves them; where user or side has a wrong length (verdict 1, number 1 or
- * 2) they are as they were. */
+/* Marks an image: whether it is the image of this PSN, this user data and this side data, under any dc words and either first #. It is read
+ * into the four slices lent for that, which are left as bdre_read_image leaves them; where user or side has a wrong length (verdict 1,
+ * number 1 or 2) they are as they were. */
 struct bdre_marking bdre_mark_image(uint32_t psn, const uint8_t *user, size_t user_length, const uint8_t *side, size_t side_length,
                                     const uint8_t *image, size_t image_length, uint8_t *user_read, size_t user_read_length,
                                     uint8_t *side_read, size_t side_read_length, uint32_t *dc_read, size_t dc_read_length,

@@ -1,6 +1,8 @@
 //! BD-RE clusters (ISO/IEC 30193:2021, clause 13) written, strictly read and marked, and the parity of columns: safe calls of the functions of
 //! libbdre.a. Nothing is asked of the caller. bdre.h lists the numbers that are answered.
 
+/// The version of this interface, which is that of bdre.h and of libbdre.a.
+pub const VERSION: &str = "2.0.0";
 /// User data: 32 sectors of 2,048 bytes.
 pub const USER: usize = 65_536;
 /// Side data: 16 flag bytes, then 32 x 18 bytes of user control data.
@@ -30,6 +32,8 @@ pub struct ReadAnswer {
     /// 0 unless `number` is 0.
     pub psn: u32,
     pub place: usize,
+    /// # of the sync of frame 0, true for ONE; false unless `number` is 0.
+    pub first: bool,
 }
 
 #[repr(C)]
@@ -66,6 +70,7 @@ mod c {
             side_length: usize,
             dc: *const u32,
             dc_length: usize,
+            first: bool,
             image: *mut u8,
             image_length: usize,
             work: *mut u8,
@@ -111,8 +116,17 @@ mod c {
 // In each call below the pointers and lengths are those of Rust's slices, which are valid, not null, and apart from each other where one is
 // `&mut`. That is all that the functions ask.
 
-/// Writes the image of a cluster. 0: `image` holds the image, `work` the ECC cluster. 1 to 8: both are as they were.
-pub fn write_image(user: &[u8], psn: u32, side: &[u8], dc: &[u32], image: &mut [u8], work: &mut [u8]) -> Answer {
+/// Writes the image of a cluster; `first` is # of the sync of frame 0, true for ONE. 0: `image` holds the image, `work` the ECC cluster.
+/// 1 to 8: both are as they were.
+pub fn write_image(
+    user: &[u8],
+    psn: u32,
+    side: &[u8],
+    dc: &[u32],
+    first: bool,
+    image: &mut [u8],
+    work: &mut [u8],
+) -> Answer {
     unsafe {
         c::bdre_write_image(
             user.as_ptr(),
@@ -122,6 +136,7 @@ pub fn write_image(user: &[u8], psn: u32, side: &[u8], dc: &[u32], image: &mut [
             side.len(),
             dc.as_ptr(),
             dc.len(),
+            first,
             image.as_mut_ptr(),
             image.len(),
             work.as_mut_ptr(),
@@ -149,9 +164,9 @@ pub fn read_image(image: &[u8], user: &mut [u8], side: &mut [u8], dc: &mut [u32]
     }
 }
 
-/// Marks an image: whether it is the image of this PSN, this user data and this side data, under any dc words at all. It is read into the
-/// four slices lent for that, which are left as `read_image` leaves them; where `user` or `side` has a wrong length (verdict 1, number 1 or
-/// 2) they are as they were.
+/// Marks an image: whether it is the image of this PSN, this user data and this side data, under any dc words and either first #. It is read
+/// into the four slices lent for that, which are left as `read_image` leaves them; where `user` or `side` has a wrong length (verdict 1,
+/// number 1 or 2) they are as they were.
 #[allow(clippy::too_many_arguments)]
 pub fn mark_image(
     psn: u32,

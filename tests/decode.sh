@@ -1,12 +1,24 @@
 # decode: outside images, what they were made of, and each answer that an image can get.
-for name in zero ones zone0 zone1 zone2; do
-    begin "decode $name"
-    given image "$vectors/$name.image"
-    left user "$vectors/$name.user"
-    left side "$vectors/$name.side"
-    left dc "$vectors/$name.dc"
-    ends 0 "$(psn_of "$name")" '' decode image user side dc
+left_cluster() {
+    left user "$vectors/$1.user"
+    left side "$vectors/$1.side"
+    left dc "$vectors/$1.dc"
+}
+for cluster in zero ones zone0 zone1 zone2; do
+    for first in 0 1; do
+        begin "decode $cluster, first # $first"
+        image_with "$cluster" "$first" "$room/read"
+        given image "$room/read"
+        left_cluster "$cluster"
+        ends 0 "$(read_as "$cluster" "$first")" '' decode image user side dc
+    done
 done
+
+begin "decode first_hash"
+damaged first_hash "$room/damaged"
+given image "$room/damaged"
+left_cluster zone1
+ends 0 "$(read_as zone1 1)" '' decode image user side dc
 
 refused_image() {
     begin "decode $1"
@@ -19,7 +31,7 @@ while IFS='|' read -r name answer words; do
 $words"
 done <<'END'
 last_bits|9 0|the last two bits are not zero
-first_hash|10 0|the frame sync of frame 0 is wrong
+sync_0_1|10 0|the frame sync of frame 0 is wrong
 sync_31_13|10 31|the frame sync of frame 31 is wrong
 sync_496_29|10 496|the frame sync of frame 496 is wrong
 hash_1|11 0|no bits give frame 0 and the # behind it
@@ -39,7 +51,14 @@ begin "decode, results are there already"
 given image "$vectors/zone1.image"
 given_cluster zone0
 for part in user side dc; do cp "$vectors/zone1.$part" "$room/after/$part"; done
-ends 0 "$(psn_of zone1)" '' decode image user side dc
+ends 0 "$(read_as zone1 0)" '' decode image user side dc
+
+begin "decode, refused, first # 1"
+image_with zone1 1 "$room/read"
+poke "$room/read" 119787 $(($(od -An -tu1 -j 119787 -N 1 "$room/read") + 1))
+given image "$room/read"
+ends 1 '9 0
+the last two bits are not zero' '' decode image user side dc
 
 begin "decode, refused, results are there already"
 damaged last_bits "$room/damaged"

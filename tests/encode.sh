@@ -1,9 +1,16 @@
 # encode: images of outside clusters, and refusals 6, 7 and 8.
-for name in zero ones zone0 zone1 zone2; do
-    begin "encode $name"
-    given_cluster "$name"
-    left image "$vectors/$name.image"
-    ends 0 '0 0' '' encode "$(psn_of "$name")" user side dc image
+for cluster in zero ones zone0 zone1 zone2; do
+    begin "encode $cluster"
+    given_cluster "$cluster"
+    left image "$vectors/$cluster.image"
+    ends 0 '0 0' '' encode "$(psn_of "$cluster")" user side dc image
+    for first in 0 1; do
+        begin "encode $cluster, first # $first"
+        given_cluster "$cluster"
+        image_with "$cluster" "$first" "$room/wanted"
+        left image "$room/wanted"
+        ends 0 '0 0' '' encode "$(psn_of "$cluster")" user side dc image "$first"
+    done
 done
 
 begin "encode, side data and dc words zero"
@@ -25,7 +32,7 @@ one_zero() {
     left user "$vectors/zero.user"
     left side "$2"
     left dc "$3"
-    ends 0 "$(psn_of zero)" '' decode image user side dc
+    ends 0 "$(read_as zero 0)" '' decode image user side dc
     rm "$room/made"
 }
 one_zero "side data zero alone" "$vectors/zero.side" "$vectors/zone1.dc" - dc
@@ -48,6 +55,7 @@ refused_psn() {
     given_cluster zone1
     given_older
     ends 1 "$2" '' encode "$1" user side dc image
+    ends 1 "$2" '' encode "$1" user side dc image 1
 }
 refused_psn 00100010 '6 0
 the PSN is no multiple of 32'

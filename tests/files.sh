@@ -10,9 +10,9 @@ usage_of() {
     shift 3
     ends 2 "$line" '' "$program" "$@"
 }
-usage_of encode 0 'usage: encode PSN USER SIDE DC IMAGE'
-usage_of encode 4 'usage: encode PSN USER SIDE DC IMAGE' "$(psn_of zone1)" user side dc
-usage_of encode 6 'usage: encode PSN USER SIDE DC IMAGE' "$(psn_of zone1)" user side dc made more
+usage_of encode 0 'usage: encode PSN USER SIDE DC IMAGE [FIRST]'
+usage_of encode 4 'usage: encode PSN USER SIDE DC IMAGE [FIRST]' "$(psn_of zone1)" user side dc
+usage_of encode 7 'usage: encode PSN USER SIDE DC IMAGE [FIRST]' "$(psn_of zone1)" user side dc made 1 more
 usage_of decode 0 'usage: decode IMAGE USER SIDE DC'
 usage_of decode 3 'usage: decode IMAGE USER SIDE DC' image made more
 usage_of decode 5 'usage: decode IMAGE USER SIDE DC' image u s d more
@@ -24,6 +24,11 @@ for text in 0010000 001000000 0010000g '' -0100000 0x100000; do
     usage_of encode "the PSN '$text' among" "$wrong_usage" "$text" user side dc made
     usage_of mark "the PSN '$text' among" "$wrong_usage" "$text" user side image
 done
+
+for text in '' 2 / : 00 01 10 -1 ' 1' '1 ' ONE; do
+    usage_of encode "the first # '$text' among" 'usage: FIRST is 0 or 1' "$(psn_of zone1)" user side dc made "$text"
+done
+usage_of encode 'a wrong PSN among' "$wrong_usage" 0010000 user side dc made 1
 
 begin "capital and small digits"
 given_cluster zone0
@@ -125,7 +130,7 @@ all_but none
 left - "$vectors/zone1.user"
 left s "$vectors/zone1.side"
 left d "$vectors/zone1.dc"
-ends 0 "$psn" '' decode image - s d
+ends 0 "$(read_as zone1 0)" '' decode image - s d
 
 # What is in the way of a result: then no result is left, and no part of one.
 in_the_way() {
@@ -216,6 +221,7 @@ ends 1 '' 'none: it is read and is to be written' decode none none none none
 read_and_written encode user "$psn" user side dc user
 read_and_written encode side "$psn" user side dc side
 read_and_written encode dc "$psn" user side dc dc
+read_and_written encode user "$psn" user side dc user 1
 read_and_written decode image image image s d
 read_and_written decode image image u image d
 read_and_written decode image image u s image

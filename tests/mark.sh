@@ -11,6 +11,12 @@ for name in ones zone0 zone1 zone2; do
     ends 0 pass '' mark "$(psn_of "$name")" user side image
 done
 
+for name in zero ones zone0 zone1 zone2; do
+    image_with "$name" 1 "$room/one"
+    marked "$name, first # 1" "$vectors/$name.user" "$vectors/$name.side" "$room/one"
+    ends 0 pass '' mark "$(psn_of "$name")" user side image
+done
+
 begin "mark: side data zero"
 given user "$vectors/zero.user"
 given image "$vectors/zero.image"

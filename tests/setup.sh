@@ -138,6 +138,18 @@ psn_of() {
     sed -n "s/^$1 //p" "$root/tests/psns"
 }
 
+# What is printed of an outside cluster that was read, with this first #.
+read_as() {
+    psn_of "$1"
+    echo "first # $2"
+}
+
+# The image of an outside cluster with this first #: ONE changes the first bit of the image with ZERO, and nothing else.
+image_with() {
+    cp "$vectors/$1.image" "$3"
+    [ "$2" -eq 0 ] || poke "$3" 0 $(($(od -An -tu1 -N 1 "$3") + 128))
+}
+
 # The first byte in which two files differ, counted from 0.
 first_other() {
     echo $(($(cmp "$1" "$2" | sed 's/.*differ: [a-z]* \([0-9]*\),.*/\1/') - 1))

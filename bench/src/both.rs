@@ -18,8 +18,8 @@ pub fn agree(same: bool, what: impl Fn() -> String) {
 /// The writer and the reference's plain path: answer, image and work.
 pub fn write(c: &Cluster, before: &Filled, what: &str) -> (u32, Filled) {
     let (mut ours, mut theirs) = (before.clone(), before.clone());
-    let a = bdre::write_image(&c.user, c.psn, &c.side, &c.dc, &mut ours.image, &mut ours.work);
-    let b = plain::write(&c.user, c.psn, &c.side, &c.dc, &mut theirs.image, &mut theirs.work);
+    let a = bdre::write_image(&c.user, c.psn, &c.side, &c.dc, c.first, &mut ours.image, &mut ours.work);
+    let b = plain::write(&c.user, c.psn, &c.side, &c.dc, c.first, &mut theirs.image, &mut theirs.work);
     agree((a.number, a.place) == b, || format!("{what}: written {a:?}, by the reference {b:?}"));
     agree(ours.image == theirs.image, || format!("{what}: image, at {a:?}"));
     agree(ours.work == theirs.work, || format!("{what}: work, at {a:?}"));
@@ -27,12 +27,14 @@ pub fn write(c: &Cluster, before: &Filled, what: &str) -> (u32, Filled) {
     (a.number, ours)
 }
 
-/// The reader and the reference's fast path, where it is asked for also the plain one: answer, PSN and every slice.
+/// The reader and the reference's fast path, where it is asked for also the plain one: answer, PSN, first # and every slice.
 pub fn read(image: &[u8], before: &Lent, fast: &mut Fast, by_plain: bool, what: &str) -> (bdre::ReadAnswer, Lent) {
     let mut ours = before.clone();
     let a = bdre::read_image(image, &mut ours.user, &mut ours.side, &mut ours.dc, &mut ours.work);
-    let judge = |name: &str, b: (u32, usize, u32), theirs: &Lent| {
-        agree((a.number, a.place, a.psn) == b, || format!("{what}: read {a:?}, by the reference ({name}) {b:?}"));
+    let judge = |name: &str, b: (u32, usize, u32, bool), theirs: &Lent| {
+        agree((a.number, a.place, a.psn, a.first) == b, || {
+            format!("{what}: read {a:?}, by the reference ({name}) {b:?}")
+        });
         agree(ours.user == theirs.user, || format!("{what}: user data, at {a:?} ({name})"));
         agree(ours.side == theirs.side, || format!("{what}: side data, at {a:?} ({name})"));
         agree(ours.dc == theirs.dc, || format!("{what}: dc words, at {a:?} ({name})"));
@@ -54,11 +56,12 @@ pub fn read(image: &[u8], before: &Lent, fast: &mut Fast, by_plain: bool, what: 
 fn holds(a: bdre::ReadAnswer, image: &[u8], ours: &Lent, before: &Lent, what: &str) {
     if a.number == 0 {
         let mut again = Filled { image: vec![0; bdre::IMAGE], work: vec![0; bdre::WORK] };
-        let b = bdre::write_image(&ours.user, a.psn, &ours.side, &ours.dc, &mut again.image, &mut again.work);
+        let b = bdre::write_image(&ours.user, a.psn, &ours.side, &ours.dc, a.first, &mut again.image, &mut again.work);
         let same = b.number == 0 && again.image == image && again.work == ours.work;
         agree(same, || format!("{what}: what was read is not what the image is made of"));
         return;
     }
+    agree(a.psn == 0 && !a.first, || format!("{what}: a PSN or a first # at {a:?}"));
     let same = ours.user == before.user && ours.side == before.side && ours.dc == before.dc;
     agree(same, || format!("{what}: an output slice touched at {a:?}"));
     let work = if a.number < 9 { ours.work == before.work } else { ours.work.iter().all(|&b| b == 0) };

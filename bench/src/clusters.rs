@@ -13,6 +13,7 @@ pub struct Cluster {
     pub user: Vec<u8>,
     pub side: Vec<u8>,
     pub dc: Vec<u32>,
+    pub first: bool,
 }
 
 /// The cluster `k` of a zone; the last one for any k beyond.
@@ -61,12 +62,24 @@ impl Cluster {
     pub fn random(r: &Random, i: usize) -> Cluster {
         let psn = psn(r, i);
         let kinds = [r.below(10), r.below(10), r.below(6)];
-        Cluster { psn, user: bytes(r, USER, kinds[0]), side: bytes(r, SIDE, kinds[1]), dc: dc_words(r, kinds[2]) }
+        Cluster {
+            psn,
+            user: bytes(r, USER, kinds[0]),
+            side: bytes(r, SIDE, kinds[1]),
+            dc: dc_words(r, kinds[2]),
+            first: r.below(2) == 1,
+        }
     }
 
     /// Random in every part.
     pub fn uniform(r: &Random, zone: usize) -> Cluster {
-        Cluster { psn: psn_of(zone, r.word() % 509_152), user: r.bytes(USER), side: r.bytes(SIDE), dc: dc_words(r, 3) }
+        Cluster {
+            psn: psn_of(zone, r.word() % 509_152),
+            user: r.bytes(USER),
+            side: r.bytes(SIDE),
+            dc: dc_words(r, 3),
+            first: r.below(2) == 1,
+        }
     }
 }
 

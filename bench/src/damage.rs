@@ -29,7 +29,7 @@ impl Written {
 
 fn written(fast: &mut Fast, c: &Cluster) -> (Vec<u8>, Vec<u8>) {
     let (mut image, mut work) = (vec![0; IMAGE], vec![0; WORK]);
-    assert_eq!(fast.write(&c.user, c.psn, &c.side, &c.dc, &mut image, &mut work), (0, 0));
+    assert_eq!(fast.write(&c.user, c.psn, &c.side, &c.dc, c.first, &mut image, &mut work), (0, 0));
     (image, work)
 }
 
@@ -335,7 +335,7 @@ fn in_cluster(r: &Random, fast: &mut Fast, w: &mut Written) -> &'static str {
         other_data(r, fast, w);
         "other data"
     };
-    fast.frames(&w.work, &w.cluster.dc, &mut w.image);
+    fast.frames(&w.work, &w.cluster.dc, w.cluster.first, &mut w.image);
     name
 }
 

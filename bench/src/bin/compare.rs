@@ -34,7 +34,7 @@ fn lengths(r: &Random, fast: &mut Fast) {
             let what = format!("lengths {n:?}");
             let dc: Vec<u32> = (0..n[2]).map(|_| if shape % 2 == 0 { r.word() & LARGEST } else { u32::MAX }).collect();
             let psn = if shape % 3 == 0 { ZONES[0].0 } else { r.word() };
-            let cluster = Cluster { psn, user: r.bytes(n[0]), side: r.bytes(n[1]), dc };
+            let cluster = Cluster { psn, user: r.bytes(n[0]), side: r.bytes(n[1]), dc, first: r.below(2) == 1 };
             let before = Filled { image: r.bytes(n[3]), work: r.bytes(n[4]) };
             let (number, _) = both::write(&cluster, &before, &what);
             calls[0][number as usize] += 1;
@@ -43,7 +43,7 @@ fn lengths(r: &Random, fast: &mut Fast) {
             let lent =
                 Lent { user: r.bytes(n[0]), side: r.bytes(n[1]), dc: cluster.dc.clone(), work: before.work.clone() };
             both::mark(&cluster, &image, &lent, fast, &what);
-            let given = Cluster { psn, user: vec![0; USER], side: vec![0; SIDE], dc: vec![] };
+            let given = Cluster { psn, user: vec![0; USER], side: vec![0; SIDE], dc: vec![], first: false };
             both::mark(&given, &image, &lent, fast, &what);
             both::mark(&cluster, &image, &Lent::random(r), fast, &what);
 
@@ -150,23 +150,24 @@ fn clusters(r: &Random, fast: &mut Fast, count: usize, plain_every: usize) {
         let (number, written) = both::write(&c, &Filled::random(r), &what);
         agree(number == 0, || format!("{what}: refused by {number}"));
         let mut theirs = Filled::random(r);
-        fast.write(&c.user, c.psn, &c.side, &c.dc, &mut theirs.image, &mut theirs.work);
+        fast.write(&c.user, c.psn, &c.side, &c.dc, c.first, &mut theirs.image, &mut theirs.work);
         agree(written == theirs, || format!("{what}: written otherwise by the reference (fast)"));
         let (a, back) = both::read(&written.image, &Lent::random(r), fast, i % plain_every == 0, &what);
         let same = back.user == c.user && back.side == c.side && back.dc == c.dc && back.work == written.work;
-        agree(same && a.number == 0 && a.psn == c.psn, || format!("{what}: read back {a:?}, or other data"));
+        agree(same && a.number == 0 && a.psn == c.psn && a.first == c.first, || {
+            format!("{what}: read back {a:?}, or other data")
+        });
         zones[ZONES.iter().position(|&(first, last)| first <= c.psn && c.psn <= last).unwrap()] += 1;
     }
     println!("clusters: {count} written and read back, {zones:?} in the three zones");
 }
 
-/// Given data that an image was made of, or not, under the image's own dc words and under others; at times the image is damaged.
+/// Given data that an image was made of, or not, under any dc words and either first #; at times the image is damaged.
 fn marks(r: &Random, fast: &mut Fast, count: usize) {
     let mut verdicts = [0; 5];
     for i in 0..count {
         let mut w = Written::random(r, fast, i);
-        let mut given =
-            Cluster { psn: w.cluster.psn, user: w.cluster.user.clone(), side: w.cluster.side.clone(), dc: vec![] };
+        let mut given = Cluster { dc: vec![], first: false, ..w.cluster.clone() };
         let mut what = format!("mark {i}");
         if i % 5 == 0 {
             what += &format!(", {}", damage(r, fast, &mut w));

@@ -42,9 +42,9 @@ impl Bench {
     fn write(&mut self, by: By, c: &Cluster) -> f64 {
         let (image, work, fast) = (&mut self.filled.image, &mut self.filled.work, &mut self.fast);
         let (number, ms) = match by {
-            By::Library => timed(|| bdre::write_image(&c.user, c.psn, &c.side, &c.dc, image, work).number),
-            By::Plain => timed(|| plain::write(&c.user, c.psn, &c.side, &c.dc, image, work).0),
-            By::Fast => timed(|| fast.write(&c.user, c.psn, &c.side, &c.dc, image, work).0),
+            By::Library => timed(|| bdre::write_image(&c.user, c.psn, &c.side, &c.dc, c.first, image, work).number),
+            By::Plain => timed(|| plain::write(&c.user, c.psn, &c.side, &c.dc, c.first, image, work).0),
+            By::Fast => timed(|| fast.write(&c.user, c.psn, &c.side, &c.dc, c.first, image, work).0),
         };
         assert_eq!(number, 0);
         ms

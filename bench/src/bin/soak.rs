@@ -1,4 +1,4 @@
-//! Reads damaged images by the library and by the reference's fast path and compares number, place, PSN and every slice. Stops at the first
+//! Reads damaged images by the library and by the reference's fast path and compares number, place, PSN, first # and every slice. Stops at the first
 //! difference, with status 1. Words on the command line: how many images (default 10,000), the seed (1), the index of the first (0).
 //! An image depends on the seed and its index alone, so each can be read again by itself.
 use bench::both::{self, agree};

@@ -450,6 +450,7 @@ impl Fast {
         psn: u32,
         side: &[u8],
         dc: &[u32],
+        first: bool,
         image: &mut [u8],
         work: &mut [u8],
     ) -> (u32, usize) {
@@ -458,13 +459,13 @@ impl Fast {
             return r;
         }
         self.ecc(user, psn, side, work);
-        self.frames(work, dc, image);
+        self.frames(work, dc, first, image);
         (0, 0)
     }
-    /// the image whose ECC cluster and dc words are given; nothing is tested
-    pub fn frames(&self, work: &[u8], dc: &[u32], image: &mut [u8]) {
+    /// the image whose ECC cluster, dc words and first # are given; nothing is tested
+    pub fn frames(&self, work: &[u8], dc: &[u32], first: bool, image: &mut [u8]) {
         let mut w = BitW { out: image, at: 0, acc: 0, n: 0 };
-        let mut hash = false;
+        let mut hash = first;
         for f in 0..496 {
             let num = sync_number(f);
             let s = SYNC_WORDS[num] | (hash as u32) << 29;
@@ -492,14 +493,14 @@ impl Fast {
         side: &mut [u8],
         dc: &mut [u32],
         work: &mut [u8],
-    ) -> (u32, usize, u32) {
+    ) -> (u32, usize, u32, bool) {
         let a = length_answer(user.len(), side.len(), dc.len(), image.len(), work.len());
         if a != 0 {
-            return (a, 0, 0);
+            return (a, 0, 0, false);
         }
         let fail = |work: &mut [u8], a: u32, p: usize| {
             work.fill(0);
-            (a, p, 0)
+            (a, p, 0, false)
         };
         if image[IMAGE - 1] & 3 != 0 {
             return fail(work, 9, 0);
@@ -507,7 +508,7 @@ impl Fast {
         for f in 0..497 {
             let s = bits32(image, 1932 * f) >> 2;
             let ok = s & 0x1FFF_FFFF == SYNC_WORDS[sync_number(f)];
-            if !ok || (f == 0 && s >> 29 != 0) {
+            if !ok {
                 return fail(work, 10, f);
             }
         }
@@ -609,7 +610,7 @@ impl Fast {
         }
         side.copy_from_slice(&sd);
         dc.copy_from_slice(&dcs);
-        (0, 0, psn)
+        (0, 0, psn, image[0] >> 7 == 1)
     }
 }
 

@@ -291,10 +291,10 @@ pub fn pack(bits: &[u8]) -> Vec<u8> {
 pub fn unpack(bytes: &[u8]) -> Vec<u8> {
     bytes.iter().flat_map(|&b| (0..8).rev().map(move |i| (b >> i) & 1)).collect()
 }
-/// Bits of an image whose ECC cluster and dc words are given; nothing is tested.
-pub fn image_bits(work: &[u8], dc: &[u32]) -> Vec<u8> {
+/// Bits of an image whose ECC cluster, dc words and first # are given; nothing is tested.
+pub fn image_bits(work: &[u8], dc: &[u32], first: bool) -> Vec<u8> {
     let mut v = Vec::with_capacity(CLUSTER_BITS + 32);
-    let mut hash = false;
+    let mut hash = first;
     for n in 0..496 {
         let (f, t) = frame_bits(&work[155 * n..155 * n + 155], dc[n], sync_number(n), hash);
         v.extend(f);
@@ -338,13 +338,21 @@ pub fn writer_tests(user: &[u8], psn: u32, side: &[u8], dc: &[u32], image_len: u
 }
 
 /// The writer: number and place.
-pub fn write(user: &[u8], psn: u32, side: &[u8], dc: &[u32], image: &mut [u8], work: &mut [u8]) -> (u32, usize) {
+pub fn write(
+    user: &[u8],
+    psn: u32,
+    side: &[u8],
+    dc: &[u32],
+    first: bool,
+    image: &mut [u8],
+    work: &mut [u8],
+) -> (u32, usize) {
     let refused = writer_tests(user, psn, side, dc, image.len(), work.len());
     if refused.0 != 0 {
         return refused;
     }
     work.copy_from_slice(&ecc_cluster(user, psn, side));
-    image.copy_from_slice(&pack(&image_bits(work, dc)));
+    image.copy_from_slice(&pack(&image_bits(work, dc, first)));
     (0, 0)
 }
 
@@ -353,7 +361,7 @@ fn read_frames(bits: &[u8]) -> Result<(Vec<u8>, Vec<u32>), (u32, usize)> {
     for n in 0..=496 {
         let s = &bits[1932 * n..1932 * n + 30];
         let want = sync_bits(sync_number(n), false);
-        if s[1..] != want[1..] || (n == 0 && s[0] != 0) {
+        if s[1..] != want[1..] {
             return Err((10, n));
         }
     }
@@ -435,20 +443,26 @@ fn read_ecc(work: &[u8]) -> Result<(u32, Vec<u8>, Vec<u8>), (u32, usize)> {
     Ok((psn, user, side))
 }
 
-/// The reader: number, place and PSN.
-pub fn read(image: &[u8], user: &mut [u8], side: &mut [u8], dc: &mut [u32], work: &mut [u8]) -> (u32, usize, u32) {
+/// The reader: number, place, PSN and first #.
+pub fn read(
+    image: &[u8],
+    user: &mut [u8],
+    side: &mut [u8],
+    dc: &mut [u32],
+    work: &mut [u8],
+) -> (u32, usize, u32, bool) {
     let a = length_answer(user.len(), side.len(), dc.len(), image.len(), work.len());
     if a != 0 {
-        return (a, 0, 0);
+        return (a, 0, 0, false);
     }
     work.fill(0);
     let bits = unpack(image);
     if bits[958_302] != 0 || bits[958_303] != 0 {
-        return (9, 0, 0);
+        return (9, 0, 0, false);
     }
     let (w, d) = match read_frames(&bits) {
         Ok(x) => x,
-        Err((a, p)) => return (a, p, 0),
+        Err((a, p)) => return (a, p, 0, false),
     };
     match read_ecc(&w) {
         Ok((psn, u, s)) => {
@@ -456,9 +470,9 @@ pub fn read(image: &[u8], user: &mut [u8], side: &mut [u8], dc: &mut [u32], work
             side.copy_from_slice(&s);
             dc.copy_from_slice(&d);
             work.copy_from_slice(&w);
-            (0, 0, psn)
+            (0, 0, psn, bits[0] == 1)
         }
-        Err((a, p)) => (a, p, 0),
+        Err((a, p)) => (a, p, 0, false),
     }
 }
 
@@ -469,7 +483,7 @@ pub fn mark(
     side: &[u8],
     user_read: &mut [u8],
     side_read: &mut [u8],
-    read: impl FnOnce(&mut [u8], &mut [u8]) -> (u32, usize, u32),
+    read: impl FnOnce(&mut [u8], &mut [u8]) -> (u32, usize, u32, bool),
 ) -> (u32, u32, u32, usize) {
     if user.len() != USER {
         return (1, 1, 0, 0);
@@ -477,7 +491,7 @@ pub fn mark(
     if side.len() != SIDE {
         return (1, 2, 0, 0);
     }
-    let (number, place, own) = read(user_read, side_read);
+    let (number, place, own, _) = read(user_read, side_read);
     if number != 0 {
         return (1, number, 0, place);
     }
