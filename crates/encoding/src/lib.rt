@@ -25,14 +25,7 @@ fn encode_words(
 }
 
 // The image of a cluster; the dc words are four bytes each, high byte first. No words stand in for bytes of another number: 3 refuses them.
-pub fn encode(
-    psn: Psn,
-    user: &[u8],
-    side: &[u8],
-    dc: &[u8],
-    first: bool,
-    image: &mut [u8],
-) -> Said
+pub fn encode(psn: Psn, user: &[u8], side: &[u8], dc: &[u8], first: bool, image: &mut [u8]) -> Said
     ensures { λ r. ⌜ record { keep = r .keep; text = r .text; image = now (image .exit) }
         ≡ encoded (psn .0) (now (user .entry)) (now (side .entry)) (now (dc .entry)) first (now (image .entry)) ⌝ }
 {

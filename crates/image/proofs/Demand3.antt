@@ -21,7 +21,7 @@ use Rattle.modulation.proofs.Fronts.{bits-groups}
 use Rattle.modulation.proofs.Streams.{length-stream}
 use Rattle.modulation.proofs.Limits.{long-gaps, spaced, no-seven}
 use Rattle.modulation.proofs.Unique.{unique}
-use Rattle.modulation.proofs.FirstHash.{first-bit as stream-first-bit}
+use Rattle.modulation.proofs.FirstHash.{stream-first-bit}
 use Rattle.frame_bits.specs.FrameBits.{frameBits}
 use Rattle.frame.specs.Frame.{framePairs}
 use Rattle.frame_bits.proofs.FrameBits.{length-frame-bits, frame-bits-bits, frame-bits-inj}
@@ -153,18 +153,18 @@ equal-images a b ha hb = (λ e. images-equal a b ha hb .0 (front e), λ s. unfol
 -- ---- # of the first sync
 
 -- an input with h as its first #
-abbrev pub withFirst : Bool → Input → Input
-withFirst h input = record { user = input .user; psn = input .psn; side = input .side; dc = input .dc; first = h }
+abbrev pub startingWith : Bool → Input → Input
+startingWith h input = record { user = input .user; psn = input .psn; side = input .side; dc = input .dc; first = h }
 
 -- it is the first bit, and no other bit depends on it
-pub first-bit : (h : Bool) (input : Input) → imageBits (withFirst h input) ≡ cond h 1 0 ∷ drop 1 (imageBits input)
+pub first-bit : (h : Bool) (input : Input) → imageBits (startingWith h input) ≡ cond h 1 0 ∷ drop 1 (imageBits input)
 unfolding imageBits
 first-bit h input = stream-first-bit (recording input) h 495
 
 -- in the image's bytes, msb first, as well
-pub first-bit-packed : (h : Bool) (input : Input) → bitsOf (image (withFirst h input)) ≡ cond h 1 0 ∷ drop 1 (bitsOf (image input))
+pub first-bit-packed : (h : Bool) (input : Input) → bitsOf (image (startingWith h input)) ≡ cond h 1 0 ∷ drop 1 (bitsOf (image input))
 first-bit-packed h input =
-    image-bits (withFirst h input)
+    image-bits (startingWith h input)
     ∙ ap (λ (l : List ℕ). l ++ (0 ∷ 0 ∷ [])) (first-bit h input)
     ∙ ap (_∷_ (cond h 1 0)) (sym (ap (drop 1) (image-bits input) ∙ drop-append-le 1 (imageBits input) (0 ∷ 0 ∷ []) (omega (arith, image-size input))))
 
@@ -179,8 +179,8 @@ one-differs h l m el em k = ap (λ (x : List ℕ). differsAt x m k) el ∙ ap (�
     by h (suc k) = ap not (eq-eqb (getD (drop 1 m) k 0) (getD (drop 1 m) k 0) refl) ∙ sym (ne-eqb (suc k) 0 (λ e. omega (arith, e)))
 
 -- HENCE: the image with the other first # differs in its first bit and in no other
-pub other-first : (input : Input) (k : ℕ) → differsAt (imageBits (withFirst (not (input .first)) input)) (imageBits input) k ≡ eqb k 0
+pub other-first : (input : Input) (k : ℕ) → differsAt (imageBits (startingWith (not (input .first)) input)) (imageBits input) k ≡ eqb k 0
 other-first input = one-differs (input .first) _ (imageBits input) (first-bit (not (input .first)) input) (first-bit (input .first) input)
 
-pub other-first-packed : (input : Input) (k : ℕ) → differsAt (bitsOf (image (withFirst (not (input .first)) input))) (bitsOf (image input)) k ≡ eqb k 0
+pub other-first-packed : (input : Input) (k : ℕ) → differsAt (bitsOf (image (startingWith (not (input .first)) input))) (bitsOf (image input)) k ≡ eqb k 0
 other-first-packed input = one-differs (input .first) _ (bitsOf (image input)) (first-bit-packed (not (input .first)) input) (first-bit-packed (input .first) input)

@@ -1,4 +1,4 @@
--- An accepted input exists; and what is tallied of a frame is counted in the image. Assumes nothing.
+-- An accepted input exists; the first # is a part of its own; and what is tallied of a frame is counted in the image. Assumes nothing.
 use mathlib.Core.Path.{_≡_, refl, sym, ap, _∙_}
 use mathlib.Core.Bool.{Bool, true, false}
 use mathlib.Core.List.{List, [], _∷_}
@@ -31,7 +31,7 @@ use Rattle.cluster.proofs.Statements.{length-cluster, bytes-cluster}
 use Rattle.image.specs.Image.{Input, IsAccepted, cluster, recording, imageBits, image}
 use Rattle.image.proofs.Recordings.{full}
 use Rattle.cluster.proofs.Rows.{length-row, bytes-row}
-use Rattle.image.proofs.Demand3.{image-size, image-bits}
+use Rattle.image.proofs.Demand3.{image-size, image-bits, startingWith, first-bit}
 
 -- ---- an accepted input
 
@@ -51,6 +51,19 @@ zeros-accepted =
 
 pub some-accepted : (input : Input) × IsAccepted input
 some-accepted = (zeros, zeros-accepted)
+
+-- ---- the first #
+
+-- an accepted input is accepted with either first #
+pub either-first : (h : Bool) (input : Input) → IsAccepted input → IsAccepted (startingWith h input)
+either-first h input is = record { user = is .user; psn = is .psn; side = is .side; dc = is .dc }
+
+-- the images of two accepted inputs are not always equal where the four other parts are
+pub four-parts-fail : ((a b : Input) → IsAccepted a → IsAccepted b → a .user ≡ b .user → a .psn ≡ b .psn → a .side ≡ b .side → a .dc ≡ b .dc → imageBits a ≡ imageBits b) → ⊥
+four-parts-fail all =
+    let same = all (startingWith true zeros) zeros (either-first true zeros zeros-accepted) zeros-accepted refl refl refl refl in
+    let bit : _≡_ {A = ℕ} 1 0 = ap (λ (l : List ℕ). getD l 0 0) (sym (first-bit true zeros) ∙ same ∙ first-bit false zeros) in
+    omega arith
 
 -- ---- the tally and the image
 

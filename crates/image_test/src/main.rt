@@ -58,7 +58,8 @@ fn files() {
     both_ways(4, 0x03EF_FFE0);
 }
 
-// The damaged images of zone1, in the order of data/zone1.damage.txt, and its image with slices that are refused.
+// The damaged images of zone1, in the order of data/zone1.damage.txt, and its image with slices that are refused. One is no damage: first_hash is the
+// image with first # ONE.
 fn images_refused() {
     let given = test_clusters::load(b"zone1", test_clusters::marked());
     let image = given.image;

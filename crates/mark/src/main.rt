@@ -1,4 +1,5 @@
-// mark PSN USER SIDE IMAGE: whether the image is that of these user bytes, this side data and this PSN under some dc-control bits.
+// mark PSN USER SIDE IMAGE: whether the image is that of these user bytes, this side data and this PSN under some dc-control bits and
+// some first #.
 use address::Psn;
 use notation::PsnText;
 

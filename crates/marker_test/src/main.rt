@@ -112,7 +112,15 @@ fn with_image(given: Given, dc: [u32; 496], first: bool) -> Given {
     let side = given.side;
     let mut image = given.image;
     let mut work = lent::work();
-    writer::write_image(&user, Psn(given.psn), &side, &dc, first, &mut image, &mut work);
+    writer::write_image(
+        &user,
+        Psn(given.psn),
+        &side,
+        &dc,
+        first,
+        &mut image,
+        &mut work,
+    );
     let mut out = given;
     out.image = image;
     out

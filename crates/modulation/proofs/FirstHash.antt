@@ -10,14 +10,14 @@ use Rattle.modulation.specs.Sync.{sync}
 use Rattle.modulation.specs.Stream.{Recording, hash, modulated, recorded, run, stream}
 
 -- the first group of a sync
-abbrev lead : Bool → Three
-lead h = cond h m101 m001
+abbrev firstGroup : Bool → Three
+firstGroup h = cond h m101 m001
 
-lead-bit : (g h : Bool) (ms : List Three) → bits (lead h ∷ ms) ≡ cond h 1 0 ∷ drop 1 (bits (lead g ∷ ms))
-lead-bit true true ms = refl
-lead-bit true false ms = refl
-lead-bit false true ms = refl
-lead-bit false false ms = refl
+group-bit : (g h : Bool) (ms : List Three) → bits (firstGroup h ∷ ms) ≡ cond h 1 0 ∷ drop 1 (bits (firstGroup g ∷ ms))
+group-bit true true ms = refl
+group-bit true false ms = refl
+group-bit false true ms = refl
+group-bit false false ms = refl
 
 module _ (c : Recording) where
   -- the same frames behind another first #
@@ -29,14 +29,14 @@ module _ (c : Recording) where
   behind zero = drop 1 (sync false (c .number 0)) ++ modulated (c .number 0) (c .frames 0) .groups
   behind (suc n) = behind n ++ recorded c (suc n)
 
-  run-behind : (h : Bool) (n : ℕ) → run (from h) (suc n) ≡ lead h ∷ behind n
+  run-behind : (h : Bool) (n : ℕ) → run (from h) (suc n) ≡ firstGroup h ∷ behind n
   unfolding run behind
   run-behind h zero = refl
   run-behind h (suc n) = ap (λ (l : List Three). l ++ recorded c (suc n)) (run-behind h n)
 
-  pub first-bit : (h : Bool) (n : ℕ) → bits (stream (from h) (suc n)) ≡ cond h 1 0 ∷ drop 1 (bits (stream c (suc n)))
-  first-bit h n =
+  pub stream-first-bit : (h : Bool) (n : ℕ) → bits (stream (from h) (suc n)) ≡ cond h 1 0 ∷ drop 1 (bits (stream c (suc n)))
+  stream-first-bit h n =
       let end = sync (hash c (suc n)) (c .number (suc n)) in
       ap (λ (l : List Three). bits (l ++ end)) (run-behind h n)
-      ∙ lead-bit (c .first) h (behind n ++ end)
+      ∙ group-bit (c .first) h (behind n ++ end)
       ∙ ap (λ (l : List Three). cond h 1 0 ∷ drop 1 (bits (l ++ end))) (sym (run-behind (c .first) n))

@@ -20,7 +20,8 @@ fn judge(user: usize, psn: Psn, side: usize, dc: &[u32], image: usize, work: usi
     given
 }
 
-// Writes the image of a cluster; `first` is # of the sync of frame 0, true for ONE. Document 01's answers 0 to 8: on 0 the image and, in work, the ECC cluster; on any other both as they were.
+// Writes the image of a cluster; `first` is # of the sync of frame 0, true for ONE. Document 01's answers 0 to 8: on 0 the image and, in work,
+// the ECC cluster; on any other both as they were.
 pub fn write_image(
     user: &[u8],
     psn: Psn,
