@@ -30,6 +30,7 @@
 extern "C" {
 #endif
 
+/* The version of this interface, for a libbdre.a of the same version; README.md, 'Versions'. */
 #define BDRE_VERSION "2.0.0"
 
 #define BDRE_USER 65536      /* user data: 32 sectors of 2,048 bytes */

@@ -1,7 +1,7 @@
 //! BD-RE clusters (ISO/IEC 30193:2021, clause 13) written, strictly read and marked, and the parity of columns: safe calls of the functions of
 //! libbdre.a. Nothing is asked of the caller. bdre.h lists the numbers that are answered.
 
-/// The version of this interface, which is that of bdre.h and of libbdre.a.
+/// The version of this interface, for a libbdre.a of the same version; README.md, 'Versions'.
 pub const VERSION: &str = "2.0.0";
 /// User data: 32 sectors of 2,048 bytes.
 pub const USER: usize = 65_536;

@@ -29,6 +29,8 @@ for text in '' 2 / : 00 01 10 -1 ' 1' '1 ' ONE; do
     usage_of encode "the first # '$text' among" 'usage: FIRST is 0 or 1' "$(psn_of zone1)" user side dc made "$text"
 done
 usage_of encode 'a wrong PSN among' "$wrong_usage" 0010000 user side dc made 1
+usage_of encode 'a wrong PSN and first # among' 'usage: FIRST is 0 or 1' 0010000 user side dc made 2
+usage_of encode 'a wrong first # and no files among' 'usage: FIRST is 0 or 1' "$(psn_of zone1)" none none none none 2
 
 begin "capital and small digits"
 given_cluster zone0

@@ -42,7 +42,7 @@ left() {
     cp "$2" "$room/after/$1"
 }
 
-# The four parts of a cluster as files to read.
+# User bytes, side data and dc words of a cluster as files to read.
 given_cluster() {
     given user "$vectors/$1.user"
     given side "$vectors/$1.side"

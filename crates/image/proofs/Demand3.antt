@@ -5,12 +5,13 @@ use mathlib.Core.Bool.{Bool, true, false, cond, not}
 use mathlib.Core.List.{List, [], _∷_, _++_}
 use Prim.Native.Nat.{ℕ, zero, suc, _+_, _*_, _%_, _^_, _<_, _≤_}
 use native.Mathlib.Omega.{arith}
-use borrow.Author.Tests.{eq-eqb, ne-eqb}
+use borrow.Author.Tests.{ne-eqb}
 use lib.Dec.{eqb}
 use lib.ListN.{length, getD, take, drop, length-append}
 use lib.Seq.{ext-getD, take-append-seam, drop-append-le}
 use Rattle.laws.specs.Bytes.{Bytes}
 use Rattle.laws.specs.Differing.{differsAt}
+use Rattle.laws.proofs.Differing.{agrees}
 use Rattle.bits.specs.Bits.{Bits, bitsOf, packed}
 use Rattle.bits.proofs.Bits.{bits-then}
 use Rattle.bits.proofs.Pack.{bits-packed}
@@ -157,15 +158,15 @@ abbrev pub startingWith : Bool → Input → Input
 startingWith h input = record { user = input .user; psn = input .psn; side = input .side; dc = input .dc; first = h }
 
 -- it is the first bit, and no other bit depends on it
-pub first-bit : (h : Bool) (input : Input) → imageBits (startingWith h input) ≡ cond h 1 0 ∷ drop 1 (imageBits input)
+pub image-first-bit : (h : Bool) (input : Input) → imageBits (startingWith h input) ≡ cond h 1 0 ∷ drop 1 (imageBits input)
 unfolding imageBits
-first-bit h input = stream-first-bit (recording input) h 495
+image-first-bit h input = stream-first-bit (recording input) h 495
 
 -- in the image's bytes, msb first, as well
-pub first-bit-packed : (h : Bool) (input : Input) → bitsOf (image (startingWith h input)) ≡ cond h 1 0 ∷ drop 1 (bitsOf (image input))
-first-bit-packed h input =
+pub image-first-bit-packed : (h : Bool) (input : Input) → bitsOf (image (startingWith h input)) ≡ cond h 1 0 ∷ drop 1 (bitsOf (image input))
+image-first-bit-packed h input =
     image-bits (startingWith h input)
-    ∙ ap (λ (l : List ℕ). l ++ (0 ∷ 0 ∷ [])) (first-bit h input)
+    ∙ ap (λ (l : List ℕ). l ++ (0 ∷ 0 ∷ [])) (image-first-bit h input)
     ∙ ap (_∷_ (cond h 1 0)) (sym (ap (drop 1) (image-bits input) ∙ drop-append-le 1 (imageBits input) (0 ∷ 0 ∷ []) (omega (arith, image-size input))))
 
 -- lists that begin with other bits and go on alike
@@ -176,11 +177,11 @@ one-differs h l m el em k = ap (λ (x : List ℕ). differsAt x m k) el ∙ ap (�
     by : (h : Bool) (k : ℕ) → differsAt (cond (not h) 1 0 ∷ drop 1 m) (cond h 1 0 ∷ drop 1 m) k ≡ eqb k 0
     by true zero = refl
     by false zero = refl
-    by h (suc k) = ap not (eq-eqb (getD (drop 1 m) k 0) (getD (drop 1 m) k 0) refl) ∙ sym (ne-eqb (suc k) 0 (λ e. omega (arith, e)))
+    by h (suc k) = agrees (cond (not h) 1 0 ∷ drop 1 m) (cond h 1 0 ∷ drop 1 m) (suc k) refl ∙ sym (ne-eqb (suc k) 0 (λ e. omega (arith, e)))
 
 -- HENCE: the image with the other first # differs in its first bit and in no other
 pub other-first : (input : Input) (k : ℕ) → differsAt (imageBits (startingWith (not (input .first)) input)) (imageBits input) k ≡ eqb k 0
-other-first input = one-differs (input .first) _ (imageBits input) (first-bit (not (input .first)) input) (first-bit (input .first) input)
+other-first input = one-differs (input .first) _ (imageBits input) (image-first-bit (not (input .first)) input) (image-first-bit (input .first) input)
 
 pub other-first-packed : (input : Input) (k : ℕ) → differsAt (bitsOf (image (startingWith (not (input .first)) input))) (bitsOf (image input)) k ≡ eqb k 0
-other-first-packed input = one-differs (input .first) _ (bitsOf (image input)) (first-bit-packed (not (input .first)) input) (first-bit-packed (input .first) input)
+other-first-packed input = one-differs (input .first) _ (bitsOf (image input)) (image-first-bit-packed (not (input .first)) input) (image-first-bit-packed (input .first) input)

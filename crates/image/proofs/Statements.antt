@@ -31,7 +31,7 @@ use Rattle.cluster.proofs.Statements.{length-cluster, bytes-cluster}
 use Rattle.image.specs.Image.{Input, IsAccepted, cluster, recording, imageBits, image}
 use Rattle.image.proofs.Recordings.{full}
 use Rattle.cluster.proofs.Rows.{length-row, bytes-row}
-use Rattle.image.proofs.Demand3.{image-size, image-bits, startingWith, first-bit}
+use Rattle.image.proofs.Demand3.{image-size, image-bits, startingWith, image-first-bit}
 
 -- ---- an accepted input
 
@@ -62,7 +62,7 @@ either-first h input is = record { user = is .user; psn = is .psn; side = is .si
 pub four-parts-fail : ((a b : Input) → IsAccepted a → IsAccepted b → a .user ≡ b .user → a .psn ≡ b .psn → a .side ≡ b .side → a .dc ≡ b .dc → imageBits a ≡ imageBits b) → ⊥
 four-parts-fail all =
     let same = all (startingWith true zeros) zeros (either-first true zeros zeros-accepted) zeros-accepted refl refl refl refl in
-    let bit : _≡_ {A = ℕ} 1 0 = ap (λ (l : List ℕ). getD l 0 0) (sym (first-bit true zeros) ∙ same ∙ first-bit false zeros) in
+    let bit : _≡_ {A = ℕ} 1 0 = ap (λ (l : List ℕ). getD l 0 0) (sym (image-first-bit true zeros) ∙ same ∙ image-first-bit false zeros) in
     omega arith
 
 -- ---- the tally and the image

@@ -55,7 +55,7 @@ fn touched(user: &[u8], side: &[u8], dc: &[u32], work: &[u8], left: u8) -> u64 {
 }
 
 // A refusal, with slices of these lengths for user, side, dc and work: number and place, no PSN, no first #, and whether the slices are not left
-// as they should be. Of an image that is accepted, the PSN and the first #.
+// as they should be. Of an image that is accepted, the PSN and the first #; the rest of it is compared by `read`.
 fn refuse(image: &[u8], user: usize, side: usize, dc: usize, work: usize, left: u8) {
     let mut users = lent::user();
     let mut sides = lent::side();

@@ -27,12 +27,12 @@ pub fn write(text: &[u8], psn: u32, first: bool, from: Cluster, blank: Cluster) 
     }
 }
 
-fn words_with(first: usize) -> [u32; 496]
+fn words_with(large: usize) -> [u32; 496]
     ensures { λ r. ⌜ length r ≡ 496 ⌝ }
 {
     let mut words = lent::words();
-    if first < 496 {
-        words[first] = 0x1000_0000;
+    if large < 496 {
+        words[large] = 0x1000_0000;
         words[495] = 0xFFFF_FFFF;
     }
     words
@@ -43,12 +43,12 @@ fn say_touched(image: &[u8], work: &[u8]) {
     marks::if_others(b"  work touched\n", work, lent::WORK_MARK);
 }
 
-// A refusal, with slices of these lengths for user, side, dc, image and work: the answer, and whether image and work were touched. Where `first`
+// A refusal, with slices of these lengths for user, side, dc, image and work: the answer, and whether image and work were touched. Where `large`
 // is the index of a dc word, that and the last are too large.
-fn refuse(psn: u32, first: usize, user: usize, side: usize, dc: usize, image: usize, work: usize) {
+fn refuse(psn: u32, large: usize, user: usize, side: usize, dc: usize, image: usize, work: usize) {
     let users = lent::user();
     let sides = lent::user();
-    let words = words_with(first);
+    let words = words_with(large);
     let mut images = lent::image();
     let mut works = lent::work();
     let answer = writer::write_image(
@@ -74,6 +74,6 @@ pub fn refuse_slices() {
 }
 
 // Tests 6 to 8: a PSN, and the first dc word that is too large.
-pub fn refuse_parts(psn: u32, first: usize) {
-    refuse(psn, first, 65536, 592, 496, 119788, 76880);
+pub fn refuse_parts(psn: u32, large: usize) {
+    refuse(psn, large, 65536, 592, 496, 119788, 76880);
 }

@@ -24,7 +24,7 @@ lastBitsAnswer b = cond (eqb (getD b (recordingSize + 30) 0) 0 && eqb (getD b (r
 
 -- ---- in the bits b of a recording, from its first on
 
--- 10: the syncs, of which # is not judged
+-- 10: the syncs, of which # is not judged (W-201)
 unfoldable pub syncsAnswer : List ℕ → Answer
 syncsAnswer b = lowest Sync 497 (firstWrongSync b)
 

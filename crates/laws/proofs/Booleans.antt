@@ -19,10 +19,6 @@ pub and-false : (a b : Bool) → b ≡ false → (a && b) ≡ false
 and-false true b e = e
 and-false false b e = refl
 
-pub and-same : (a b : Bool) → b ≡ true → (a && b) ≡ a
-and-same true b e = e
-and-same false b e = refl
-
 pub T-true : (b : Bool) → T b → b ≡ true
 T-true true t = refl
 T-true false t = absurd t

@@ -21,20 +21,20 @@ group-bit false false ms = refl
 
 module _ (c : Recording) where
   -- the same frames behind another first #
-  abbrev pub from : Bool → Recording
-  from h = record { first = h; number = c .number; frames = c .frames }
+  abbrev begun : Bool → Recording
+  begun h = record { first = h; number = c .number; frames = c .frames }
 
   -- what follows the first group, of the frames up to n
   unfoldable behind : ℕ → List Three
   behind zero = drop 1 (sync false (c .number 0)) ++ modulated (c .number 0) (c .frames 0) .groups
   behind (suc n) = behind n ++ recorded c (suc n)
 
-  run-behind : (h : Bool) (n : ℕ) → run (from h) (suc n) ≡ firstGroup h ∷ behind n
+  run-behind : (h : Bool) (n : ℕ) → run (begun h) (suc n) ≡ firstGroup h ∷ behind n
   unfolding run behind
   run-behind h zero = refl
   run-behind h (suc n) = ap (λ (l : List Three). l ++ recorded c (suc n)) (run-behind h n)
 
-  pub stream-first-bit : (h : Bool) (n : ℕ) → bits (stream (from h) (suc n)) ≡ cond h 1 0 ∷ drop 1 (bits (stream c (suc n)))
+  pub stream-first-bit : (h : Bool) (n : ℕ) → bits (stream (begun h) (suc n)) ≡ cond h 1 0 ∷ drop 1 (bits (stream c (suc n)))
   stream-first-bit h n =
       let end = sync (hash c (suc n)) (c .number (suc n)) in
       ap (λ (l : List Three). bits (l ++ end)) (run-behind h n)

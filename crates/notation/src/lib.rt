@@ -6,7 +6,7 @@ ghost use mathlib.Core.Path.{_≡_};
 ghost use Prim.Native.Nat.{_≤_};
 ghost use Rattle.sizes.specs.Sizes.{frameCount};
 ghost use Rattle.notation.specs.Psn.{digitOf, psnOf};
-ghost use Rattle.notation.specs.First.{firstOf};
+ghost use Rattle.notation.specs.FirstHash.{firstOf};
 ghost use Rattle.notation.specs.Words.{wordCount, wordsRead, bytesRead};
 
 // A PSN, or a text that is not eight hexadecimal digits. Document 01 has no number for it.

@@ -18,7 +18,7 @@ use Rattle.judging.specs.steps.Tested.{FramesTested}
 use Rattle.strict_cluster.specs.Outcome.{accepted, cleared, outcomeBy}
 use Rattle.cluster_tests.specs.steps.Tested.{clusterAnswer}
 use Rattle.strict_cluster.specs.steps.Given.{clusterOutcome}
-use Rattle.reader.specs.Outcome.{Lent, Outcome, imageAnswer, withFirst, imageOutcome, sizesAnswer, wrongSizes, outcome}
+use Rattle.reader.specs.Outcome.{Lent, imageAnswer, withFirst, imageOutcome, sizesAnswer, wrongSizes, outcome}
 use Rattle.reader.specs.steps.Read.{RecordingTested}
 
 -- ---- tests 9 to 11; a is what 9 and 10 answer, d whether it is `Done`
@@ -99,14 +99,6 @@ module _ (b user side dc before words work : List ℕ) (a : Answer) (tested : Re
   pub image-read : withFirst (firstHash b) (clusterOutcome a work words (lent work)) ≡ imageOutcome b (lent before)
   unfolding imageOutcome
   image-read = ap (withFirst (firstHash b)) cluster-read
-
--- ---- # of the sync of frame 0; d is whether the answer is `Done`
-
-pub hash-read : (b : List ℕ) (a : Answer) (d h : Bool) → d ≡ isDone a → d ≡ true → h ≡ firstHash b → h ≡ (isDone a && firstHash b)
-hash-read b a d h ed t e = e ∙ ap (λ (x : Bool). x && firstHash b) (sym t ∙ ed)
-
-pub hash-refused : (b : List ℕ) (a : Answer) (d : Bool) → d ≡ isDone a → d ≡ false → false ≡ (isDone a && firstHash b)
-hash-refused b a d ed f = ap (λ (x : Bool). x && firstHash b) (sym f ∙ ed)
 
 -- ---- the outcome; a is what the lengths answer, d whether it is `Done`
 

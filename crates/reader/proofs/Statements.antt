@@ -26,8 +26,8 @@ use Rattle.cluster.proofs.Statements as Cluster
 use Rattle.recording.specs.Reading.{firstWrongSync, firstNoFrame, firstHash, clusterIn, dcIn}
 use Rattle.recording.proofs.Accepting.{Passes, length-work, bytes-work, length-dc, dc-small}
 use Rattle.image.specs.Image.{Input, IsAccepted, cluster, imageBits, image}
-use Rattle.image.proofs.Demand3.{image-bits, image-size}
-use Rattle.image.proofs.Statements.{zeros, zeros-accepted}
+use Rattle.image.proofs.Demand3.{image-bits, image-size, startingWith}
+use Rattle.image.proofs.Statements.{zeros, zeros-accepted, either-first}
 use Rattle.judging.specs.Tests.{lastBitsAnswer, syncsAnswer, framesAnswer, bisColumnsAnswer, addressFieldsAnswer, foundAnswer, psnAnswer, clusterPsn, ldcColumnsAnswer, sectorsAnswer}
 use Rattle.judging.proofs.Passing.{read-psn, passes-reads}
 use Rattle.strict_cluster.specs.Outcome.{accepted, cleared, outcomeBy}
@@ -166,9 +166,9 @@ module _ (l : List ℕ) (before : Lent) (bytes : Bytes l) where
             always = λ f input is h. (ap (λ (o : Outcome). numberOf (o .answer)) (back f input is h), ap returned (back f input is h));
           }
 
--- the image of the cluster of zeros is read
-pub zeros-read : (before : Lent) → RightSlices before → outcome (image zeros) before ≡ given zeros
-zeros-read before right = read-back zeros zeros-accepted before right
+-- the image of the cluster of zeros is read, with either first #
+pub zeros-read : (h : Bool) (before : Lent) → RightSlices before → outcome (image (startingWith h zeros)) before ≡ given (startingWith h zeros)
+zeros-read h before right = read-back (startingWith h zeros) (either-first h zeros zeros-accepted) before right
 
 -- ---- A REFUSAL: the PSN is 0 and the first # false; user, side and dc are as they were; work is as it was under 1 to 5 and zeros under 9 to 16
 

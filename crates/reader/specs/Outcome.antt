@@ -11,7 +11,7 @@ use Rattle.scrambling.specs.Scrambling.{scramblingOf}
 use Rattle.cluster.specs.Multiplex.{bisIn}
 use Rattle.recording.specs.Reading.{firstHash, clusterIn, dcIn}
 use Rattle.judging.specs.Tests.{lastBitsAnswer, syncsAnswer, framesAnswer, bisColumnsAnswer, addressFieldsAnswer, psnAnswer, clusterPsn, ldcColumnsAnswer, sectorsAnswer}
-use Rattle.strict_cluster.specs.Outcome as Cluster
+use Rattle.strict_cluster.specs.Outcome as Strict
 pub use Rattle.strict_cluster.specs.Outcome.{Lent}
 
 pub record Outcome : Type 0 where
@@ -34,12 +34,12 @@ imageAnswer b =
     (sectorsAnswer (scramblingOf (clusterPsn work)) work)))))))
 
 -- what is read of a cluster, and # of the sync of frame 0, which is false on refusal
-abbrev pub withFirst : Bool → Cluster.Outcome → Outcome
+abbrev pub withFirst : Bool → Strict.Outcome → Outcome
 withFirst first read = record { answer = read .answer; psn = read .psn; first = isDone (read .answer) && first; lent = read .lent }
 
 -- accepted, or refused by them
 unfoldable pub imageOutcome : List ℕ → Lent → Outcome
-imageOutcome b before = withFirst (firstHash b) (Cluster.outcomeBy (imageAnswer b) (clusterIn b) (dcIn b) before)
+imageOutcome b before = withFirst (firstHash b) (Strict.outcomeBy (imageAnswer b) (clusterIn b) (dcIn b) before)
 
 -- 1 to 5: the lengths
 abbrev pub sizesAnswer : List ℕ → Lent → Answer

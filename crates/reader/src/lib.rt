@@ -2,12 +2,10 @@
 use address::Psn;
 use answer::Answer;
 ghost use mathlib.Core.Path.{_≡_};
-ghost use mathlib.Core.Bool.{_&&_};
 ghost use lib.ListN.{length};
 ghost use Rattle.sizes.specs.Sizes.{frameCount, imageSize, workSize};
 ghost use Rattle.bits.specs.Bits.{bitsOf};
-ghost use Rattle.answer.specs.Answer.{numberOf, isDone};
-ghost use Rattle.recording.specs.Reading.{firstHash};
+ghost use Rattle.answer.specs.Answer.{numberOf};
 ghost use Rattle.reader.specs.Outcome.{outcome};
 ghost use Rattle.reader.specs.Promise.{ReadsExactly};
 ghost use Rattle.reader.specs.steps.Read.{RecordingTested};
@@ -30,16 +28,6 @@ fn test_recording(image: &[u8], words: &mut [u32], work: &mut [u8]) -> Answer
         return judging::steps::frames(image, 0, words, work);
     }
     answer
-}
-
-// # of the sync of frame 0, false on refusal.
-fn first_hash(answer: Answer, image: &[u8]) -> bool
-    ensures { λ r. ⌜ r ≡ (isDone answer && firstHash (bitsOf (now (image .entry)))) ⌝ }
-{
-    if answer.is_done() {
-        return frame_sync::hash_at(image, 0);
-    }
-    false
 }
 
 fn no_words() -> [u32; sizes::FRAMES]
@@ -69,7 +57,7 @@ pub fn read_image(
         let read = strict_cluster::steps::read(tested, work, &words, user, side, dc);
         let answer = read.answer;
         let psn = read.psn;
-        let first = first_hash(answer, image);
+        let first = recording_syncs::steps::first_hash(answer, image, 0);
         return Read { answer, psn, first };
     }
     Read {

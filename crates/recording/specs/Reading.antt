@@ -1,4 +1,5 @@
--- What is read in the bits b of a recording, from its first bit on: answers 10 and 11 of document 01, the ECC cluster and the dc words.
+-- What is read in the bits b of a recording, from its first bit on: answers 10 (document 01, W-201) and 11, the first #, the ECC cluster and the dc
+-- words.
 use mathlib.Core.Bool.{Bool, not}
 use mathlib.Core.List.{List}
 use Prim.Native.Nat.{ℕ, _+_, _*_, _/_, _%_}
@@ -19,10 +20,6 @@ wrongSync b n = not (syncRight (syncNumber n) b (frameSize * n))
 unfoldable pub firstWrongSync : List ℕ → ℕ
 firstWrongSync b = first 497 (wrongSync b)
 
--- # of the sync of frame 0, as it stands there
-abbrev pub firstHash : List ℕ → Bool
-firstHash b = hashAt b 0
-
 -- ---- 11: the lowest frame that no 1,268 bits give together with # of the next sync, or 496
 
 -- the 1,902 modulation bits behind the sync of frame n, and # of the sync behind them
@@ -38,6 +35,11 @@ noFrame b n = not (readable (syncNumber n) (modulatedAt b n) (hashBehind b n))
 
 unfoldable pub firstNoFrame : List ℕ → ℕ
 firstNoFrame b = first frameCount (noFrame b)
+
+-- ---- # of the sync of frame 0, as it stands there
+
+abbrev pub firstHash : List ℕ → Bool
+firstHash b = hashAt b 0
 
 -- ---- the ECC cluster, row by row, and the dc words
 

@@ -1,2 +1,2 @@
--- Syncs judged.
+-- Syncs judged, and the first #.
 pub mod Judging

@@ -1,8 +1,11 @@
-// Test 10 on a recording from bit `at` on.
+// The syncs of a recording from bit `at` on.
+use answer::Answer;
 ghost use mathlib.Core.Path.{_≡_};
+ghost use mathlib.Core.Bool.{_&&_};
 ghost use lib.ListN.{drop};
 ghost use Rattle.bits.specs.Bits.{bitsOf};
-ghost use Rattle.recording.specs.Reading.{firstWrongSync};
+ghost use Rattle.answer.specs.Answer.{isDone};
+ghost use Rattle.recording.specs.Reading.{firstWrongSync, firstHash};
 ghost use Rattle.recording.specs.steps.Within.{Within};
 
 // Test 10: the lowest frame whose sync is wrong, or 497; # is not judged.
@@ -19,4 +22,14 @@ pub fn first_wrong_sync(image: &[u8], at: usize) -> usize
         sync += 1;
     }
     sync
+}
+
+// # of the sync of frame 0; false where an answer refuses.
+pub fn first_hash(answer: Answer, image: &[u8], at: usize) -> bool
+    ensures { λ r. ⌜ r ≡ (isDone answer && firstHash (drop at (bitsOf (now (image .entry))))) ⌝ }
+{
+    if answer.is_done() {
+        return frame_sync::hash_at(image, at);
+    }
+    false
 }

@@ -1,8 +1,8 @@
--- The words of an answer and a verdict: how long they are, and how they are put together. Assumes nothing.
+-- The words of an answer, of what was read and of a verdict: how long they are, and how they are put together. Assumes nothing.
 use mathlib.Core.Path.{_≡_, refl, sym, ap, ap₂, _∙_}
 use mathlib.Core.Bool.{Bool, true, false}
 use mathlib.Core.List.{List, _++_, append-assoc}
-use Prim.Native.Nat.{ℕ, _+_, _≤_}
+use Prim.Native.Nat.{ℕ, _≤_}
 use native.Mathlib.Omega.{arith}
 use lib.ListN.{length, length-append}
 use Rattle.answer.specs.declared.Answer.{Answer}
@@ -87,9 +87,9 @@ psn-behind-is words psn b t u v hb ht hu hv =
     added-three b words (hexadecimal psn) (the "\n") t u v ht hu hv ∙ ap₂ added hb (append-assoc words (hexadecimal psn) (the "\n"))
 
 -- of a first # that is known to be h
-pub read-is : (psn : ℕ) (first h : Bool) (t u : Text) → first ≡ h → t ≡ added blankText (psnText psn) → u ≡ added t (firstText h) → u ≡ textOf (readText psn first)
+pub read-text-is : (psn : ℕ) (first h : Bool) (t u : Text) → first ≡ h → t ≡ added blankText (psnText psn) → u ≡ added t (firstText h) → u ≡ textOf (readText psn first)
 unfolding readText
-read-is psn first h t u e ht hu =
+read-text-is psn first h t u e ht hu =
     from-blank (readText psn first) u (omega (arith, read-short psn first))
     (added-two blankText (psnText psn) (firstText h) t u ht hu ∙ ap (λ (f : Bool). added blankText (psnText psn ++ firstText f)) (sym e))
 

@@ -37,15 +37,15 @@ meaning WrongColumn = the "the data are not 1 to 223 bytes, or the parity is not
 unfoldable pub answerText : Answer → List ℕ
 answerText a = decimal (numberOf a) ++ the " " ++ decimal (placeOf a) ++ the "\n" ++ meaning a
 
--- ---- PSNs and verdicts
+-- ---- what was read, and verdicts
 
 unfoldable pub psnText : ℕ → List ℕ
 psnText psn = hexadecimal psn ++ the "\n"
 
--- what was read: the PSN and the first #, a line each
 abbrev pub firstText : Bool → List ℕ
 firstText first = cond first (the "first # 1\n") (the "first # 0\n")
 
+-- the PSN and the first #, a line each
 unfoldable pub readText : ℕ → Bool → List ℕ
 readText psn first = psnText psn ++ firstText first
 

@@ -1,4 +1,4 @@
-// What the programs print for an answer, a verdict and a PSN that was read, as bytes. The definitions are in specs; `answer_report`, `psn_report` and
+// What the programs print for an answer, a verdict and an image that was read, as bytes. The definitions are in specs; `answer_report`, `psn_report` and
 // `verdict_report` have the functions.
 use texts::Text;
 

@@ -10,7 +10,8 @@ use lib.ListN.{length, getD}
 use Rattle.laws.specs.Bytes.{Bytes}
 use Rattle.laws.proofs.First.{first-none, first-all}
 use Rattle.image.specs.Image.{Input, cluster, image}
-use Rattle.image.proofs.Statements.{zeros, zeros-accepted}
+use Rattle.image.proofs.Demand3.{startingWith}
+use Rattle.image.proofs.Statements.{zeros, zeros-accepted, either-first}
 use Rattle.answer.specs.declared.Answer.{Answer}
 use Rattle.answer.specs.declared.Answer.the-variants.{Done, DcWord}
 use Rattle.answer.specs.Answer.{numberOf, placeOf, isDone, lowest}
@@ -83,9 +84,9 @@ untouched input before work h =
     let kept = done-or-not (answer input (length before) (length work)) h in
     (ap (λ (d : Bool). cond d (image input) before) kept, ap (λ (d : Bool). cond d (cluster input) work) kept)
 
--- the cluster of zeros is written
-pub zeros-written : (before work : List ℕ) → length before ≡ 119788 → length work ≡ 76880 → numberOf (outcome zeros before work .answer) ≡ 0
-zeros-written before work i w =
-    let is = zeros-accepted in
-    encoded zeros before work (is .user .bytes) (is .side .bytes) .1
+-- the cluster of zeros is written, with either first #
+pub zeros-written : (h : Bool) (before work : List ℕ) → length before ≡ 119788 → length work ≡ 76880 → numberOf (outcome (startingWith h zeros) before work .answer) ≡ 0
+zeros-written h before work i w =
+    let is = either-first h zeros zeros-accepted in
+    encoded (startingWith h zeros) before work (is .user .bytes) (is .side .bytes) .1
     (record { accepted = is; lengths = record { user = is .user .size; side = is .side .size; dc = is .dc .size; work = w }; image-size = i })

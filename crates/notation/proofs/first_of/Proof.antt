@@ -1,5 +1,5 @@
--- `first_of` meets its contract, case by case (First).
-use Rattle.notation.proofs.First.{no-one-byte, is-zero, is-one, is-neither}
+-- `first_of` meets its contract, case by case (FirstHash).
+use Rattle.notation.proofs.FirstHash.{no-one-byte, is-zero, is-one, is-neither}
 use borrow.Author.Needs.{needs}
 use Rattle.notation.proofs.first_of.Statement.{statement}
 use Rattle.notation.proofs.first_of.Tie as tie

@@ -6,7 +6,7 @@ use Prim.Native.Nat.{ℕ}
 use borrow.Author.Tests.{eq-eqb, ne-eqb}
 use lib.ListN.{length, getD}
 use Rattle.notation.specs.declared.FirstText.the-variants.{Hash, NoHash}
-use Rattle.notation.specs.First.{firstOf}
+use Rattle.notation.specs.FirstHash.{firstOf}
 
 module _ (text : List ℕ) where
   pub no-one-byte : (length text ≡ 1 → ⊥) → NoHash ≡ firstOf text

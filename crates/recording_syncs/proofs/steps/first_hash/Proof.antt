@@ -1,8 +1,8 @@
--- `first_hash` meets its contract: the answer decides (Reading).
+-- `first_hash` meets its contract: the answer decides (Judging).
 use borrow.Author.Needs.{needs}
-use Rattle.reader.proofs.Reading.{hash-read, hash-refused}
-use Rattle.reader.proofs.first_hash.Statement.{statement}
-use Rattle.reader.proofs.first_hash.Tie as tie
+use Rattle.recording_syncs.proofs.Judging.{hash-read, hash-refused}
+use Rattle.recording_syncs.proofs.steps.first_hash.Statement.{statement}
+use Rattle.recording_syncs.proofs.steps.first_hash.Tie as tie
 
 is-done-requires : tie.Need-is-done-requires
 is-done-requires c κs = search needs
