@@ -157,7 +157,7 @@ equal-images a b ha hb = (λ e. images-equal a b ha hb .0 (front e), λ s. unfol
 abbrev pub startingWith : Bool → Input → Input
 startingWith h input = record { user = input .user; psn = input .psn; side = input .side; dc = input .dc; first = h }
 
--- it is the first bit, and no other bit depends on it
+-- the first # is the first bit, and no other bit depends on it
 pub image-first-bit : (h : Bool) (input : Input) → imageBits (startingWith h input) ≡ cond h 1 0 ∷ drop 1 (imageBits input)
 unfolding imageBits
 image-first-bit h input = stream-first-bit (recording input) h 495
