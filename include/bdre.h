@@ -50,7 +50,7 @@ struct bdre_read_answer {
     uint32_t number;
     uint32_t psn; /* 0 unless number is 0 */
     size_t place;
-    bool first; /* # of the sync of frame 0, true for ONE; false unless number is 0 */
+    bool first; /* # of the first frame sync, true for ONE; false unless number is 0 */
 };
 
 struct bdre_marking {
@@ -65,14 +65,14 @@ struct bdre_conversion {
     uint32_t value; /* 0 unless number is 0 */
 };
 
-/* Writes the image of a cluster, from its user data, the PSN of its first sector, its side data, its dc words and # of the sync of frame
- * 0, true for ONE. 0: image holds the image, work the ECC cluster. 1 to 8: both are as they were. */
+/* Writes the image of a cluster, from its user data, the PSN of its first sector, its side data, its dc words and # of its first frame
+ * sync, true for ONE. 0: image holds the image, work the ECC cluster. 1 to 8: both are as they were. */
 struct bdre_answer bdre_write_image(const uint8_t *user, size_t user_length, uint32_t psn, const uint8_t *side, size_t side_length,
                                     const uint32_t *dc, size_t dc_length, bool first, uint8_t *image, size_t image_length,
                                     uint8_t *work, size_t work_length);
 
-/* Reads an image strictly. 0: user, side and dc hold what the image was made of, work its ECC cluster; psn is its PSN and first its first
- * #. 1 to 5: all are as they were. 9 to 16: work is all zeros, the others are as they were. */
+/* Reads an image strictly. 0: user, side and dc hold what the image was made of, work its ECC cluster; psn is its PSN, and first is # of
+ * its first frame sync. 1 to 5: all are as they were. 9 to 16: work is all zeros, the others are as they were. */
 struct bdre_read_answer bdre_read_image(const uint8_t *image, size_t image_length, uint8_t *user, size_t user_length, uint8_t *side,
                                         size_t side_length, uint32_t *dc, size_t dc_length, uint8_t *work, size_t work_length);
 

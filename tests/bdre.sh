@@ -4,7 +4,7 @@ begin "bdre: help, version, usage"
 bdre_ends 0 "$usage" '' --help
 version=$(sed -n 's/^#define BDRE_VERSION "\(.*\)".*/\1/p' "$root/include/bdre.h")
 bdre_ends 0 "bdre $version" '' --version
-grep -q "^pub const VERSION: &str = \"$version\";" "$root/include/bdre.rs" || fail "the header and the wrapper for Rust say other versions"
+grep -qxF "pub const VERSION: &str = \"$version\";" "$root/include/bdre.rs" || fail "the header and the wrapper for Rust say other versions"
 for words in '' 'enkode' 'tally more' 'demo more'; do
     bdre_ends 2 "$usage" '' $words
 done

@@ -55,7 +55,8 @@ pub extern "C" fn bdre_read_image(
     export_reader::read_image(image, user, side, dc, work)
 }
 
-// Marks an image: whether it is that of these user bytes, this side data and this PSN under some dc words and some first #. The other slices are lent to read it.
+// Marks an image: whether it is that of these user bytes, this side data and this PSN under some dc words and some first #. The other slices
+// are lent to read it.
 #[no_mangle]
 pub extern "C" fn bdre_mark_image(
     psn: u32,

@@ -7,7 +7,8 @@ ghost use Rattle.reader.specs.Promise.{RightSlices};
 ghost use Rattle.marker.specs.Marked.{IsImageOf, marked};
 ghost use Rattle.export_marker.specs.Exported.{markedNumbers};
 
-// Marks an image: whether it is that of these user bytes, this side data and this PSN under some dc words and some first #. The other slices are lent to read it.
+// Marks an image: whether it is that of these user bytes, this side data and this PSN under some dc words and some first #. The other slices
+// are lent to read it.
 pub fn mark_image(
     psn: u32,
     user: &[u8],

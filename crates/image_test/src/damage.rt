@@ -37,10 +37,12 @@ pub fn refuse(whole: [u8; 119788], file: [u8; 53135]) {
     refuse_each(&whole, &file, &mut image);
     io::write_all(1, b"reading refused\n");
     reading::refuse_slices(&whole);
+}
+
+// An image with first # ONE: slices that are refused, then its last bit.
+pub fn refuse_one(image: &mut [u8]) {
     io::write_all(1, b"reading refused, first # ONE\n");
-    let mut one = whole;
-    compare::flip(&mut one, 0, 128);
-    reading::refuse_slices(&one);
-    compare::flip(&mut one, 119787, 1);
-    reading::refuse_image(&one);
+    reading::refuse_slices(image);
+    compare::flip(image, 119787, 1);
+    reading::refuse_image(image);
 }

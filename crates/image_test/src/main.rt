@@ -37,17 +37,20 @@ fn with_one(given: test_clusters::Cluster) -> test_clusters::Cluster {
     out
 }
 
+fn ways(psn: u32, first: bool, given: test_clusters::Cluster) {
+    write(psn, first, given);
+    read(psn, first, given);
+}
+
 // With first # ZERO, as the files have it, and with ONE.
 fn both_ways(k: usize, psn: u32) {
     let name = cut::line(b"zero\nzone0\nzone1\nzone2\nones", k);
     io::write_all(1, name);
     lines::end_line();
     let given = test_clusters::load(name, test_clusters::marked());
-    write(psn, false, given);
-    read(psn, false, given);
+    ways(psn, false, given);
     io::write_all(1, b"first # ONE\n");
-    write(psn, true, with_one(given));
-    read(psn, true, with_one(given));
+    ways(psn, true, with_one(given));
 }
 
 fn files() {
@@ -65,6 +68,12 @@ fn images_refused() {
     let image = given.image;
     let file = damage::records([0u8; 53135]);
     damage::refuse(image, file);
+}
+
+fn image_with_one_refused() {
+    let given = with_one(test_clusters::load(b"zone1", test_clusters::marked()));
+    let mut image = given.image;
+    damage::refuse_one(&mut image);
 }
 
 // A cluster drawn from a seed, written and read, and what was read written again.
@@ -101,6 +110,7 @@ fn inputs_refused() {
 fn main() {
     files();
     images_refused();
+    image_with_one_refused();
     round_trips();
     inputs_refused();
 }

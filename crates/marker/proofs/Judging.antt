@@ -26,9 +26,9 @@ module _ (user side : ℕ) where
       let both = then-done (sized user 65536 (WrongUser 0)) (sized side 592 WrongSide) e in
       (sized-done (WrongUser 0) refl (both .0), sized-done WrongSide refl (both .1))
 
--- ---- as the code has it: a, p, h and l are what the reader answered and left, d whether a is `Done`
+-- ---- as the code has it: a, p, f and l are what the reader answered and left, d whether a is `Done`
 
-module _ (psn : ℕ) (user side : List ℕ) (o : Outcome) (a : Answer) (p : ℕ) (h : Bool) (l : Lent) (d : Bool) (e : record { answer = a; psn = p; first = h; lent = l } ≡ o) (hd : d ≡ isDone a) where
+module _ (psn : ℕ) (user side : List ℕ) (o : Outcome) (a : Answer) (p : ℕ) (f : Bool) (l : Lent) (d : Bool) (e : record { answer = a; psn = p; first = f; lent = l } ≡ o) (hd : d ≡ isDone a) where
   pub is-compared : (v : Verdict) → d ≡ true → v ≡ compared psn user side p (l .user) (l .side) → record { verdict = v; lent = l } ≡ markedRead psn user side o
   is-compared v t h =
       let done : isDone a ≡ true = sym hd ∙ t in

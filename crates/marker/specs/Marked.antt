@@ -16,7 +16,8 @@ use Rattle.sizes.specs.Sizes.{sideSize, userSize}
 
 -- ---- what a pass says
 
--- some dc words and some first # make an accepted input whose image this is: 13.17.3 and 14.2.2.4 leave both to the recorder
+-- some dc words and some first # make an accepted input whose image this is: the demands leave the dc-control bits to the participant, 14.2.2.4 the
+-- first # to the recorder
 pub record IsImageOf (psn : ℕ) (user side image : List ℕ) : Type 0 where
   pub dc : List ℕ
   pub first : Bool
