@@ -1,19 +1,20 @@
--- A word and its four bytes give each other, the word is the number that their bits make, and combined words have combined bytes. Assumes nothing.
-use mathlib.Core.Path.{_≡_, refl, sym, ap, _∙_}
-use mathlib.Core.List.{List, [], _∷_}
+-- A word and its four bytes give each other, the word is the number that their bits make, and combined words have combined bytes; so have numbers of
+-- 64 bits, of which the eight bytes are those of two words. Assumes nothing.
+use mathlib.Core.Path.{_≡_, refl, sym, ap, ap₂, _∙_}
+use mathlib.Core.List.{List, [], _∷_, _++_}
 use Prim.Native.Nat.{ℕ, zero, suc, _+_, _*_, _/_, _%_, _^_, _<_, _≤_}
-use native.Mathlib.Nat.{mod-lt, mod-eq-of-lt, zero-lt-suc}
+use native.Mathlib.Nat.{add-comm, mod-lt, mod-eq-of-lt, zero-lt-suc}
 use native.Mathlib.Omega.{arith}
 use lib.Arith.{digits-mod}
 use lib.Bits.{bitXor, xor-shr, xor-mod}
 use lib.ListN.{length, getD, take, drop}
-use lib.Pow.{split, shr-shr, shr-mod}
-use lib.Seq.{drop-cons}
+use lib.Pow.{pow-pos, split, high, field, mod-mod-pow, shr-lt, shr-shr, shr-mod}
+use lib.Seq.{drop-cons, take-add, drop-drop}
 use Rattle.laws.specs.Bytes.{Bytes}
 use Rattle.laws.specs.Combined.{combined}
 use Rattle.bits.specs.Bits.{bitsOf, number}
 use Rattle.bits.proofs.Concat.{number-bytes, number-byte}
-use Rattle.big_endian.specs.Words.{wordOf, wordAt, fourBytes}
+use Rattle.big_endian.specs.Words.{wordOf, wordAt, fourBytes, eightBytes}
 
 -- ---- four bytes
 
@@ -95,3 +96,42 @@ byte-of-word l at j bytes h =
     byte-there (suc (suc zero)) h = refl
     byte-there (suc (suc (suc zero))) h = refl
     byte-there (suc (suc (suc (suc j)))) h = absurd (omega arith)
+
+-- the bytes of the word are four of the list
+pub four-there : (l : List ℕ) (at : ℕ) → Bytes l → at + 4 ≤ length l → fourBytes (wordAt l at) ≡ take 4 (drop at l)
+four-there l at bytes h =
+    four-bytes-back (getD l at 0) (getD l (at + 1) 0) (getD l (at + 2) 0) (getD l (at + 3) 0) (bytes at) (bytes (at + 1)) (bytes (at + 2)) (bytes (at + 3)) ∙ four-at l at h
+
+-- ---- eight bytes
+
+two-words : (v : ℕ) → eightBytes v ≡ fourBytes (v / 2 ^ 32) ++ fourBytes v
+two-words v = rw (shr-shr v 32 24, shr-shr v 32 16, shr-shr v 32 8)
+
+-- what stands above a word's bits has no part in its bytes
+four-low : (v : ℕ) → fourBytes (v % 2 ^ 32) ≡ fourBytes v
+four-low v =
+    let byte-at : (j k : ℕ) → v % 2 ^ (8 + j + k) / 2 ^ k % 256 ≡ v / 2 ^ k % 256 =
+    λ j k. ap (λ (x : ℕ). x % 256) (field v (8 + j) k) ∙ ap (λ (n : ℕ). v / 2 ^ k % 2 ^ n % 256) (add-comm 8 j) ∙ mod-mod-pow (v / 2 ^ k) j 8 in
+    cc (byte-at 0 24, byte-at 8 16, byte-at 16 8, mod-mod-pow v 24 8)
+
+pub number-of-eight : (v : ℕ) → v < 2 ^ 64 → number (bitsOf (eightBytes v)) ≡ v
+number-of-eight v h =
+    let low : number (bitsOf (fourBytes v)) ≡ v % 2 ^ 32 = ap (λ (l : List ℕ). number (bitsOf l)) (sym (four-low v)) ∙ number-of-four (v % 2 ^ 32) (mod-lt v (pow-pos 32)) in
+    rw (two-words v, number-bytes (fourBytes (v / 2 ^ 32)) (fourBytes v), number-of-four (v / 2 ^ 32) (shr-lt 32 32 h), low) (split v 32)
+
+pub eight-combined : (v w : ℕ) → eightBytes (bitXor v w) ≡ combined (eightBytes v) (eightBytes w)
+unfolding combined
+eight-combined v w =
+    let byte-at : (k : ℕ) → bitXor v w / 2 ^ k % 256 ≡ bitXor (v / 2 ^ k % 256) (w / 2 ^ k % 256) =
+    λ k. ap (λ (x : ℕ). x % 256) (xor-shr v w k) ∙ xor-mod (v / 2 ^ k) (w / 2 ^ k) 8 in
+    cc (byte-at 56, byte-at 48, byte-at 40, byte-at 32, byte-at 24, byte-at 16, byte-at 8, xor-mod v w 8)
+
+-- the eight bytes of two words of a list, one behind the other
+pub eight-there : (l : List ℕ) (at hi lo : ℕ) → Bytes l → at + 8 ≤ length l → hi ≡ wordAt l at → lo ≡ wordAt l (at + 4) → lo < 2 ^ 32
+    → eightBytes (hi * 2 ^ 32 + lo) ≡ take 8 (drop at l)
+eight-there l at hi lo bytes h eh el low =
+    let back : fourBytes (hi * 2 ^ 32 + lo) ≡ fourBytes lo = sym (four-low (hi * 2 ^ 32 + lo)) ∙ ap fourBytes (digits-mod hi low) in
+    two-words (hi * 2 ^ 32 + lo)
+    ∙ ap₂ _++_ (ap fourBytes (high hi 32 low ∙ eh) ∙ four-there l at bytes (omega arith)) (back ∙ ap fourBytes el ∙ four-there l (at + 4) bytes (omega arith))
+    ∙ ap (λ (m : List ℕ). take 4 (drop at l) ++ take 4 m) (sym (drop-drop 4 at l))
+    ∙ sym (take-add 4 4 (drop at l))

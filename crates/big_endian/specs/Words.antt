@@ -1,4 +1,4 @@
--- A word is a number of 32 bits; its four bytes, the highest first.
+-- A word is a number of 32 bits; its four bytes, and the eight of a number of 64 bits, the highest first.
 use mathlib.Core.List.{List, [], _∷_}
 use Prim.Native.Nat.{ℕ, _+_, _*_, _/_, _%_, _^_}
 use lib.ListN.{getD}
@@ -14,3 +14,7 @@ wordAt bytes at = wordOf (getD bytes at 0) (getD bytes (at + 1) 0) (getD bytes (
 -- the four bytes of a word
 abbrev pub fourBytes : ℕ → List ℕ
 fourBytes v = v / 2 ^ 24 % 256 ∷ v / 2 ^ 16 % 256 ∷ v / 2 ^ 8 % 256 ∷ v % 256 ∷ []
+
+-- the eight bytes of a number of 64 bits
+abbrev pub eightBytes : ℕ → List ℕ
+eightBytes v = v / 2 ^ 56 % 256 ∷ v / 2 ^ 48 % 256 ∷ v / 2 ^ 40 % 256 ∷ v / 2 ^ 32 % 256 ∷ v / 2 ^ 24 % 256 ∷ v / 2 ^ 16 % 256 ∷ v / 2 ^ 8 % 256 ∷ v % 256 ∷ []

@@ -1,8 +1,8 @@
-// Words, numbers of 32 bits, and their four bytes, the highest first.
+// Words, numbers of 32 bits, and their four bytes; numbers of 64 bits and their eight; the highest first.
 pub mod steps;
 
 ghost use mathlib.Core.Path.{_≡_};
-ghost use Rattle.big_endian.specs.Words.{wordOf, fourBytes};
+ghost use Rattle.big_endian.specs.Words.{wordOf, fourBytes, eightBytes};
 
 // The word of four bytes.
 pub fn word(a: u8, b: u8, c: u8, d: u8) -> u32
@@ -20,5 +20,21 @@ pub fn word_bytes(word: u32) -> [u8; 4]
         (word / 0x0001_0000 % 256) as u8,
         (word / 0x0000_0100 % 256) as u8,
         (word % 256) as u8,
+    ]
+}
+
+// The eight bytes of a number of 64 bits.
+pub fn eight_bytes(number: u64) -> [u8; 8]
+    ensures { λ r. ⌜ r ≡ eightBytes number ⌝ }
+{
+    [
+        (number / 0x0100_0000_0000_0000 % 256) as u8,
+        (number / 0x0001_0000_0000_0000 % 256) as u8,
+        (number / 0x0000_0100_0000_0000 % 256) as u8,
+        (number / 0x0000_0001_0000_0000 % 256) as u8,
+        (number / 0x0000_0000_0100_0000 % 256) as u8,
+        (number / 0x0000_0000_0001_0000 % 256) as u8,
+        (number / 0x0000_0000_0000_0100 % 256) as u8,
+        (number % 256) as u8,
     ]
 }

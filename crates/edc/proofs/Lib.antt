@@ -3,6 +3,6 @@ pub mod Polynomial
 pub mod Division
 pub mod Detection
 pub mod Quotient
-pub mod Loops
 pub mod Register
+pub mod Loops
 pub mod Linear

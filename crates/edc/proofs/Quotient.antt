@@ -1,15 +1,15 @@
--- The code of four bytes without a loop: the quotient of their bits, times x^32, by G(x) is a sum of shifted copies. Assumes nothing.
-use mathlib.Core.Path.{_≡_, sym, ap, ap₂, subst, _∙_}
-use Prim.Native.Nat.{ℕ, _+_, _*_, _/_, _%_, _^_, _<_}
-use native.Mathlib.Nat.{mod-lt, add-comm, zero-mul, div-eq-of-lt}
+-- The code without a loop over bits: a quotient by G(x) is a sum of shifted copies. Assumes nothing.
+use mathlib.Core.Path.{_≡_, refl, sym, ap, ap₂, subst, _∙_}
+use Prim.Native.Nat.{ℕ, zero, suc, _+_, _*_, _-_, _/_, _%_, _^_, _<_}
+use native.Mathlib.Nat.{mod-lt, add-comm, zero-mul, div-eq-of-lt, lt-of-le-of-lt, lt-of-lt-of-le, mod-mod, mod-add-mod, add-mod-mod, mul-add-mod-self-right}
 use native.Mathlib.Omega.{arith}
-use lib.Bits.{bitXor, xor-comm, xor-self, xor-zero-r, xor-lt, xor-shr}
-use lib.Pow.{pow-pos, split, shr-shr}
-use Rattle.laws.proofs.Xor.{xor-assoc, xor-cancel, xor-left, xor-twice, xor-equal, xor-scaled, raised}
-use Rattle.edc.specs.Edc.{timesG, edcOf}
-use Rattle.big_endian.specs.Words.{fourBytes}
-use Rattle.edc.proofs.Division.{Leaves, leaves-one}
-use Rattle.edc.proofs.Register.{four-leaves}
+use lib.Arith.{bin-ind}
+use lib.Bits.{bitXor, xor-comm, xor-self, xor-zero-l, xor-zero-r, xor-lt, xor-shr, xor-block, xor-shifted, xor-add-and}
+use lib.Count.{ones, onesIn, ones-step}
+use lib.Pow.{pow-pos, split, shr-shr, shr-le, shr-lt}
+use Rattle.laws.proofs.Xor.{xor-assoc, xor-cancel, xor-left, xor-twice, xor-equal, xor-half, xor-scaled, raised}
+use Rattle.edc.specs.Edc.{timesG}
+use Rattle.edc.proofs.Division.{Leaves}
 
 -- ---- a number and itself k bits lower
 
@@ -24,7 +24,7 @@ folded-comm : (j k x : ℕ) → folded j (folded k x) ≡ folded k (folded j x)
 unfolding folded
 folded-comm j k x = rw (xor-shr x (x / 2 ^ k) j, xor-shr x (x / 2 ^ j) k, shr-shr x k j, shr-shr x j k, add-comm k j) (simp (xor-assoc, xor-left))
 
-folded-xor : (k x y : ℕ) → folded k (bitXor x y) ≡ bitXor (folded k x) (folded k y)
+pub folded-xor : (k x y : ℕ) → folded k (bitXor x y) ≡ bitXor (folded k x) (folded k y)
 unfolding folded
 folded-xor k x y = rw (xor-shr x y k) (simp (xor-assoc, xor-comm))
 
@@ -32,8 +32,16 @@ folded-out : (k x : ℕ) → x < 2 ^ k → folded k x ≡ x
 unfolding folded
 folded-out k x h = ap (bitXor x) (div-eq-of-lt h) ∙ xor-zero-r x
 
+folded-shr : (k j x : ℕ) → folded k x / 2 ^ j ≡ folded k (x / 2 ^ j)
+unfolding folded
+folded-shr k j x = rw (xor-shr x (x / 2 ^ k) j, shr-shr x k j, shr-shr x j k, add-comm k j)
+
+folded-lt : (k j x : ℕ) → x < 2 ^ j → folded k x < 2 ^ j
+unfolding folded
+folded-lt k j x h = xor-lt j x (x / 2 ^ k) h (lt-of-le-of-lt (shr-le x k) h)
+
 -- a number that with itself one bit lower is below 2^k
-folded-low : (k x : ℕ) → folded 1 x < 2 ^ k → x < 2 ^ k
+pub folded-low : (k x : ℕ) → folded 1 x < 2 ^ k → x < 2 ^ k
 unfolding folded
 folded-low k x h =
     let u : ℕ = x / 2 ^ k in
@@ -44,9 +52,10 @@ folded-low k x h =
 
 -- ---- sums of the bits above
 
-pub unsummed : (w : ℕ) → w < 2 ^ 32 → folded 1 (folded 16 (folded 8 (folded 4 (folded 2 (folded 1 w))))) ≡ w
+pub unsummed : (w : ℕ) → w < 2 ^ 64 → folded 1 (folded 32 (folded 16 (folded 8 (folded 4 (folded 2 (folded 1 w)))))) ≡ w
 unsummed w h =
     rw (
+      folded-comm 1 32 (folded 16 (folded 8 (folded 4 (folded 2 (folded 1 w))))),
       folded-comm 1 16 (folded 8 (folded 4 (folded 2 (folded 1 w)))),
       folded-comm 1 8 (folded 4 (folded 2 (folded 1 w))),
       folded-comm 1 4 (folded 2 (folded 1 w)),
@@ -56,47 +65,173 @@ unsummed w h =
       folded-twice 4 w,
       folded-twice 8 w,
       folded-twice 16 w,
-    ) (folded-out 32 w h)
+      folded-twice 32 w,
+    ) (folded-out 64 w h)
 
--- ---- the remainder
+-- the lowest of the sums is odd where the number of ones is
+odd-sums : (d r a b s t : ℕ) → d % 2 ≡ (a + b) % 2 → r % 2 ≡ (s + t) % 2 → (d % 2 + r) % 2 ≡ (a % 2 + s + (b % 2 + t)) % 2
+odd-sums d r a b s t e f =
+    let first : a % 2 + s + (b % 2 + t) ≡ a % 2 + (b % 2 + (s + t)) = omega arith in
+    let second : a + (b % 2 + (s + t)) ≡ b % 2 + (a + (s + t)) = omega arith in
+    let third : b + (a + (s + t)) ≡ a + b + (s + t) = omega arith in
+    ap (λ (x : ℕ). (x + r) % 2) e
+    ∙ mod-add-mod (a + b) 2 r
+    ∙ sym (add-mod-mod (a + b) r 2)
+    ∙ ap (λ (x : ℕ). (a + b + x) % 2) f
+    ∙ add-mod-mod (a + b) (s + t) 2
+    ∙ sym (ap (λ (x : ℕ). x % 2) first
+    ∙ mod-add-mod a 2 (b % 2 + (s + t))
+    ∙ ap (λ (x : ℕ). x % 2) second
+    ∙ mod-add-mod b 2 (a + (s + t))
+    ∙ ap (λ (x : ℕ). x % 2) third)
 
--- what q(x) G(x) has below x^32
+ones-xor : (a b : ℕ) → ones (bitXor a b) % 2 ≡ (ones a + ones b) % 2
+ones-xor =
+    bin-ind (λ (a : ℕ). (b : ℕ) → ones (bitXor a b) % 2 ≡ (ones a + ones b) % 2) (λ b. omega (arith, none, ap ones (xor-zero-l b)))
+    (λ a half b.
+    let rest : ones (bitXor a b / 2) % 2 ≡ (ones (a / 2) + ones (b / 2)) % 2 = ap (λ (x : ℕ). ones x % 2) (xor-half a b) ∙ half (b / 2) in
+    let odd : bitXor a b % 2 ≡ (a + b) % 2 = omega (arith, xor-add-and a b) in
+    ap (λ (x : ℕ). x % 2) (ones-step (bitXor a b))
+    ∙ odd-sums (bitXor a b) (ones (bitXor a b / 2)) a b (ones (a / 2)) (ones (b / 2)) odd rest
+    ∙ sym (ap₂ (λ (x y : ℕ). (x + y) % 2) (ones-step a) (ones-step b)))
+  where
+    none : ones 0 ≡ 0
+    none = unfold ones onesIn in refl
+
+pub sums-odd : (s : ℕ) → ones (folded 1 s) % 2 ≡ s % 2
+unfolding folded
+sums-odd s = omega (arith, ones-xor s (s / 2), ones-step s)
+
+-- the sums of a number 32 bits higher go on below it with their lowest
+unfoldable pub sumsRaised : ℕ → ℕ
+sumsRaised s = s * 2 ^ 32 + s % 2 * (2 ^ 32 - 1)
+
+pub raised-sums : (s : ℕ) → folded 1 (sumsRaised s) ≡ folded 1 s * 2 ^ 32
+unfolding folded sumsRaised
+raised-sums s =
+    let lower : ℕ = s % 2 * (2 ^ 32 - 1) in
+    let lower-lt : lower < 2 ^ 32 = omega arith in
+    let half : (s * 2 ^ 32 + lower) / 2 ≡ s / 2 * 2 ^ 32 + lower = omega arith in
+    ap (bitXor (s * 2 ^ 32 + lower)) half ∙ xor-block 32 s (s / 2) lower lower lower-lt lower-lt ∙ ap (λ (x : ℕ). bitXor s (s / 2) * 2 ^ 32 + x) (xor-self lower) ∙ omega arith
+
+-- ---- the quotient
+
+-- what q(x) G(x) has below x^32, for a word q
 unfoldable pub lowOf : ℕ → ℕ
 lowOf q = bitXor (bitXor (q * 2 ^ 31 % 2 ^ 32) (q * 2 ^ 4 % 2 ^ 32)) q
 
-cancel : (u v w a b q : ℕ) → bitXor (bitXor u (bitXor (bitXor v a) (bitXor (bitXor w b) q))) (bitXor (bitXor a b) q) ≡ bitXor (bitXor u v) w
-cancel u v w a b q = simp (xor-assoc, xor-comm, xor-left, xor-self)
+-- and from x^32 on
+unfoldable pub highOf : ℕ → ℕ
+highOf q = bitXor (folded 1 q) (folded 4 q / 2 ^ 28)
 
-low-leaves : (q : ℕ) → q < 2 ^ 32 → Leaves (bitXor (folded 1 q) (q / 2 ^ 28) * 2 ^ 32) (lowOf q)
-unfolding timesG folded lowOf
-low-leaves q h =
-    let u : ℕ = q * 2 ^ 32 in
-    let v : ℕ = q / 2 * 2 ^ 32 in
-    let w : ℕ = q / 2 ^ 28 * 2 ^ 32 in
-    let a : ℕ = q * 2 ^ 31 % 2 ^ 32 in
-    let b : ℕ = q * 2 ^ 4 % 2 ^ 32 in
-    record {
-      low = xor-lt 32 (bitXor a b) q (xor-lt 32 a b (mod-lt (q * 2 ^ 31) (pow-pos 32)) (mod-lt (q * 2 ^ 4) (pow-pos 32))) h;
-      quotient = q;
-      whole =
-          xor-scaled (bitXor q (q / 2)) (q / 2 ^ 28) 32
-          ∙ ap (λ (x : ℕ). bitXor x w) (xor-scaled q (q / 2) 32)
-          ∙ sym (cancel u v w a b q)
-          ∙ ap₂ (λ (x y : ℕ). bitXor (bitXor u (bitXor x (bitXor y q))) (bitXor (bitXor a b) q)) (sym (raised q 1 31)) (sym (raised q 28 4));
-    }
+cancel : (u v w z a b c : ℕ) → bitXor (bitXor u (bitXor (bitXor v a) (bitXor (bitXor w b) (bitXor z c)))) (bitXor (bitXor a b) c) ≡ bitXor (bitXor u v) (bitXor w z)
+cancel u v w z a b c = simp (xor-assoc, xor-comm, xor-left, xor-self)
 
--- the code of the four bytes that make w: the quotient is the sum of s and t
-pub edc-four : (w s t : ℕ) → w < 2 ^ 32 → folded 1 s ≡ w → folded 1 t ≡ s / 2 ^ 28 → lowOf (bitXor s t) ≡ edcOf (fourBytes w)
-edc-four w s t h es et = leaves-one (subst (λ (p : ℕ). Leaves (p * 2 ^ 32) (lowOf (bitXor s t))) high (low-leaves (bitXor s t) (xor-lt 32 s t s-lt (omega (arith, t-lt))))) (four-leaves w h)
+-- the bits of q from x^32 on have no part in what is below
+low-word : (q : ℕ) → bitXor (bitXor (q * 2 ^ 31 % 2 ^ 32) (q * 2 ^ 4 % 2 ^ 32)) (q % 2 ^ 32) ≡ lowOf (q % 2 ^ 32)
+unfolding lowOf
+low-word q =
+    let a : q / 2 ^ 32 * 2 ^ 31 * 2 ^ 32 + q % 2 ^ 32 * 2 ^ 31 ≡ q * 2 ^ 31 = omega arith in
+    let b : q / 2 ^ 32 * 2 ^ 4 * 2 ^ 32 + q % 2 ^ 32 * 2 ^ 4 ≡ q * 2 ^ 4 = omega arith in
+    let part : (k : ℕ) → (q / 2 ^ 32 * k * 2 ^ 32 + q % 2 ^ 32 * k) % 2 ^ 32 ≡ q % 2 ^ 32 * k % 2 ^ 32 = λ k. mul-add-mod-self-right (q / 2 ^ 32 * k) (2 ^ 32) (q % 2 ^ 32 * k) in
+    cc (a, b, part (2 ^ 31), part (2 ^ 4))
+
+pub low-leaves : (q : ℕ) → Leaves (highOf q * 2 ^ 32) (lowOf (q % 2 ^ 32))
+low-leaves q = subst (Leaves (highOf q * 2 ^ 32)) (low-word q) leaves
   where
-    s-lt : s < 2 ^ 32
-    s-lt = folded-low 32 s (omega (arith, es))
+    u : ℕ
+    u = q * 2 ^ 32
 
-    t-lt : t < 2 ^ 4
-    t-lt = folded-low 4 t (omega (arith, et, s-lt))
+    v : ℕ
+    v = q / 2 * 2 ^ 32
 
-    top : bitXor s t / 2 ^ 28 ≡ s / 2 ^ 28
-    top = xor-shr s t 28 ∙ ap (bitXor (s / 2 ^ 28)) (div-eq-of-lt (omega (arith, t-lt))) ∙ xor-zero-r (s / 2 ^ 28)
+    w : ℕ
+    w = q / 2 ^ 28 * 2 ^ 32
 
-    high : bitXor (folded 1 (bitXor s t)) (bitXor s t / 2 ^ 28) ≡ w
-    high = ap₂ bitXor (folded-xor 1 s t ∙ ap₂ bitXor es et) top ∙ xor-cancel w (s / 2 ^ 28)
+    z : ℕ
+    z = q / 2 ^ 32 * 2 ^ 32
+
+    a : ℕ
+    a = q * 2 ^ 31 % 2 ^ 32
+
+    b : ℕ
+    b = q * 2 ^ 4 % 2 ^ 32
+
+    c : ℕ
+    c = q % 2 ^ 32
+
+    parted : q ≡ bitXor z c
+    parted = sym (xor-shifted (q / 2 ^ 32) 32 c (mod-lt q (pow-pos 32)) ∙ split q 32)
+
+    shifted : bitXor q (q / 2 ^ 4) / 2 ^ 28 ≡ bitXor (q / 2 ^ 28) (q / 2 ^ 32)
+    shifted = xor-shr q (q / 2 ^ 4) 28 ∙ ap (bitXor (q / 2 ^ 28)) (shr-shr q 4 28)
+
+    leaves : Leaves (highOf q * 2 ^ 32) (bitXor (bitXor a b) c)
+    leaves =
+        unfold timesG folded highOf in
+        record {
+          low = xor-lt 32 (bitXor a b) c (xor-lt 32 a b (mod-lt (q * 2 ^ 31) (pow-pos 32)) (mod-lt (q * 2 ^ 4) (pow-pos 32))) (mod-lt q (pow-pos 32));
+          quotient = q;
+          whole =
+              xor-scaled (bitXor q (q / 2)) (bitXor q (q / 2 ^ 4) / 2 ^ 28) 32
+              ∙ ap₂ bitXor (xor-scaled q (q / 2) 32) (ap (λ (x : ℕ). x * 2 ^ 32) shifted ∙ xor-scaled (q / 2 ^ 28) (q / 2 ^ 32) 32)
+              ∙ sym (cancel u v w z a b c)
+              ∙ ap₂ (λ (x y : ℕ). bitXor (bitXor u (bitXor x (bitXor y (bitXor z c)))) (bitXor (bitXor a b) c)) (sym (raised q 1 31)) (sym (raised q 28 4))
+              ∙ ap (λ (x : ℕ). bitXor (bitXor u (bitXor (q * 2 ^ 31) (bitXor (q * 2 ^ 4) x))) (bitXor (bitXor a b) c)) (sym parted);
+        }
+
+pub high-small : (q : ℕ) → q < 2 ^ 28 → highOf q ≡ folded 1 q
+unfolding highOf
+high-small q h = ap (bitXor (folded 1 q)) (div-eq-of-lt (folded-lt 4 28 q h)) ∙ xor-zero-r (folded 1 q)
+
+-- what x^4 + 1 of G(x) brings back from x^32 on, and what that brings back again
+unfoldable pub carried : ℕ → ℕ
+carried v = bitXor (v / 2 ^ 28) (v / 2 ^ 30)
+
+unfoldable pub carriedTwice : ℕ → ℕ
+carriedTwice v = bitXor (bitXor (v / 2 ^ 56) (v / 2 ^ 60)) (bitXor (v / 2 ^ 57) (v / 2 ^ 61))
+
+carried-folded : (v : ℕ) → carried v ≡ folded 2 (v / 2 ^ 28)
+unfolding carried folded
+carried-folded v = ap (bitXor (v / 2 ^ 28)) (sym (shr-shr v 28 2))
+
+twice-folded : (v : ℕ) → carriedTwice v ≡ folded 1 (folded 4 (v / 2 ^ 56))
+unfolding carriedTwice folded
+twice-folded v =
+    let u : ℕ = v / 2 ^ 56 in
+    let four : bitXor u (v / 2 ^ 60) ≡ bitXor u (u / 2 ^ 4) = ap (bitXor u) (sym (shr-shr v 56 4)) in
+    let one : bitXor (v / 2 ^ 57) (v / 2 ^ 61) ≡ bitXor u (u / 2 ^ 4) / 2 ^ 1 =
+    sym (ap (λ (x : ℕ). x / 2 ^ 1) (sym four) ∙ xor-shr u (v / 2 ^ 60) 1 ∙ ap₂ bitXor (shr-shr v 56 1) (shr-shr v 60 1)) in
+    ap₂ bitXor four one
+
+-- the quotient whose product has v from x^32 on: s are the sums of v
+unfoldable pub quotientOf : ℕ → ℕ → ℕ
+quotientOf v s = bitXor (bitXor s (carried v)) (carriedTwice v)
+
+pub quotient-high : (v s : ℕ) → v < 2 ^ 64 → folded 1 s ≡ v → highOf (quotientOf v s) ≡ v
+unfolding highOf quotientOf
+quotient-high v s h e =
+    let u : ℕ = v / 2 ^ 56 in
+    let b : ℕ = folded 2 (v / 2 ^ 28) in
+    let c : ℕ = folded 1 (folded 4 u) in
+    let four : folded 4 s ≡ folded 1 (folded 2 v) =
+    sym (folded-twice 2 s) ∙ ap (folded 2) (sym (folded-twice 1 s) ∙ ap (folded 1) e) ∙ folded-comm 2 1 v in
+    let first : folded 4 s / 2 ^ 28 ≡ folded 1 b = ap (λ (x : ℕ). x / 2 ^ 28) four ∙ folded-shr 1 28 (folded 2 v) ∙ ap (folded 1) (folded-shr 2 28 v) in
+    let second : folded 4 b / 2 ^ 28 ≡ folded 1 c =
+    folded-shr 4 28 b
+    ∙ ap (folded 4) (folded-shr 2 28 (v / 2 ^ 28) ∙ ap (folded 2) (shr-shr v 28 28))
+    ∙ folded-comm 4 2 u
+    ∙ sym (folded-twice 1 (folded 4 u)) in
+    let small : c < 2 ^ 8 = folded-lt 1 8 (folded 4 u) (folded-lt 4 8 u (shr-lt 8 56 h)) in
+    let third : folded 4 c / 2 ^ 28 ≡ 0 = div-eq-of-lt (lt-of-lt-of-le (folded-lt 4 8 c small) (omega arith)) in
+    let low : folded 1 (bitXor (bitXor s b) c) ≡ bitXor (bitXor v (folded 1 b)) (folded 1 c) =
+    folded-xor 1 (bitXor s b) c ∙ ap (λ (x : ℕ). bitXor x (folded 1 c)) (folded-xor 1 s b ∙ ap (λ (x : ℕ). bitXor x (folded 1 b)) e) in
+    let high : folded 4 (bitXor (bitXor s b) c) / 2 ^ 28 ≡ bitXor (bitXor (folded 1 b) (folded 1 c)) 0 =
+    ap (λ (x : ℕ). x / 2 ^ 28) (folded-xor 4 (bitXor s b) c ∙ ap (λ (x : ℕ). bitXor x (folded 4 c)) (folded-xor 4 s b))
+    ∙ xor-shr (bitXor (folded 4 s) (folded 4 b)) (folded 4 c) 28
+    ∙ ap₂ bitXor (xor-shr (folded 4 s) (folded 4 b) 28 ∙ ap₂ bitXor first second) third in
+    let same : bitXor (bitXor s (carried v)) (carriedTwice v) ≡ bitXor (bitXor s b) c = ap₂ (λ (x y : ℕ). bitXor (bitXor s x) y) (carried-folded v) (twice-folded v) in
+    ap (λ (q : ℕ). bitXor (folded 1 q) (folded 4 q / 2 ^ 28)) same ∙ ap₂ bitXor low high ∙ twice v (folded 1 b) (folded 1 c)
+  where
+    twice : (v b c : ℕ) → bitXor (bitXor (bitXor v b) c) (bitXor (bitXor b c) 0) ≡ v
+    twice v b c = ap (bitXor (bitXor (bitXor v b) c)) (xor-zero-r (bitXor b c)) ∙ ap (λ (x : ℕ). bitXor x (bitXor b c)) (xor-assoc v b c) ∙ xor-cancel v (bitXor b c)

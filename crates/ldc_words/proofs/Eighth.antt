@@ -6,6 +6,7 @@ use Prim.Native.Nat.{ℕ, _+_, _*_, _-_, _/_, _%_, _<_, _≤_}
 use native.Mathlib.Nat.{not-suc-le-zero}
 use native.Mathlib.Decide.{decLt, ℕ-discrete}
 use native.Mathlib.Omega.{arith}
+use lib.Bits.{bitXor}
 use lib.ListN.{length, getD, set, take, drop, length-append, length-drop, List·getD-append}
 use lib.Seq.{ext-getD, getD-take, getD-drop, getD-append-add, length-take-le}
 use Rattle.laws.specs.First.{first}
@@ -20,6 +21,7 @@ use Rattle.column.specs.Column.{parity, hasRoots}
 use Rattle.column.proofs.Parity.{parity-length}
 use Rattle.sector.specs.DataFrame.{edcRight}
 use Rattle.scrambling.specs.Scrambling.{scrambled}
+use Rattle.scrambling.proofs.Stream.{length-scrambled, getD-scrambled}
 use Rattle.ldc.specs.declared.Place.{Place}
 use Rattle.ldc.specs.LdcBlock.{dataByte, information, codeWord}
 use Rattle.ldc.specs.Places.{ldcPlace, wordIn, dataIn, frameIn}
@@ -247,23 +249,29 @@ completed-turn frames words part j x m i size hj hx hm hi made u = rw hm (upto-p
         let place : k ≡ (248 * j + k) % 248 = omega arith in
         ap (λ (l : List ℕ). getD l k 0) is ∙ ap₂ (λ (w i : ℕ). getD (completed (take 216 (drop (216 * w) frames))) i 0) word place
 
--- data frame f, of x = 2,052 bytes, copied and scrambled
-pub frame-made : (stream frames part bytes : List ℕ) (f x : ℕ) → x ≡ 2052 → part ≡ take x (drop (2052 * f) frames) → bytes ≡ scrambled stream part → bytes ≡ scrambled stream (eighthFrame frames f)
-frame-made stream frames part bytes f x size copied made = made ∙ ap (scrambled stream) (copied ∙ ap (λ (y : ℕ). take y (drop (2052 * f) frames)) size)
-
--- its user bytes, copied to their part of m = 2,048 bytes
-pub user-turn : (stream frames bytes part user : List ℕ) (f m i : ℕ) → f < 4 → m ≡ 2048 → i ≡ 2048 * (f + 1) → bytes ≡ scrambled stream (eighthFrame frames f) → part ≡ tabulate 2048 (λ k. getD bytes k 0)
+-- the user bytes of data frame f, its first x = 2,048 bytes unscrambled, to their part of m = 2,048 bytes
+pub user-turn : (stream frames part user : List ℕ) (f x m i : ℕ) → length frames ≡ 8208 → f < 4 → x ≡ 2048 → m ≡ 2048 → i ≡ 2048 * (f + 1) → part ≡ scrambled stream (take x (drop (2052 * f) frames))
     → Upto 0 (λ k. getD (scrambled stream (eighthFrame frames (k / 2048))) (k % 2048) 0) 8192 (2048 * f) user
     → Upto 0 (λ k. getD (scrambled stream (eighthFrame frames (k / 2048))) (k % 2048) 0) 8192 i (take (2048 * f) user ++ (part ++ drop m (drop (2048 * f) user)))
-user-turn stream frames bytes part user f m i hf hm hi made copied u = rw hm (upto-part 2048 part (omega arith) (omega arith) (ap (length {A = ℕ}) copied ∙ length-tabulate 2048 (λ k. getD bytes k 0)) byte u)
+user-turn stream frames part user f x m i size hf hx hm hi made u = rw hm (upto-part 2048 part (omega arith) (omega arith) (ap length first ∙ length-scrambled stream short ∙ short-size) byte u)
   where
+    short : List ℕ
+    short = take 2048 (drop (2052 * f) frames)
+
+    first : part ≡ scrambled stream short
+    first = made ∙ ap (λ (y : ℕ). scrambled stream (take y (drop (2052 * f) frames))) hx
+
+    short-size : length short ≡ 2048
+    short-size = length-part frames (2052 * f) 2048 (omega arith)
+
     byte : (k : ℕ) → k < 2048 → getD part k 0 ≡ getD (scrambled stream (eighthFrame frames ((2048 * f + k) / 2048))) ((2048 * f + k) % 2048) 0
     byte k h =
         let number : f ≡ (2048 * f + k) / 2048 = omega arith in
         let place : k ≡ (2048 * f + k) % 2048 = omega arith in
-        ap (λ (l : List ℕ). getD l k 0) copied
-        ∙ getD-tabulate 2048 (λ k. getD bytes k 0) k 0 h
-        ∙ ap (λ (l : List ℕ). getD l k 0) made
+        ap (λ (l : List ℕ). getD l k 0) first
+        ∙ getD-scrambled stream short k (omega (arith, short-size))
+        ∙ ap (λ (y : ℕ). bitXor y (getD stream k 0)) (getD-take 2048 (drop (2052 * f) frames) k 0 h ∙ sym (getD-take 2052 (drop (2052 * f) frames) k 0 (omega arith)))
+        ∙ sym (getD-scrambled stream (eighthFrame frames f) k (omega (arith, length-part frames (2052 * f) 2052 (omega arith))))
         ∙ ap₂ (λ (g i : ℕ). getD (scrambled stream (eighthFrame frames g)) i 0) number place
 
 module _ (work words : List ℕ) (e : ℕ) (he : e < 8) where
@@ -360,9 +368,10 @@ pub word-judged : (words : List ℕ) (j x : ℕ) (r t : Bool) → x ≡ 248 → 
 unfolding wrongOf
 word-judged words j x r t size judged is = ap not (sym (judged ∙ ap (λ (y : ℕ). hasRoots 32 (take y (drop (248 * j) words))) size) ∙ is)
 
-pub frame-judged : (stream frames bytes : List ℕ) (f : ℕ) (r t : Bool) → bytes ≡ scrambled stream (eighthFrame frames f) → r ≡ edcRight bytes → r ≡ t → wrongFrame stream frames f ≡ not t
+-- data frame f, of x = 2,052 bytes, judged
+pub frame-judged : (stream frames : List ℕ) (f x : ℕ) (r t : Bool) → x ≡ 2052 → r ≡ edcRight (scrambled stream (take x (drop (2052 * f) frames))) → r ≡ t → wrongFrame stream frames f ≡ not t
 unfolding wrongFrame
-frame-judged stream frames bytes f r t made judged is = ap not (sym (judged ∙ ap edcRight made) ∙ is)
+frame-judged stream frames f x r t size judged is = ap not (sym (judged ∙ ap (λ (y : ℕ). edcRight (scrambled stream (take y (drop (2052 * f) frames)))) size) ∙ is)
 
 pub words-judged : (work words : List ℕ) (e r : ℕ) → e < 8 → WordsTaken work e 248 words → r ≡ first 38 (wrongOf words) → r ≡ first 38 (λ j. wrongWord work (38 * e + j))
 unfolding wrongOf wrongWord

@@ -1,2 +1,3 @@
 -- Scrambling.
+pub mod Shifts
 pub mod Stream

@@ -1,47 +1,29 @@
--- Laws of scrambling: lengths, bytes, that it drops out of sums, and that a second time undoes it; and what the loops keep. Assumes nothing.
+-- Laws of scrambling: the stream, lengths, bytes, parts one behind the other, that it drops out of sums, and that a second time undoes it. Assumes nothing.
 use mathlib.Core.Path.{_≡_, refl, sym, ap, ap₂, _∙_}
-use mathlib.Core.List.{List}
-use Prim.Native.Nat.{ℕ, _+_, _*_, _/_, _%_, _^_, _<_, _≤_, min}
-use native.Mathlib.Nat.{mod-lt}
+use mathlib.Core.List.{List, [], _∷_, _++_}
+use Prim.Native.Nat.{ℕ, suc, _+_, _%_, _^_, _<_, _≤_}
+use native.Mathlib.Nat.{mod-lt, le-of-suc-le-suc}
 use native.Mathlib.Numerals.{add-one}
-use native.Mathlib.Decide.{decLt}
 use native.Mathlib.Omega.{arith}
-use lib.Bits.{bitXor, xor-zero-r, xor-lt, xor-mod}
-use lib.ListN.{length, getD, set, List·getD-eq-default}
+use lib.Bits.{bitXor, xor-lt}
+use lib.ListN.{length, getD, set, take, drop}
 use lib.Pow.{pow-pos}
-use lib.Seq.{getD-set-other}
+use lib.Seq.{drop-drop, length-take-le, getD-take}
 use Rattle.laws.specs.Bytes.{Bytes}
 use Rattle.laws.specs.Combined.{combined}
+use Rattle.laws.specs.Tabulate.{tabulate}
 use Rattle.laws.proofs.Bytes.{bytes-tabulate}
 use Rattle.laws.proofs.Combined.{length-combined, getD-combined, is-combined, combined-comm, combined-twice, combined-inj}
 use Rattle.laws.proofs.Fill.{Upto, upto-none, upto-more, upto-all}
-use Rattle.laws.proofs.Tabulate.{length-tabulate, getD-tabulate, is-tabulate}
-use Rattle.laws.proofs.Xor.{xor-assoc, xor-both}
-use Rattle.scrambling.specs.Scrambling.{stage, shift, shifts, preset, register, scramblingByte, scramblingOf, scrambled}
-
--- ---- the register
-
--- the bits that are fed back, taken from numbers whose higher bits do not matter
-pub fed-back : (s : ℕ) → s * 2 % 2 ^ 16 + bitXor (bitXor (bitXor (s / 2 ^ 15) (s / 2 ^ 14)) (s / 2 ^ 12)) (s / 2 ^ 3) % 2 ≡ shift s
-unfolding shift
-fed-back s =
-    ap (λ (x : ℕ). s * 2 % 2 ^ 16 + x)
-    (ap (λ (x : ℕ). x % 2) (xor-assoc (bitXor (s / 2 ^ 15) (s / 2 ^ 14)) (s / 2 ^ 12) (s / 2 ^ 3) ∙ xor-assoc (s / 2 ^ 15) (s / 2 ^ 14) (bitXor (s / 2 ^ 12) (s / 2 ^ 3)))
-    ∙ xor-mod (s / 2 ^ 15) (bitXor (s / 2 ^ 14) (bitXor (s / 2 ^ 12) (s / 2 ^ 3))) 1
-    ∙ ap (bitXor (stage s 15)) (xor-mod (s / 2 ^ 14) (bitXor (s / 2 ^ 12) (s / 2 ^ 3)) 1 ∙ ap (bitXor (stage s 14)) (xor-mod (s / 2 ^ 12) (s / 2 ^ 3) 1)))
-
-pub shifts-none : (s : ℕ) → s ≡ shifts 0 s
-unfolding shifts
-shifts-none s = refl
-
-pub shifts-more : (s j next r : ℕ) → next ≡ shifts j s → r ≡ shift next → r ≡ shifts (j + 1) s
-unfolding shifts
-shifts-more s j next r e f = rw (add-one j, ← e) f
-
-pub shifts-all : (s j next : ℕ) → j ≤ 8 → 8 ≤ j → next ≡ shifts j s → next ≡ shifts 8 s
-shifts-all s j next h g e = let end : j ≡ 8 = omega arith in e ∙ ap (λ (n : ℕ). shifts n s) end
+use Rattle.laws.proofs.Tabulate.{length-tabulate, getD-tabulate}
+use Rattle.laws.proofs.Xor.{xor-both}
+use Rattle.scrambling.specs.Scrambling.{shifts, preset, register, scramblingByte, scramblingOf, scrambled}
 
 -- ---- the scrambling bytes
+
+pub length-scrambling : (psn : ℕ) → length (scramblingOf psn) ≡ 2052
+unfolding scramblingOf
+length-scrambling psn = length-tabulate 2052 (scramblingByte psn)
 
 pub bytes-scrambling : (psn : ℕ) → Bytes (scramblingOf psn)
 unfolding scramblingOf scramblingByte
@@ -82,6 +64,30 @@ pub bytes-scrambled : (stream frame : List ℕ) → Bytes stream → Bytes frame
 unfolding scrambled
 bytes-scrambled stream frame bs bf =
     bytes-tabulate (length frame) (λ k. bitXor (getD frame k 0) (getD stream k 0)) (λ k h. xor-lt 8 (getD frame k 0) (getD stream k 0) (bf k) (bs k))
+
+-- ---- parts of a frame, one behind the other
+
+scrambled-cons : (stream : List ℕ) (x : ℕ) (l : List ℕ) → scrambled stream (x ∷ l) ≡ bitXor x (getD stream 0 0) ∷ scrambled (drop 1 stream) l
+unfolding scrambled tabulate
+scrambled-cons [] x l = refl
+scrambled-cons (y ∷ stream) x l = refl
+
+pub scrambled-append : (stream l m : List ℕ) → scrambled stream (l ++ m) ≡ scrambled stream l ++ scrambled (drop (length l) stream) m
+scrambled-append stream [] m = unfold scrambled tabulate in refl
+scrambled-append stream (x ∷ l) m =
+    let rest : 1 + length l ≡ suc (length l) = omega arith in
+    scrambled-cons stream x (l ++ m)
+    ∙ ap (λ (r : List ℕ). bitXor x (getD stream 0 0) ∷ r) (scrambled-append (drop 1 stream) l m)
+    ∙ ap₂ (λ (r s : List ℕ). r ++ scrambled s m) (sym (scrambled-cons stream x l)) (drop-drop (length l) 1 stream ∙ ap (λ (n : ℕ). drop n stream) rest)
+
+-- where the stream is long enough it is combined
+pub scrambled-within : (stream l : List ℕ) → length l ≤ length stream → scrambled stream l ≡ combined l (take (length l) stream)
+scrambled-within stream l h =
+    let size : length l ≡ length (take (length l) stream) = sym (length-take-le (length l) stream h) in
+    is-combined (scrambled stream l) l (take (length l) stream) (length-scrambled stream l) size
+    (λ k lt. getD-scrambled stream l k lt ∙ ap (bitXor (getD l k 0)) (sym (getD-take (length l) stream k 0 lt)))
+
+-- ---- scrambling drops out
 
 -- two frames scrambled with one stream combine to what the frames combine to
 pub scrambled-both : (stream f g : List ℕ) → length f ≡ length g → combined (scrambled stream f) (scrambled stream g) ≡ combined f g
@@ -132,34 +138,3 @@ scrambled-combined stream f g same =
 -- equal scrambled frames come from equal frames
 pub scrambled-inj : (stream f g : List ℕ) → scrambled stream f ≡ scrambled stream g → f ≡ g
 scrambled-inj stream f g e = sym (scrambled-twice stream f) ∙ ap (scrambled stream) e ∙ scrambled-twice stream g
-
--- a turn of the loop that scrambles a frame in place: the bytes from k on are still those of the frame
-pub record Halfway (stream frame : List ℕ) (k : ℕ) (l : List ℕ) : Type 0 where
-  pub filled : Upto 0 (λ k. bitXor (getD frame k 0) (getD stream k 0)) (length frame) k l
-  pub rest : (j : ℕ) → k ≤ j → getD l j 0 ≡ getD frame j 0
-
-module _ (stream frame : List ℕ) where
-  pub halfway-none : Halfway stream frame 0 frame
-  halfway-none = record { filled = upto-none refl; rest = λ j h. refl }
-
-  -- n is the shorter of the two lengths
-  pub halfway-more : (l : List ℕ) (k n : ℕ) → n ≡ min (length frame) (length stream) → k < n → Halfway stream frame k l
-      → Halfway stream frame (k + 1) (set l k (bitXor (getD l k 0) (getD stream k 0)))
-  halfway-more l k n e h a =
-      let v : ℕ = bitXor (getD l k 0) (getD stream k 0) in
-      record {
-        filled = upto-more (omega arith) (ap (λ (x : ℕ). bitXor x (getD stream k 0)) (a .rest k (omega arith))) (a .filled);
-        rest = λ j g. getD-set-other l k j v 0 (λ e. omega (arith, e)) ∙ a .rest j (omega arith);
-      }
-
-  -- behind the end of the stream nothing is left to do
-  pub halfway-all : (l : List ℕ) (k n : ℕ) → n ≡ min (length frame) (length stream) → n ≤ k → Halfway stream frame k l → l ≡ scrambled stream frame
-  unfolding scrambled
-  halfway-all l k n e h a = is-tabulate 0 (length frame) (λ k. bitXor (getD frame k 0) (getD stream k 0)) l (a .filled .size) at
-    where
-      at : (j : ℕ) → j < length frame → getD l j 0 ≡ bitXor (getD frame j 0) (getD stream j 0)
-      at j hj =
-          elim (decLt j k) [
-            | yes b ↦ a .filled .below j b
-            | no b ↦ a .rest j (omega arith) ∙ sym (ap (bitXor (getD frame j 0)) (List·getD-eq-default stream 0 {n = j} (omega arith)) ∙ xor-zero-r (getD frame j 0))
-          ]

@@ -1,26 +1,18 @@
 // 13.4: scrambling.
+pub mod steps;
+
 use address::Psn;
 ghost use mathlib.Core.Path.{_≡_};
-ghost use Prim.Native.Nat.{min};
 ghost use lib.ListN.{length};
-ghost use Rattle.scrambling.specs.Scrambling.{shift, shifts, scramblingOf, scrambled};
+ghost use Rattle.scrambling.specs.Scrambling.{shifts, scramblingOf};
 
-// One shift of the register: bits 15, 14, 12 and 3 are fed back.
-fn shifted(s: u16) -> u16
-    ensures { λ r. ⌜ r ≡ shift s ⌝ }
-{
-    let fed = (s >> 15) ^ (s >> 14) ^ (s >> 12) ^ (s >> 3);
-    (s << 1) + fed % 2
-}
-
+// Eight shifts of the register. Bits 15, 14, 12 and 3 are fed back; in the last four shifts bit 3 is one that was fed back in the first four.
 fn shifted_by_eight(s: u16) -> u16
     ensures { λ r. ⌜ r ≡ shifts 8 s ⌝ }
 {
-    let mut next = s;
-    for _ in 0..8usize {
-        next = shifted(next);
-    }
-    next
+    let fed = ((s >> 8) ^ (s >> 7)) ^ ((s >> 5) ^ (s << 4));
+    let early = fed % 256;
+    (s << 8) ^ (early ^ (early >> 4))
 }
 
 fn zeros() -> [u8; 2052]
@@ -40,19 +32,4 @@ pub fn scrambling(psn: Psn) -> [u8; 2052]
         s = shifted_by_eight(s);
     }
     stream
-}
-
-fn shorter(a: usize, b: usize) -> usize
-    ensures { λ r. ⌜ r ≡ min a b ⌝ }
-{
-    if a < b { a } else { b }
-}
-
-// Scrambles a data frame in place, or undoes it. Bytes behind the end of the stream stay.
-pub fn scramble(frame: &mut [u8], stream: &[u8])
-    ensures { λ _. ⌜ now (frame .exit) ≡ scrambled (now (stream .entry)) (now (frame .entry)) ⌝ }
-{
-    for k in 0..shorter(frame.len(), stream.len()) {
-        frame[k] = frame[k] ^ stream[k];
-    }
 }

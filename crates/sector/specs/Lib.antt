@@ -1,2 +1,3 @@
--- Data frames.
+-- Data frames, and the pass over a sector.
 pub mod DataFrame
+pub mod Pass

@@ -1,13 +1,12 @@
-// Data frames, four at a time, with the scrambling undone, and the test of their EDC.
+// Data frames, four at a time, and the test of their EDC: one pass over each sector.
 ghost use mathlib.Core.Path.{_≡_};
 ghost use Prim.Native.Nat.{_<_};
 ghost use lib.ListN.{length};
 ghost use Rattle.laws.specs.First.{first};
-ghost use Rattle.scrambling.specs.Scrambling.{scrambled};
 ghost use Rattle.ldc.specs.Places.{frameIn};
 ghost use Rattle.cluster.specs.Multiplex.{ldcIn};
 ghost use Rattle.cluster.specs.Reading.{firstWrongSector};
-ghost use Rattle.ldc_words.specs.steps.Eighth.{eighthFrame, framesOf, wrongFrame};
+ghost use Rattle.ldc_words.specs.steps.Eighth.{framesOf, wrongFrame};
 ghost use Rattle.sizes.specs.Sizes.{workSize};
 
 // Data frames 4 e to 4 e + 3 of a cluster, as they stand there.
@@ -20,25 +19,6 @@ pub fn take_frames(work: &[u8], e: usize, frames: &mut [u8])
     ldc_words::steps::take_information(&words, frames);
 }
 
-fn zero_frame() -> [u8; 2052]
-    ensures { λ r. ⌜ length r ≡ 2052 ⌝ }
-{
-    [0u8; 2052]
-}
-
-// Data frame f of four, with the scrambling undone.
-pub fn data_frame(frames: &[u8], stream: &[u8], f: usize) -> [u8; 2052]
-    requires { ⌜ (length (now frames) ≡ 8208) × (f < 4) ⌝ }
-    ensures { λ r. ⌜ r ≡ scrambled (now (stream .entry)) (eighthFrame (now (frames .entry)) f) ⌝ }
-{
-    let mut bytes = zero_frame();
-    let from = 2052 * f;
-    let end = from + 2052;
-    slices::steps::copy_bytes(&frames[from..end], &mut bytes);
-    scrambling::scramble(&mut bytes, stream);
-    bytes
-}
-
 // The lowest of four sectors whose EDC is wrong, or 4.
 fn first_wrong_frame(frames: &[u8], stream: &[u8]) -> usize
     requires { ⌜ length (now frames) ≡ 8208 ⌝ }
@@ -46,8 +26,9 @@ fn first_wrong_frame(frames: &[u8], stream: &[u8]) -> usize
 {
     let mut f = 0;
     while f < 4 {
-        let bytes = data_frame(frames, stream, f);
-        if sector::edc_right(&bytes) {
+        let from = 2052 * f;
+        let end = from + 2052;
+        if sector::edc_right(&frames[from..end], stream) {
             f += 1;
         } else {
             return f;

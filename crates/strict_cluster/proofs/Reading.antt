@@ -12,12 +12,18 @@ use Rattle.answer.proofs.Tests.{done-is}
 use Rattle.bis.specs.Reading.{sideIn, sideOut}
 use Rattle.cluster.specs.Multiplex.{bisIn}
 use Rattle.cluster.specs.Reading.{userIn}
+use Rattle.scrambling.proofs.Stream.{length-scrambling}
+use Rattle.judging.specs.Tests.{psnAnswer}
 use Rattle.cluster_tests.specs.declared.steps.Tested.{Tested}
 use Rattle.strict_cluster.specs.Outcome.{Lent, accepted, cleared}
 use Rattle.cluster_tests.specs.steps.Tested.{clusterAnswer, clusterTested}
 use Rattle.strict_cluster.specs.steps.Given.{Given, clusterOutcome}
 
 -- ---- what is given
+
+pub stream-length : (before : Answer) (block : List (List ℕ)) (work : List ℕ) (r : Tested) → r ≡ clusterTested before block work → length (r .stream) ≡ 2052
+unfolding clusterTested
+stream-length before block work r e = ap (λ (x : Tested). length (x .stream)) e ∙ length-scrambling (psnAnswer block .psn .0)
 
 pub given-all : (work : List ℕ) (block : List (List ℕ)) (stream words user side dc before : List ℕ) → user ≡ userIn stream work → side ≡ sideOut block before → length before ≡ 592 → dc ≡ words
     → Given work block stream words user side dc

@@ -18,7 +18,7 @@ fn give(
     side: &mut [u8],
     dc: &mut [u32],
 )
-    requires { ⌜ ((length (now work) ≡ workSize) × (length (now user) ≡ userSize)) × ((length (now side) ≡ sideSize) × ((length (now words) ≡ frameCount) × (length (now dc) ≡ frameCount))) ⌝ }
+    requires { ⌜ ((length (now work) ≡ workSize) × (length (now user) ≡ userSize)) × ((length (now side) ≡ sideSize) × ((length (now stream) ≡ 2052) × ((length (now words) ≡ frameCount) × (length (now dc) ≡ frameCount)))) ⌝ }
     ensures { λ _. ⌜ Given (now (work .entry)) block (now (stream .entry)) (now (words .entry)) (now (user .exit)) (now (side .exit)) (now (dc .exit)) ⌝ }
 {
     user_reader::steps::user_bytes(work, stream, user);

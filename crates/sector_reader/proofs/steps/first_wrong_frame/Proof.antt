@@ -1,7 +1,7 @@
 -- `first_wrong_frame` meets its contract: a search from the front.
 use mathlib.Core.Path.{_≡_, _∙_}
 use mathlib.Core.Bool.{true, false}
-use Prim.Native.Nat.{_-_, _≤_}
+use Prim.Native.Nat.{_+_, _*_, _-_, _≤_}
 use native.Mathlib.Omega.{arith}
 use borrow.Author.Needs.{needs}
 use Rattle.laws.proofs.First.{Passed, passed-none, passed-more, first-here, first-past}
@@ -19,11 +19,20 @@ abbrev μ-loop : tie.MeasureT-loop
 loop-holds : tie.Need-loop-holds Inv-loop μ-loop
 loop-holds c = (omega arith, passed-none)
 
-data-frame-requires : tie.Need-data-frame-requires Inv-loop μ-loop
-data-frame-requires c κs = search needs
+mul-from : tie.Need-mul-from Inv-loop μ-loop
+mul-from c = search needs
 
-slice-aggregate-edc-right : tie.Need-slice-aggregate-edc-right Inv-loop μ-loop
-slice-aggregate-edc-right c = search needs
+add-end : tie.Need-add-end Inv-loop μ-loop
+add-end c = search needs
+
+sub-edc-right : tie.Need-sub-edc-right Inv-loop μ-loop
+sub-edc-right c = search needs
+
+part-edc-right-start : tie.Need-part-edc-right-start Inv-loop μ-loop
+part-edc-right-start c = search needs
+
+part-edc-right-end : tie.Need-part-edc-right-end Inv-loop μ-loop
+part-edc-right-end c = search needs
 
 edc-right-requires : tie.Need-edc-right-requires Inv-loop μ-loop
 edc-right-requires c κs = search needs
@@ -37,18 +46,18 @@ loop-less c = search needs
 loop-again : tie.Need-loop-again Inv-loop μ-loop
 loop-again c =
     let judged = c .before in
-    let head = judged .before .before .before .before in
+    let head = judged .before .before .before in
     let args = head .before .before .before .args in
-    let made = judged .before .before .data-frame in
-    (omega arith, passed-more (head .loop .inv .1) (frame-judged (args .stream .now) (args .frames .now) (made .result) (head .loop .f) _ true (made .ensures) (judged .edc-right .ensures) (c .if1 .taken)))
+    let f = head .loop .f in
+    (omega arith, passed-more (head .loop .inv .1) (frame-judged (args .stream .now) (args .frames .now) f (2052 * f + 2052 - 2052 * f) _ true (omega arith) (judged .edc-right .ensures) (c .if1 .taken)))
 
 returns : tie.Need-returns Inv-loop μ-loop
 returns c =
     let judged = c .before in
-    let head = judged .before .before .before .before in
+    let head = judged .before .before .before in
     let args = head .before .before .before .args in
-    let made = judged .before .before .data-frame in
-    first-here (omega arith) (head .loop .inv .1) (frame-judged (args .stream .now) (args .frames .now) (made .result) (head .loop .f) _ false (made .ensures) (judged .edc-right .ensures) (c .if1 .left))
+    let f = head .loop .f in
+    first-here (omega arith) (head .loop .inv .1) (frame-judged (args .stream .now) (args .frames .now) f (2052 * f + 2052 - 2052 * f) _ false (omega arith) (judged .edc-right .ensures) (c .if1 .left))
 
 returns-2 : tie.Need-returns-2 Inv-loop μ-loop
 returns-2 c = let all : c .before .loop .f ≡ 4 = omega arith in all ∙ first-past (omega arith) (c .before .loop .inv .1)
@@ -60,8 +69,11 @@ first-wrong-frame-spec =
     Inv-loop
     μ-loop
     loop-holds
-    data-frame-requires
-    slice-aggregate-edc-right
+    mul-from
+    add-end
+    sub-edc-right
+    part-edc-right-start
+    part-edc-right-end
     edc-right-requires
     add-f
     loop-less

@@ -1,6 +1,6 @@
 -- `read` meets its contract: what the tests found decides (Reading).
 use borrow.Author.Needs.{needs}
-use Rattle.strict_cluster.proofs.Reading.{all-passed, one-refused}
+use Rattle.strict_cluster.proofs.Reading.{stream-length, all-passed, one-refused}
 use Rattle.strict_cluster.proofs.steps.read.Statement.{statement}
 use Rattle.strict_cluster.proofs.steps.read.Tie as tie
 
@@ -17,7 +17,10 @@ slice-aggregate-give : tie.Need-slice-aggregate-give
 slice-aggregate-give c = search needs
 
 give-requires : tie.Need-give-requires
-give-requires c κs = search needs
+give-requires c κs =
+    let tested = c .before .before .before .before .before .before .before .before .before in
+    let stream = stream-length _ _ _ (tested .test .result) (tested .test .ensures) in
+    ((search needs, search needs), (search needs, (stream, (search needs, search needs))))
 
 same-length : tie.Need-same-length
 same-length c = search needs

@@ -34,20 +34,20 @@ mul-from c = search needs
 add-end : tie.Need-add-end Inv-loop μ-loop
 add-end c = search needs
 
-slice-aggregate-copy-users : tie.Need-slice-aggregate-copy-users Inv-loop μ-loop
-slice-aggregate-copy-users c = search needs
+slice-aggregate-unscramble-users : tie.Need-slice-aggregate-unscramble-users Inv-loop μ-loop
+slice-aggregate-unscramble-users c = search needs
 
-sub-copy-users : tie.Need-sub-copy-users Inv-loop μ-loop
-sub-copy-users c = search needs
+sub-unscramble-users : tie.Need-sub-unscramble-users Inv-loop μ-loop
+sub-unscramble-users c = search needs
 
-part-copy-users-start : tie.Need-part-copy-users-start Inv-loop μ-loop
-part-copy-users-start c = search needs
+part-unscramble-users-start : tie.Need-part-unscramble-users-start Inv-loop μ-loop
+part-unscramble-users-start c = search needs
 
-part-copy-users-end : tie.Need-part-copy-users-end Inv-loop μ-loop
-part-copy-users-end c = search needs
+part-unscramble-users-end : tie.Need-part-unscramble-users-end Inv-loop μ-loop
+part-unscramble-users-end c = search needs
 
-copy-users-requires : tie.Need-copy-users-requires Inv-loop μ-loop
-copy-users-requires c κs = search needs
+unscramble-users-requires : tie.Need-unscramble-users-requires Inv-loop μ-loop
+unscramble-users-requires c κs = search needs
 
 add-e : tie.Need-add-e Inv-loop μ-loop
 add-e c = search needs
@@ -61,7 +61,7 @@ loop-again c =
     let read = given .before .before .before .before in
     let head = read .before .before .before in
     let start = head .before .before .before .before .before in
-    let copied = given .copy-users in
+    let copied = given .unscramble-users in
     let taken = read .take-frames in
     let args = start .args in
     let e = head .loop .e in
@@ -86,11 +86,11 @@ user-bytes-spec =
     take-frames-requires
     mul-from
     add-end
-    slice-aggregate-copy-users
-    sub-copy-users
-    part-copy-users-start
-    part-copy-users-end
-    copy-users-requires
+    slice-aggregate-unscramble-users
+    sub-unscramble-users
+    part-unscramble-users-start
+    part-unscramble-users-end
+    unscramble-users-requires
     add-e
     loop-less
     loop-again

@@ -1,7 +1,7 @@
 -- `sums` meets its contract: the copies of w cancel out (Quotient).
 use Rattle.edc.proofs.Quotient.{folded, unsummed}
-use Rattle.edc.proofs.sums.Statement.{statement}
-use Rattle.edc.proofs.sums.Tie as tie
+use Rattle.edc.proofs.steps.sums.Statement.{statement}
+use Rattle.edc.proofs.steps.sums.Tie as tie
 
 returns : tie.Need-returns
 unfolding folded

@@ -1,0 +1,58 @@
+// The register, eight bytes or one at a time, for the crates of this repository.
+ghost use mathlib.Core.Path.{_≡_};
+ghost use mathlib.Core.List.{List, [], _∷_, _++_};
+ghost use Prim.Native.Nat.{ℕ, _*_, _-_, _/_, _%_, _^_, _<_};
+ghost use lib.Bits.{bitXor};
+ghost use Rattle.big_endian.specs.Words.{eightBytes};
+ghost use Rattle.edc.specs.Edc.{edcOf};
+
+fn wide(word: u32) -> u64
+    ensures { λ r. ⌜ (r ≡ word) × (r < 2 ^ 32) ⌝ }
+{
+    word as u64
+}
+
+// Bits 31 to 0.
+fn low(v: u64) -> u32
+    ensures { λ r. ⌜ r ≡ v % 2 ^ 32 ⌝ }
+{
+    (v % 0x1_0000_0000) as u32
+}
+
+// The number that, with itself one bit lower, has the exclusive or w: its bit i is the sum of bits i and above of w.
+fn sums(w: u64) -> u64
+    ensures { λ r. ⌜ bitXor r (r / 2) ≡ w ⌝ }
+{
+    let a = w ^ (w >> 1);
+    let b = a ^ (a >> 2);
+    let c = b ^ (b >> 4);
+    let d = c ^ (c >> 8);
+    let e = d ^ (d >> 16);
+    e ^ (e >> 32)
+}
+
+// The sum of all bits of w, in each of 32 bits: what its sums have below it, were it 32 bits higher.
+fn sum_below(w: u32) -> u32
+    ensures { λ r. ⌜ ((s : ℕ) → bitXor s (s / 2) ≡ w → r ≡ s % 2 * (2 ^ 32 - 1)) ⌝ }
+{
+    u32::count_ones(w) % 2 * 0xffff_ffff
+}
+
+// The register after eight bytes more: what q(x) G(x) has below x^32, where from x^32 on it has v(x).
+pub fn eight_more(register: u32, eight: u64) -> u32
+    ensures { λ r. ⌜ ((bytes : List ℕ) → register ≡ edcOf bytes → r ≡ edcOf (bytes ++ eightBytes eight)) ⌝ }
+{
+    let v = wide(register) * 0x1_0000_0000 ^ eight;
+    let s = low(sums(eight)) ^ sum_below(register);
+    // What x^4 + 1 of G(x) brings back to x^32 and above; by its four highest bits a second time.
+    let q = s ^ low((v >> 28) ^ (v >> 30)) ^ low(((v >> 56) ^ (v >> 60)) ^ ((v >> 57) ^ (v >> 61)));
+    (q << 31) ^ (q << 4) ^ q
+}
+
+// The register after one byte more.
+pub fn byte_more(register: u32, byte: u8) -> u32
+    ensures { λ r. ⌜ ((bytes : List ℕ) → register ≡ edcOf bytes → r ≡ edcOf (bytes ++ (byte ∷ []))) ⌝ }
+{
+    let q = low(sums(wide(register >> 24) ^ byte as u64));
+    (q << 31) ^ (q << 4) ^ q ^ (register << 8)
+}

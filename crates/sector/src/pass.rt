@@ -1,0 +1,83 @@
+// The pass over a sector: error-detection code and scrambling together, eight bytes at a step as far as the stream reaches, then one.
+use big_endian::eight_bytes;
+use big_endian::steps::eight_at;
+use big_endian::word;
+use edc::steps::byte_more;
+use edc::steps::eight_more;
+use slices::steps::copy_bytes;
+ghost use mathlib.Core.Path.{_≡_};
+ghost use Prim.Native.Nat.{_*_, _≤_};
+ghost use lib.ListN.{length, getD};
+ghost use Rattle.big_endian.specs.Words.{wordAt};
+ghost use Rattle.sector.specs.Pass.{PassWriting, PassReading};
+
+// How many times eight bytes of a sector have bytes of the stream beside them.
+fn eights(stream: &[u8]) -> usize
+    ensures { λ r. ⌜ (r ≤ 256) × (8 * r ≤ length (now (stream .entry))) ⌝ }
+{
+    if stream.len() < 2048 {
+        return stream.len() / 8;
+    }
+    256
+}
+
+// Byte k of the stream; behind its end 0.
+fn stream_byte(stream: &[u8], k: usize) -> u8
+    ensures { λ r. ⌜ r ≡ getD (now (stream .entry)) k 0 ⌝ }
+{
+    if k < stream.len() {
+        return stream[k];
+    }
+    0
+}
+
+// The four scrambling bytes of the error-detection code, as a word.
+pub fn code_stream(stream: &[u8]) -> u32
+    ensures { λ r. ⌜ r ≡ wordAt (now (stream .entry)) 2048 ⌝ }
+{
+    word(
+        stream_byte(stream, 2048),
+        stream_byte(stream, 2049),
+        stream_byte(stream, 2050),
+        stream_byte(stream, 2051),
+    )
+}
+
+// Writes the scrambled user bytes; the register at their end is the error-detection code.
+pub fn write(user: &[u8], stream: &[u8], frame: &mut [u8]) -> u32
+    requires { ⌜ (length (now user) ≡ 2048) × (length (now frame) ≡ 2052) ⌝ }
+    ensures { λ r. ⌜ PassWriting (now (user .entry)) (now (stream .entry)) (now (frame .entry)) 2048 (now (frame .exit)) r ⌝ }
+{
+    let mut register: u32 = 0;
+    let whole = eights(stream);
+    for k in 0..whole {
+        let at = 8 * k;
+        let past = at + 8;
+        let eight = eight_at(user, at);
+        let bytes = eight_bytes(eight ^ eight_at(stream, at));
+        copy_bytes(&bytes, &mut frame[at..past]);
+        register = eight_more(register, eight);
+    }
+    for k in 8 * whole..2048 {
+        frame[k] = user[k] ^ stream_byte(stream, k);
+        register = byte_more(register, user[k]);
+    }
+    register
+}
+
+// The register behind the first 2,048 bytes of a data frame, unscrambled.
+pub fn read(frame: &[u8], stream: &[u8]) -> u32
+    requires { ⌜ length (now frame) ≡ 2052 ⌝ }
+    ensures { λ r. ⌜ PassReading (now (frame .entry)) (now (stream .entry)) 2048 r ⌝ }
+{
+    let mut register: u32 = 0;
+    let whole = eights(stream);
+    for k in 0..whole {
+        let at = 8 * k;
+        register = eight_more(register, eight_at(frame, at) ^ eight_at(stream, at));
+    }
+    for k in 8 * whole..2048 {
+        register = byte_more(register, frame[k] ^ stream_byte(stream, k));
+    }
+    register
+}
