@@ -54,5 +54,6 @@ pub fn byte_more(register: u32, byte: u8) -> u32
     ensures { λ r. ⌜ ((bytes : List ℕ) → register ≡ edcOf bytes → r ≡ edcOf (bytes ++ (byte ∷ []))) ⌝ }
 {
     let q = low(sums(wide(register >> 24) ^ byte as u64));
-    (q << 31) ^ (q << 4) ^ q ^ (register << 8)
+    let code = (q << 31) ^ (q << 4) ^ q;
+    code ^ (register << 8)
 }

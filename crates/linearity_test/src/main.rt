@@ -10,20 +10,13 @@ const PSN: u32 = 0x02F7_6400;
 
 const NEXT: u32 = 0x02F7_6420;
 
-// Bytes combined with others, by exclusive or.
-fn combine(bytes: &mut [u8], others: &[u8]) {
-    for k in 0..others.len() {
-        compare::flip(bytes, k, others[k]);
-    }
-}
-
 fn edc_of(sector: &[u8]) -> u64 {
     edc::edc(sector) as u64
 }
 
 fn edc_lines(a: [u8; 2048], b: [u8; 2048]) {
     let mut both = a;
-    combine(&mut both, &b);
+    compare::combine(&mut both, &b);
     lines::hex_line(b"EDC of sector 0: ", edc_of(&a), 8);
     lines::hex_line(b"EDC of sector 31: ", edc_of(&b), 8);
     lines::hex_line(b"EDCs combined: ", edc_of(&a) ^ edc_of(&b), 8);
@@ -41,13 +34,13 @@ fn parity_of(column: &[u8]) -> [u8; 32] {
 
 fn parity_lines(a: &[u8], b: &[u8]) {
     let mut both = [0u8; 216];
-    combine(&mut both, a);
-    combine(&mut both, b);
+    compare::combine(&mut both, a);
+    compare::combine(&mut both, b);
     let of_b = parity_of(b);
     let mut parities = parity_of(a);
     lines::bytes_line(b"parity of column 0: ", &parities);
     lines::bytes_line(b"parity of column 303: ", &of_b);
-    combine(&mut parities, &of_b);
+    compare::combine(&mut parities, &of_b);
     lines::bytes_line(b"parities combined: ", &parities);
     lines::bytes_line(b"parity of the columns combined: ", &parity_of(&both));
 }
@@ -69,13 +62,13 @@ fn plain_frame(sector: &[u8]) -> [u8; 2052] {
 
 fn scrambled(frame: [u8; 2052], psn: u32) -> [u8; 2052] {
     let mut bytes = frame;
-    scrambling::scramble(&mut bytes, &scrambling::scrambling(Psn(psn)));
+    compare::combine(&mut bytes, &scrambling::scrambling(Psn(psn)));
     bytes
 }
 
 fn sum(a: [u8; 2052], b: [u8; 2052]) -> [u8; 2052] {
     let mut both = a;
-    combine(&mut both, &b);
+    compare::combine(&mut both, &b);
     both
 }
 

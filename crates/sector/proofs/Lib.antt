@@ -1,3 +1,3 @@
 -- Laws of sectors.
 pub mod Frame
-pub mod Steps
+pub mod Writing

@@ -1,3 +1,2 @@
--- Data frames, and the pass over a sector.
+-- Data frames.
 pub mod DataFrame
-pub mod Pass

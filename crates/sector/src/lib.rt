@@ -1,8 +1,7 @@
 // 13.2 to 13.4: data frames of sectors.
-mod pass;
-
 use big_endian::steps::word_at;
 use big_endian::word_bytes;
+use sector_pass::steps as pass;
 use slices::steps::copy_bytes;
 ghost use mathlib.Core.Path.{_≡_};
 ghost use Rattle.scrambling.specs.Scrambling.{scrambled};
@@ -18,8 +17,8 @@ pub fn data_frame(user: &[u8], stream: &[u8], frame: &mut [u8]) -> bool
     if frame.len() != 2052 {
         return false;
     }
-    let code = word_bytes(pass::write(user, stream, frame) ^ pass::code_stream(stream));
-    copy_bytes(&code, &mut frame[2048..2052]);
+    let code = pass::write(user, stream, frame) ^ pass::code_stream(stream);
+    copy_bytes(&word_bytes(code), &mut frame[2048..2052]);
     true
 }
 

@@ -46,27 +46,27 @@ fn draw(drawn: bool, state: u64, bytes: &mut [u8]) -> u64 {
     state
 }
 
-// The data frame of a sector, scrambled and back.
+// The scrambled data frame of a sector.
 fn frame_of(user: &[u8], stream: &[u8]) -> [u8; 2052]
     ensures { λ r. ⌜ length r ≡ 2052 ⌝ }
 {
     let mut frame = no_frame();
     sector::data_frame(user, stream, &mut frame);
-    scrambling::scramble(&mut frame, stream);
     frame
 }
 
 // How often the test of the code answers wrongly: on a data frame, and with one byte changed.
-fn wrong_answers(frame: &mut [u8], s: usize) -> u64
+fn wrong_answers(frame: &mut [u8], stream: &[u8], s: usize) -> u64
     ensures { λ r. ⌜ r ≤ 2 ⌝ }
 {
-    let refused = flag(!sector::edc_right(frame));
+    let refused = flag(!sector::edc_right(frame, stream));
     compare::flip(frame, s % 32 * 66 + 5, 1);
-    let passed = flag(sector::edc_right(frame));
+    let passed = flag(sector::edc_right(frame, stream));
+    compare::flip(frame, s % 32 * 66 + 5, 1);
     refused + passed
 }
 
-// One sector more: written, read back, and read with one byte changed.
+// One sector more: written, read back, and read with one byte changed, scrambled and plain.
 fn sector(seen: Seen, drawn: bool, s: usize, stream: [u8; 2052]) -> Seen {
     let mut user = no_user();
     let state = draw(drawn, seen.state, &mut user);
@@ -74,11 +74,14 @@ fn sector(seen: Seen, drawn: bool, s: usize, stream: [u8; 2052]) -> Seen {
         edc_line(b"error-detection code ", &user);
     }
     let mut frame = frame_of(&user, &stream);
+    let scrambled = wrong_answers(&mut frame, &stream, s);
+    compare::combine(&mut frame, &stream);
+    let plain = wrong_answers(&mut frame, b"", s);
     Seen {
         state,
         user: hash::behind(seen.user, &user),
         frames: hash::behind(seen.frames, &frame),
-        wrong: std::num::wrapping_add_u64(seen.wrong, wrong_answers(&mut frame, s)),
+        wrong: std::num::wrapping_add_u64(seen.wrong, scrambled + plain),
     }
 }
 
@@ -143,7 +146,7 @@ fn other_lengths(bytes: &[u8]) {
     edc_line(b"one byte ", &[1u8]);
     edc_line(b"13 bytes ", bytes);
     frame_lines(b"data frame of 13 bytes ", bytes, bytes, b"frame ");
-    let right = flag(sector::edc_right(bytes));
+    let right = flag(sector::edc_right(bytes, bytes));
     lines::hex_line(b"code of 13 bytes right ", right, 1);
 }
 

@@ -56,6 +56,13 @@ pub fn flip(bytes: &mut [u8], at: usize, bits: u8) {
     }
 }
 
+// Bytes combined with others, by exclusive or.
+pub fn combine(bytes: &mut [u8], others: &[u8]) {
+    for k in 0..others.len() {
+        flip(bytes, k, others[k]);
+    }
+}
+
 // Bytes to a slice from `at` on.
 pub fn copy(from: &[u8], to: &mut [u8], at: usize) {
     for k in 0..from.len() {

@@ -1,6 +1,6 @@
--- `data_frame` meets its contract, case by case of the lengths: the pass, then the scrambled code (Steps).
+-- `data_frame` meets its contract, case by case of the lengths: the pass, then the scrambled code (Writing).
 use native.Mathlib.Omega.{arith}
-use Rattle.sector.proofs.Steps.{other-user, other-frame, both-lengths, written-frame}
+use Rattle.sector.proofs.Writing.{other-user, other-frame, both-lengths, written-frame}
 use borrow.Author.Needs.{needs}
 use Rattle.sector.proofs.data_frame.Statement.{statement}
 use Rattle.sector.proofs.data_frame.Tie as tie

@@ -1,6 +1,6 @@
--- `edc_right` meets its contract: another length, and 2,052 bytes (Steps).
+-- `edc_right` meets its contract: another length, and 2,052 bytes (Writing).
 use native.Mathlib.Omega.{arith}
-use Rattle.sector.proofs.Steps.{other-length, code-compared}
+use Rattle.sector.proofs.Writing.{other-length, code-compared}
 use borrow.Author.Needs.{needs}
 use Rattle.sector.proofs.edc_right.Statement.{statement}
 use Rattle.sector.proofs.edc_right.Tie as tie

@@ -7,8 +7,8 @@ use mathlib.Core.Path.{sym}
 use native.Mathlib.Omega.{arith}
 use lib.ListN.{List·getD-eq-default}
 use borrow.Author.Needs.{needs}
-use Rattle.sector.proofs.pass.stream_byte.Statement.{statement}
-use Rattle.sector.proofs.pass.stream_byte.Tie as tie
+use Rattle.sector_pass.proofs.steps.stream_byte.Statement.{statement}
+use Rattle.sector_pass.proofs.steps.stream_byte.Tie as tie
 
 shared-slice-read-result : tie.Need-shared-slice-read-result
 shared-slice-read-result c = search needs

@@ -1,12 +1,12 @@
--- `write` meets its contract: what the pass keeps, eight bytes or one more each turn (Steps).
+-- `write` meets its contract: what the pass keeps, eight bytes or one more each turn (Pass).
 use mathlib.Core.Path.{_≡_, subst, _∙_}
 use Prim.Native.Nat.{ℕ, _≤_, _+_, _*_, _-_}
 use native.Mathlib.Omega.{arith}
 use borrow.Author.Needs.{needs}
-use Rattle.sector.specs.Pass.{PassWriting}
-use Rattle.sector.proofs.Steps.{writing-none, writing-length, writing-eight, writing-byte, writing-here, writing-since}
-use Rattle.sector.proofs.pass.write.Statement.{statement}
-use Rattle.sector.proofs.pass.write.Tie as tie
+use Rattle.sector_pass.specs.Pass.{PassWriting}
+use Rattle.sector_pass.proofs.Pass.{writing-none, writing-length, writing-eight, writing-byte, writing-here, writing-since}
+use Rattle.sector_pass.proofs.steps.write.Statement.{statement}
+use Rattle.sector_pass.proofs.steps.write.Tie as tie
 
 abbrev Inv-loop : tie.InvT-loop
 Inv-loop user stream frame₀ register₀ whole k₀ frame register k = (k ≤ whole) × PassWriting user stream frame₀ (8 * k) frame register

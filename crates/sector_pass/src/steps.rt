@@ -1,4 +1,4 @@
-// The pass over a sector: error-detection code and scrambling together, eight bytes at a step as far as the stream reaches, then one.
+// Eight bytes at a step as far as the stream reaches, then one.
 use big_endian::eight_bytes;
 use big_endian::steps::eight_at;
 use big_endian::word;
@@ -9,7 +9,7 @@ ghost use mathlib.Core.Path.{_≡_};
 ghost use Prim.Native.Nat.{_*_, _≤_};
 ghost use lib.ListN.{length, getD};
 ghost use Rattle.big_endian.specs.Words.{wordAt};
-ghost use Rattle.sector.specs.Pass.{PassWriting, PassReading};
+ghost use Rattle.sector_pass.specs.Pass.{PassWriting, PassReading};
 
 // How many times eight bytes of a sector have bytes of the stream beside them.
 fn eights(stream: &[u8]) -> usize
@@ -54,8 +54,8 @@ pub fn write(user: &[u8], stream: &[u8], frame: &mut [u8]) -> u32
         let at = 8 * k;
         let past = at + 8;
         let eight = eight_at(user, at);
-        let bytes = eight_bytes(eight ^ eight_at(stream, at));
-        copy_bytes(&bytes, &mut frame[at..past]);
+        let scrambled = eight ^ eight_at(stream, at);
+        copy_bytes(&eight_bytes(scrambled), &mut frame[at..past]);
         register = eight_more(register, eight);
     }
     for k in 8 * whole..2048 {
@@ -74,7 +74,8 @@ pub fn read(frame: &[u8], stream: &[u8]) -> u32
     let whole = eights(stream);
     for k in 0..whole {
         let at = 8 * k;
-        register = eight_more(register, eight_at(frame, at) ^ eight_at(stream, at));
+        let plain = eight_at(frame, at) ^ eight_at(stream, at);
+        register = eight_more(register, plain);
     }
     for k in 8 * whole..2048 {
         register = byte_more(register, frame[k] ^ stream_byte(stream, k));

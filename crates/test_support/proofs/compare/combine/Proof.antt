@@ -3,8 +3,8 @@ use Prim.Native.Nat.{_≤_, _-_}
 use mathlib.Core.Path.{_≡_}
 use lib.ListN.{length}
 use borrow.Author.Needs.{needs}
-use Rattle.linearity_test.proofs.combine.Statement.{statement}
-use Rattle.linearity_test.proofs.combine.Tie as tie
+use Rattle.test_support.proofs.compare.combine.Statement.{statement}
+use Rattle.test_support.proofs.compare.combine.Tie as tie
 
 abbrev Inv-loop : tie.InvT-loop
 Inv-loop bytes₀ others k₀ k-end bytes k = (length bytes ≡ length bytes₀) × (k ≤ length others)

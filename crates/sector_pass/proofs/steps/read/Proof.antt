@@ -1,12 +1,12 @@
--- `read` meets its contract: what the pass keeps, eight bytes or one more each turn (Steps).
+-- `read` meets its contract: what the pass keeps, eight bytes or one more each turn (Pass).
 use mathlib.Core.Path.{_≡_, subst}
 use Prim.Native.Nat.{ℕ, _≤_, _+_, _*_, _-_}
 use native.Mathlib.Omega.{arith}
 use borrow.Author.Needs.{needs}
-use Rattle.sector.specs.Pass.{PassReading}
-use Rattle.sector.proofs.Steps.{reading-none, reading-eight, reading-byte}
-use Rattle.sector.proofs.pass.read.Statement.{statement}
-use Rattle.sector.proofs.pass.read.Tie as tie
+use Rattle.sector_pass.specs.Pass.{PassReading}
+use Rattle.sector_pass.proofs.Pass.{reading-none, reading-eight, reading-byte}
+use Rattle.sector_pass.proofs.steps.read.Statement.{statement}
+use Rattle.sector_pass.proofs.steps.read.Tie as tie
 
 abbrev Inv-loop : tie.InvT-loop
 Inv-loop frame stream register₀ whole k₀ register k = (k ≤ whole) × PassReading frame stream (8 * k) register

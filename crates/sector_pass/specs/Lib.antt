@@ -1,0 +1,2 @@
+-- The pass over a sector.
+pub mod Pass
