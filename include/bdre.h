@@ -31,7 +31,7 @@ extern "C" {
 #endif
 
 /* The version of this interface, for a libbdre.a of the same version; README.md, 'Versions'. */
-#define BDRE_VERSION "2.0.0"
+#define BDRE_VERSION "2.0.1"
 
 #define BDRE_USER 65536      /* user data: 32 sectors of 2,048 bytes */
 #define BDRE_SIDE 592        /* side data: 16 flag bytes, then 32 x 18 bytes of user control data */

@@ -2,7 +2,7 @@
 //! libbdre.a. Nothing is asked of the caller. bdre.h lists the numbers that are answered.
 
 /// The version of this interface, for a libbdre.a of the same version; README.md, 'Versions'.
-pub const VERSION: &str = "2.0.0";
+pub const VERSION: &str = "2.0.1";
 /// User data: 32 sectors of 2,048 bytes.
 pub const USER: usize = 65_536;
 /// Side data: 16 flag bytes, then 32 x 18 bytes of user control data.

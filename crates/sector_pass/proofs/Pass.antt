@@ -51,7 +51,7 @@ module _ (user stream before : List ℕ) where
     front : length (take n frame) ≡ n
     front = ap length (p .written) ∙ length-scrambled stream (take n user) ∙ length-take-le n user (p .taken)
 
-    pub writing-length : n ≤ length before → length frame ≡ length before
+    writing-length : n ≤ length before → length frame ≡ length before
     writing-length h =
         omega (
           arith,
@@ -102,6 +102,10 @@ module _ (user stream before : List ℕ) where
         set-split frame n v hf ∙ ap (λ (l : List ℕ). take n frame ++ (v ∷ l)) (ap (λ (k : ℕ). drop k frame) (sym (add-one n)) ∙ sym (drop-drop 1 n frame)) in
         subst (λ (l : List ℕ). PassWriting user stream before (n + 1) l next) (sym put)
         (writing-part 1 next (x ∷ []) (v ∷ []) (omega arith) (one-there user n hu) (byte-scrambled stream n x s es) (en (take n user) (p .remainder)))
+
+pub frame-length : {user stream before frame : List ℕ} {n register : ℕ} → length user ≡ 2048 → length before ≡ 2052 → PassWriting user stream before n frame register
+    → length frame ≡ 2052
+frame-length {user} {stream} {before} {frame} {n} {register} h g p = writing-length user stream before n frame register p (omega (arith, p .taken)) ∙ g
 
 -- the pass as it goes on from a frame in the middle
 pub writing-here : (user stream before frame : List ℕ) (n register : ℕ) → PassWriting user stream before n frame register → PassWriting user stream frame n frame register

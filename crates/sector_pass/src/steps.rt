@@ -59,8 +59,9 @@ pub fn write(user: &[u8], stream: &[u8], frame: &mut [u8]) -> u32
         register = eight_more(register, eight);
     }
     for k in 8 * whole..2048 {
-        frame[k] = user[k] ^ stream_byte(stream, k);
-        register = byte_more(register, user[k]);
+        let byte = user[k];
+        frame[k] = byte ^ stream_byte(stream, k);
+        register = byte_more(register, byte);
     }
     register
 }

@@ -134,10 +134,12 @@ fn frame_lines(text: &[u8], user: &[u8], stream: &[u8], hashed: &[u8]) {
     lines::hex_line(hashed, hash::of(&frame), 16);
 }
 
-// The scrambled data frame of a sector of zeros is the stream.
+// The scrambled data frame of a sector of zeros is the stream; behind the end of a shorter one, zeros.
 fn zeros_scrambled(stream: [u8; 2052]) {
     let user = no_user();
     frame_lines(b"data frame of zeros ", &user, &stream, b"scrambled ");
+    let part = compare::part(&stream, 0, 1001);
+    frame_lines(b"with 1,001 scrambling bytes ", &user, part, b"scrambled ");
 }
 
 // The bytes 1, 2, .. of other lengths, and what is refused.

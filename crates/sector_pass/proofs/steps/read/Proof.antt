@@ -45,20 +45,22 @@ loop-less : tie.Need-loop-less Inv-loop μ-loop Inv-loop2 μ-loop2
 loop-less c = search needs
 
 loop-again : tie.Need-loop-again Inv-loop μ-loop Inv-loop2 μ-loop2
-loop-again c = 
+loop-again c =
     let beside = c .before in
     let read = beside .before in
     let head = read .before .before in
     let args = head .before .before .before .before .args in
-    let k = head .loop .k in
-    (omega arith, reading-eight (args .frame .now) (args .stream .now) (8 * k) (head .loop .register) (head .loop .inv .1) (read .eight-at .result) (beside .eight-at2 .result) (c .eight-more .result)
-    (8 * (k + 1)) (omega arith) (omega arith) (omega arith) (read .eight-at .ensures) (beside .eight-at2 .ensures) (c .eight-more .ensures))
+    let k = head .loop .k in (
+      omega arith,
+      reading-eight (args .frame .now) (args .stream .now) (8 * k) (head .loop .register) (head .loop .inv .1) (read .eight-at .result) (beside .eight-at2 .result) (c .eight-more .result)
+          (8 * (k + 1)) (omega arith) (omega arith) (omega arith) (read .eight-at .ensures) (beside .eight-at2 .ensures) (c .eight-more .ensures),
+    )
 
 mul-k : tie.Need-mul-k Inv-loop μ-loop Inv-loop2 μ-loop2
 mul-k c = search needs
 
 loop2-holds : tie.Need-loop2-holds Inv-loop μ-loop Inv-loop2 μ-loop2
-loop2-holds c = 
+loop2-holds c =
     let head = c .before in
     let args = head .before .before .before .before .args in
     let end : head .loop .k ≡ head .before .eights .result = omega arith in
@@ -81,16 +83,18 @@ loop2-less : tie.Need-loop2-less Inv-loop μ-loop Inv-loop2 μ-loop2
 loop2-less c = search needs
 
 loop2-again : tie.Need-loop2-again Inv-loop μ-loop Inv-loop2 μ-loop2
-loop2-again c = 
+loop2-again c =
     let beside = c .before in
     let head = beside .before .before .before in
     let args = head .before .before .before .before .before .before .args in
-    let k = head .loop2 .k in
-    (omega arith, reading-byte (args .frame .now) (args .stream .now) k (head .loop2 .register) (head .loop2 .inv .1) (beside .stream-byte .result) (c .byte-more .result) (omega arith)
-    (beside .stream-byte .ensures) (c .byte-more .ensures))
+    let k = head .loop2 .k in (
+      omega arith,
+      reading-byte (args .frame .now) (args .stream .now) k (head .loop2 .register) (head .loop2 .inv .1) (beside .stream-byte .result) (c .byte-more .result) (omega arith)
+          (beside .stream-byte .ensures) (c .byte-more .ensures),
+    )
 
 returns : tie.Need-returns Inv-loop μ-loop Inv-loop2 μ-loop2
-returns c = 
+returns c =
     let head = c .before in
     let args = head .before .before .before .before .before .before .args in
     let end : head .loop2 .k ≡ 2048 = omega arith in

@@ -1,10 +1,10 @@
 -- `write` meets its contract: what the pass keeps, eight bytes or one more each turn (Pass).
-use mathlib.Core.Path.{_≡_, subst, _∙_}
+use mathlib.Core.Path.{_≡_, sym, subst, _∙_}
 use Prim.Native.Nat.{ℕ, _≤_, _+_, _*_, _-_}
 use native.Mathlib.Omega.{arith}
 use borrow.Author.Needs.{needs}
 use Rattle.sector_pass.specs.Pass.{PassWriting}
-use Rattle.sector_pass.proofs.Pass.{writing-none, writing-length, writing-eight, writing-byte, writing-here, writing-since}
+use Rattle.sector_pass.proofs.Pass.{writing-none, frame-length, writing-eight, writing-byte, writing-here, writing-since}
 use Rattle.sector_pass.proofs.steps.write.Statement.{statement}
 use Rattle.sector_pass.proofs.steps.write.Tie as tie
 
@@ -51,10 +51,10 @@ part-copy-bytes-start : tie.Need-part-copy-bytes-start Inv-loop μ-loop Inv-loop
 part-copy-bytes-start c = search needs
 
 part-copy-bytes-end : tie.Need-part-copy-bytes-end Inv-loop μ-loop Inv-loop2 μ-loop2
-part-copy-bytes-end c = 
+part-copy-bytes-end c =
     let head = c .before .before .before .before .before in
-    let args = head .before .before .before .before .before .args in
-    let size = writing-length (args .user .now) (args .stream .now) (args .frame .now) (8 * head .loop .k) (head .loop .frame) (head .loop .register) (head .loop .inv .1) (omega (arith, head .loop .inv .1 .taken)) in
+    let start = head .before .before .before .before .before in
+    let size = frame-length (start .pre .0) (start .pre .1) (head .loop .inv .1) in
     search (needs, size)
 
 copy-bytes-requires : tie.Need-copy-bytes-requires Inv-loop μ-loop Inv-loop2 μ-loop2
@@ -70,7 +70,7 @@ loop-less : tie.Need-loop-less Inv-loop μ-loop Inv-loop2 μ-loop2
 loop-less c = search needs
 
 loop-again : tie.Need-loop-again Inv-loop μ-loop Inv-loop2 μ-loop2
-loop-again c = 
+loop-again c =
     let copied = c .before .before .before in
     let made = copied .before .before .before in
     let beside = made .before in
@@ -79,40 +79,37 @@ loop-again c =
     let start = head .before .before .before .before .before in
     let args = start .args in
     let k = head .loop .k in
-    let at = head .loop .inv .1 in
-    (omega arith, writing-eight (args .user .now) (args .stream .now) (args .frame .now) (8 * k) (head .loop .frame) (head .loop .register) at (read .eight-at .result) (beside .eight-at2 .result)
-    (c .eight-more .result) (8 * k + 8 - 8 * k) (8 * (k + 1)) (copied .copy-bytes .last .1 .0) (omega arith) (omega arith) (omega (arith, head .before .eights .ensures .0, start .pre .0)) (omega (arith, head .before .eights .ensures .1)) (read .eight-at .ensures) (beside .eight-at2 .ensures)
-    (copied .copy-bytes .ensures ∙ made .eight-bytes .ensures) (c .eight-more .ensures))
+    let at = head .loop .inv .1 in (
+      omega arith,
+      writing-eight (args .user .now) (args .stream .now) (args .frame .now) (8 * k) (head .loop .frame) (head .loop .register) at (read .eight-at .result) (beside .eight-at2 .result)
+          (c .eight-more .result) (8 * k + 8 - 8 * k) (8 * (k + 1)) (copied .copy-bytes .last .1 .0) (omega arith) (omega arith) (omega (arith, head .before .eights .ensures .0, start .pre .0)) (omega (arith, head .before .eights .ensures .1)) (read .eight-at .ensures) (beside .eight-at2 .ensures)
+          (copied .copy-bytes .ensures ∙ made .eight-bytes .ensures) (c .eight-more .ensures),
+    )
 
 mul-k : tie.Need-mul-k Inv-loop μ-loop Inv-loop2 μ-loop2
 mul-k c = search needs
 
 loop2-holds : tie.Need-loop2-holds Inv-loop μ-loop Inv-loop2 μ-loop2
-loop2-holds c = 
+loop2-holds c =
     let head = c .before in
     let args = head .before .before .before .before .before .args in
     let end : head .loop .k ≡ head .before .eights .result = omega arith in
     let here = writing-here (args .user .now) (args .stream .now) (args .frame .now) (head .loop .frame) (8 * head .loop .k) (head .loop .register) (head .loop .inv .1) in
     (omega arith, subst (λ (n : ℕ). PassWriting (args .user .now) (args .stream .now) (head .loop .frame) (8 * n) (head .loop .frame) (head .loop .register)) end here)
 
-shared-slice-read-frame : tie.Need-shared-slice-read-frame Inv-loop μ-loop Inv-loop2 μ-loop2
-shared-slice-read-frame c = search needs
+shared-slice-read-byte : tie.Need-shared-slice-read-byte Inv-loop μ-loop Inv-loop2 μ-loop2
+shared-slice-read-byte c = search needs
 
 stream-byte-requires : tie.Need-stream-byte-requires Inv-loop μ-loop Inv-loop2 μ-loop2
 stream-byte-requires c κs = search needs
 
 slice-write-frame : tie.Need-slice-write-frame Inv-loop μ-loop Inv-loop2 μ-loop2
-slice-write-frame c = 
+slice-write-frame c =
     let head = c .before .before .before in
     let first = head .before .before in
-    let args = first .before .before .before .before .before .args in
-    let half = writing-length (args .user .now) (args .stream .now) (args .frame .now) (8 * first .loop .k) (first .loop .frame) (first .loop .register) (first .loop .inv .1) (omega (arith, first .loop .inv .1 .taken)) in
-    let size = writing-length (args .user .now) (args .stream .now) (first .loop .frame) (head .loop2 .k) (head .loop2 .frame) (head .loop2 .register) (head .loop2 .inv .1) (omega (arith, half)) in
-    omega (arith, half, size)
-
-shared-slice-read-byte-more :
-    tie.Need-shared-slice-read-byte-more Inv-loop μ-loop Inv-loop2 μ-loop2
-shared-slice-read-byte-more c = search needs
+    let start = first .before .before .before .before .before in
+    let size = frame-length (start .pre .0) (frame-length (start .pre .0) (start .pre .1) (first .loop .inv .1)) (head .loop2 .inv .1) in
+    omega (arith, size)
 
 byte-more-requires : tie.Need-byte-more-requires Inv-loop μ-loop Inv-loop2 μ-loop2
 byte-more-requires c κs = search needs
@@ -124,28 +121,28 @@ loop2-less : tie.Need-loop2-less Inv-loop μ-loop Inv-loop2 μ-loop2
 loop2-less c = search needs
 
 loop2-again : tie.Need-loop2-again Inv-loop μ-loop Inv-loop2 μ-loop2
-loop2-again c = 
-    let put = c .before .before in
+loop2-again c =
+    let put = c .before in
     let head = put .before .before .before in
     let first = head .before .before in
-    let args = first .before .before .before .before .before .args in
+    let start = first .before .before .before .before .before in
+    let args = start .args in
     let k = head .loop2 .k in
-    let half = writing-length (args .user .now) (args .stream .now) (args .frame .now) (8 * first .loop .k) (first .loop .frame) (first .loop .register) (first .loop .inv .1) (omega (arith, first .loop .inv .1 .taken)) in
-    let size = writing-length (args .user .now) (args .stream .now) (first .loop .frame) k (head .loop2 .frame) (head .loop2 .register) (head .loop2 .inv .1) (omega (arith, half)) in
-    (omega arith, writing-byte (args .user .now) (args .stream .now) (first .loop .frame) k (head .loop2 .frame) (head .loop2 .register) (head .loop2 .inv .1) (put .stream-byte .result)
-    (c .byte-more .result) (omega arith) (omega (arith, half, size)) (put .stream-byte .ensures) (c .byte-more .ensures))
+    let size = frame-length (start .pre .0) (frame-length (start .pre .0) (start .pre .1) (first .loop .inv .1)) (head .loop2 .inv .1) in (
+      omega arith,
+      writing-byte (args .user .now) (args .stream .now) (first .loop .frame) k (head .loop2 .frame) (head .loop2 .register) (head .loop2 .inv .1) (put .stream-byte .result)
+          (c .byte-more .result) (omega arith) (omega (arith, size)) (put .stream-byte .ensures) (c .byte-more .ensures),
+    )
 
 same-length : tie.Need-same-length Inv-loop μ-loop Inv-loop2 μ-loop2
 same-length c =
     let head = c .before in
     let first = head .before .before in
-    let args = first .before .before .before .before .before .args in
-    let half = writing-length (args .user .now) (args .stream .now) (args .frame .now) (8 * first .loop .k) (first .loop .frame) (first .loop .register) (first .loop .inv .1) (omega (arith, first .loop .inv .1 .taken)) in
-    let size = writing-length (args .user .now) (args .stream .now) (first .loop .frame) (head .loop2 .k) (head .loop2 .frame) (head .loop2 .register) (head .loop2 .inv .1) (omega (arith, half)) in
-    size ∙ half
+    let start = first .before .before .before .before .before in
+    frame-length (start .pre .0) (frame-length (start .pre .0) (start .pre .1) (first .loop .inv .1)) (head .loop2 .inv .1) ∙ sym (start .pre .1)
 
 returns : tie.Need-returns Inv-loop μ-loop Inv-loop2 μ-loop2
-returns c = 
+returns c =
     let head = c .before in
     let first = head .before .before in
     let args = first .before .before .before .before .before .args in
@@ -180,10 +177,9 @@ write-spec =
     loop-again
     mul-k
     loop2-holds
-    shared-slice-read-frame
+    shared-slice-read-byte
     stream-byte-requires
     slice-write-frame
-    shared-slice-read-byte-more
     byte-more-requires
     add-k-2
     loop2-less

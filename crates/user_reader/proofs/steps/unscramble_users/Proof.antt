@@ -64,9 +64,11 @@ loop-again c =
     let given = c .before .before in
     let head = given .before .before .before .before in
     let args = head .before .before .before .before .args in
-    let f = head .loop .f in
-    (omega arith, user-turn (args .stream .now) (args .frames .now) (given .scramble .last .1 .1 .0) (head .loop .user) f (2052 * f + 2048 - 2052 * f) (2048 * f + 2048 - 2048 * f) (2048 * (f + 1)) (omega arith) (omega arith)
-    (omega arith) (omega arith) refl (given .scramble .ensures) (head .loop .inv .1))
+    let f = head .loop .f in (
+      omega arith,
+      user-turn (args .stream .now) (args .frames .now) (given .scramble .last .1 .1 .0) (head .loop .user) f (2052 * f + 2048 - 2052 * f) (2048 * f + 2048 - 2048 * f) (2048 * (f + 1)) (omega arith) (omega arith)
+          (omega arith) (omega arith) refl (given .scramble .ensures) (head .loop .inv .1),
+    )
 
 same-length : tie.Need-same-length Inv-loop μ-loop
 same-length c = search needs
