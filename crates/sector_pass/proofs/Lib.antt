@@ -1,2 +1,3 @@
 -- The pass over a sector.
 pub mod Pass
+pub mod Counterexamples
