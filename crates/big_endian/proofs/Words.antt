@@ -79,11 +79,6 @@ four-at l at h =
     let three : suc (suc (suc at)) ≡ at + 3 = omega arith in
     sym (rw (drop-cons l at 0 (omega arith), drop-cons l (suc at) 0 (omega arith), drop-cons l (suc (suc at)) 0 (omega arith), drop-cons l (suc (suc (suc at))) 0 (omega arith), three, two, one))
 
-pub word-at-number : (l : List ℕ) (at : ℕ) → Bytes l → at + 4 ≤ length l → wordAt l at ≡ number (bitsOf (take 4 (drop at l)))
-word-at-number l at bytes h =
-    sym (number-four (getD l at 0) (getD l (at + 1) 0) (getD l (at + 2) 0) (getD l (at + 3) 0) (bytes at) (bytes (at + 1)) (bytes (at + 2)) (bytes (at + 3)))
-    ∙ ap (λ (x : List ℕ). number (bitsOf x)) (four-at l at h)
-
 -- the bytes of the word are those of the list
 pub byte-of-word : (l : List ℕ) (at j : ℕ) → Bytes l → j < 4 → getD (fourBytes (wordAt l at)) j 0 ≡ getD l (at + j) 0
 byte-of-word l at j bytes h =

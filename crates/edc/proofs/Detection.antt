@@ -46,10 +46,10 @@ bytes-edc l = bytes-four (edcOf l)
 -- ---- four bytes behind others
 
 module _ (l e : List ℕ) (size : length e ≡ 4) where
-  pub four-lt : number (bitsOf e) < 2 ^ 32
+  four-lt : number (bitsOf e) < 2 ^ 32
   four-lt = number-low e 4 size
 
-  pub number-behind : number (bitsOf (l ++ e)) ≡ bitXor (number (bitsOf l) * 2 ^ 32) (number (bitsOf e))
+  number-behind : number (bitsOf (l ++ e)) ≡ bitXor (number (bitsOf l) * 2 ^ 32) (number (bitsOf e))
   number-behind =
       number-bytes l e
       ∙ ap (λ (n : ℕ). number (bitsOf l) * 2 ^ (8 * n) + number (bitsOf e)) size

@@ -1,7 +1,7 @@
 -- The code without a loop over bits: a quotient by G(x) is a sum of shifted copies. Assumes nothing.
 use mathlib.Core.Path.{_≡_, refl, sym, ap, ap₂, subst, _∙_}
-use Prim.Native.Nat.{ℕ, zero, suc, _+_, _*_, _-_, _/_, _%_, _^_, _<_}
-use native.Mathlib.Nat.{mod-lt, add-comm, zero-mul, div-eq-of-lt, lt-of-le-of-lt, lt-of-lt-of-le, mod-mod, mod-add-mod, add-mod-mod, mul-add-mod-self-right}
+use Prim.Native.Nat.{ℕ, _+_, _*_, _-_, _/_, _%_, _^_, _<_}
+use native.Mathlib.Nat.{mod-lt, add-comm, zero-mul, div-eq-of-lt, lt-of-le-of-lt, lt-of-lt-of-le, mod-add-mod, add-mod-mod, mul-add-mod-self-right}
 use native.Mathlib.Omega.{arith}
 use lib.Arith.{bin-ind}
 use lib.Bits.{bitXor, xor-comm, xor-self, xor-zero-l, xor-zero-r, xor-lt, xor-shr, xor-block, xor-shifted, xor-add-and}

@@ -31,20 +31,20 @@ fn sums(w: u64) -> u64
     e ^ (e >> 32)
 }
 
-// The sum of all bits of w, in each of 32 bits: what its sums have below it, were it 32 bits higher.
+// The sum of all bits of w, in each of 32 bits: so the sums go on where 32 zeros follow w.
 fn sum_below(w: u32) -> u32
     ensures { λ r. ⌜ ((s : ℕ) → bitXor s (s / 2) ≡ w → r ≡ s % 2 * (2 ^ 32 - 1)) ⌝ }
 {
     u32::count_ones(w) % 2 * 0xffff_ffff
 }
 
-// The register after eight bytes more: what q(x) G(x) has below x^32, where from x^32 on it has v(x).
+// The register after eight bytes more. v(x) is both; q(x) G(x) has v(x) from x^32 on, and below it the remainder.
 pub fn eight_more(register: u32, eight: u64) -> u32
     ensures { λ r. ⌜ ((bytes : List ℕ) → register ≡ edcOf bytes → r ≡ edcOf (bytes ++ eightBytes eight)) ⌝ }
 {
     let v = wide(register) * 0x1_0000_0000 ^ eight;
     let s = low(sums(eight)) ^ sum_below(register);
-    // What x^4 + 1 of G(x) brings back to x^32 and above; by its four highest bits a second time.
+    // G(x) is x^31 (x + 1) + (x^4 + 1). Sums divide by x + 1; for x^4 + 1 bits of v come in 28 lower, and for these once more.
     let q = s ^ low((v >> 28) ^ (v >> 30)) ^ low(((v >> 56) ^ (v >> 60)) ^ ((v >> 57) ^ (v >> 61)));
     (q << 31) ^ (q << 4) ^ q
 }

@@ -11,7 +11,6 @@ use lib.ListN.{length, getD, set, take, drop, length-append, length-drop, List·
 use lib.Seq.{ext-getD, getD-take, getD-drop, getD-append-add, length-take-le}
 use Rattle.laws.specs.First.{first}
 use Rattle.laws.specs.Scatter.{Scattered}
-use Rattle.laws.specs.Tabulate.{tabulate}
 use Rattle.laws.proofs.Finite.{all, all₂, equal-below₂}
 use Rattle.laws.proofs.Fill.{Upto, upto-part}
 use Rattle.laws.proofs.First.{first-ext}

@@ -6,14 +6,14 @@ use edc::steps::byte_more;
 use edc::steps::eight_more;
 use slices::steps::copy_bytes;
 ghost use mathlib.Core.Path.{_≡_};
-ghost use Prim.Native.Nat.{_*_, _≤_};
+ghost use Prim.Native.Nat.{min, _/_};
 ghost use lib.ListN.{length, getD};
 ghost use Rattle.big_endian.specs.Words.{wordAt};
 ghost use Rattle.sector_pass.specs.Pass.{PassWriting, PassReading};
 
 // How many times eight bytes of a sector have bytes of the stream beside them.
 fn eights(stream: &[u8]) -> usize
-    ensures { λ r. ⌜ (r ≤ 256) × (8 * r ≤ length (now (stream .entry))) ⌝ }
+    ensures { λ r. ⌜ r ≡ min 2048 (length (now (stream .entry))) / 8 ⌝ }
 {
     if stream.len() < 2048 {
         return stream.len() / 8;

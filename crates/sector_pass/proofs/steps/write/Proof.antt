@@ -82,7 +82,7 @@ loop-again c =
     let at = head .loop .inv .1 in (
       omega arith,
       writing-eight (args .user .now) (args .stream .now) (args .frame .now) (8 * k) (head .loop .frame) (head .loop .register) at (read .eight-at .result) (beside .eight-at2 .result)
-          (c .eight-more .result) (8 * k + 8 - 8 * k) (8 * (k + 1)) (copied .copy-bytes .last .1 .0) (omega arith) (omega arith) (omega (arith, head .before .eights .ensures .0, start .pre .0)) (omega (arith, head .before .eights .ensures .1)) (read .eight-at .ensures) (beside .eight-at2 .ensures)
+          (c .eight-more .result) (8 * k + 8 - 8 * k) (8 * (k + 1)) (copied .copy-bytes .last .1 .0) (omega arith) (omega arith) (omega (arith, head .before .eights .ensures, start .pre .0)) (omega (arith, head .before .eights .ensures)) (read .eight-at .ensures) (beside .eight-at2 .ensures)
           (copied .copy-bytes .ensures ∙ made .eight-bytes .ensures) (c .eight-more .ensures),
     )
 
@@ -147,7 +147,7 @@ returns c =
     let first = head .before .before in
     let args = first .before .before .before .before .before .args in
     let end : head .loop2 .k ≡ 2048 = omega arith in
-    let whole = writing-since (args .user .now) (args .stream .now) (args .frame .now) (first .loop .frame) (head .loop2 .frame) (8 * first .loop .k) (head .loop2 .k) (first .loop .register) (head .loop2 .register) (omega (arith, first .before .eights .ensures .0))
+    let whole = writing-since (args .user .now) (args .stream .now) (args .frame .now) (first .loop .frame) (head .loop2 .frame) (8 * first .loop .k) (head .loop2 .k) (first .loop .register) (head .loop2 .register) (omega (arith, first .before .eights .ensures))
     (first .loop .inv .1) (head .loop2 .inv .1) in
     subst (λ (n : ℕ). PassWriting (args .user .now) (args .stream .now) (args .frame .now) n (head .loop2 .frame) (head .loop2 .register)) end whole
 
