@@ -1,5 +1,5 @@
--- A word and its four bytes give each other, the word is the number that their bits make, and combined words have combined bytes; so have numbers of
--- 64 bits, of which the eight bytes are those of two words. Assumes nothing.
+-- A word and its four bytes give each other, the word is the number that their bits make, and combined words have combined bytes; so have
+-- double words, of which the eight bytes are those of two words. Assumes nothing.
 use mathlib.Core.Path.{_≡_, refl, sym, ap, ap₂, _∙_}
 use mathlib.Core.List.{List, [], _∷_, _++_}
 use Prim.Native.Nat.{ℕ, zero, suc, _+_, _*_, _/_, _%_, _^_, _<_, _≤_}
@@ -62,13 +62,14 @@ pub number-of-four : (v : ℕ) → v < 2 ^ 32 → number (bitsOf (fourBytes v)) 
 number-of-four v h =
     number-four (v / 2 ^ 24 % 256) (v / 2 ^ 16 % 256) (v / 2 ^ 8 % 256) (v % 256) (byte (v / 2 ^ 24)) (byte (v / 2 ^ 16)) (byte (v / 2 ^ 8)) (byte v) ∙ word-back v h
 
+byte-combined : (v w k : ℕ) → bitXor v w / 2 ^ k % 256 ≡ bitXor (v / 2 ^ k % 256) (w / 2 ^ k % 256)
+byte-combined v w k = ap (λ (x : ℕ). x % 256) (xor-shr v w k) ∙ xor-mod (v / 2 ^ k) (w / 2 ^ k) 8
+
 -- the bytes of two words combined
 pub four-combined : (v w : ℕ) → fourBytes (bitXor v w) ≡ combined (fourBytes v) (fourBytes w)
 unfolding combined
 four-combined v w =
-    let byte-at : (k : ℕ) → bitXor v w / 2 ^ k % 256 ≡ bitXor (v / 2 ^ k % 256) (w / 2 ^ k % 256) =
-    λ k. ap (λ (x : ℕ). x % 256) (xor-shr v w k) ∙ xor-mod (v / 2 ^ k) (w / 2 ^ k) 8 in
-    cc (byte-at 24, byte-at 16, byte-at 8, xor-mod v w 8)
+    cc (byte-combined v w 24, byte-combined v w 16, byte-combined v w 8, xor-mod v w 8)
 
 -- ---- four bytes of a list
 
@@ -117,9 +118,16 @@ number-of-eight v h =
 pub eight-combined : (v w : ℕ) → eightBytes (bitXor v w) ≡ combined (eightBytes v) (eightBytes w)
 unfolding combined
 eight-combined v w =
-    let byte-at : (k : ℕ) → bitXor v w / 2 ^ k % 256 ≡ bitXor (v / 2 ^ k % 256) (w / 2 ^ k % 256) =
-    λ k. ap (λ (x : ℕ). x % 256) (xor-shr v w k) ∙ xor-mod (v / 2 ^ k) (w / 2 ^ k) 8 in
-    cc (byte-at 56, byte-at 48, byte-at 40, byte-at 32, byte-at 24, byte-at 16, byte-at 8, xor-mod v w 8)
+    cc (
+      byte-combined v w 56,
+      byte-combined v w 48,
+      byte-combined v w 40,
+      byte-combined v w 32,
+      byte-combined v w 24,
+      byte-combined v w 16,
+      byte-combined v w 8,
+      xor-mod v w 8,
+    )
 
 -- the eight bytes of two words of a list, one behind the other
 pub eight-there : (l : List ℕ) (at hi lo : ℕ) → Bytes l → at + 8 ≤ length l → hi ≡ wordAt l at → lo ≡ wordAt l (at + 4) → lo < 2 ^ 32

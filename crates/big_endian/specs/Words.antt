@@ -1,4 +1,4 @@
--- A word is a number of 32 bits; its four bytes, and the eight of a number of 64 bits, the highest first.
+-- A word is a number of 32 bits, a double word one of 64; their four and eight bytes, the highest first.
 use mathlib.Core.List.{List, [], _∷_}
 use Prim.Native.Nat.{ℕ, _+_, _*_, _/_, _%_, _^_}
 use lib.ListN.{getD}
@@ -15,6 +15,6 @@ wordAt bytes at = wordOf (getD bytes at 0) (getD bytes (at + 1) 0) (getD bytes (
 abbrev pub fourBytes : ℕ → List ℕ
 fourBytes v = v / 2 ^ 24 % 256 ∷ v / 2 ^ 16 % 256 ∷ v / 2 ^ 8 % 256 ∷ v % 256 ∷ []
 
--- the eight bytes of a number of 64 bits
+-- the eight bytes of a double word
 abbrev pub eightBytes : ℕ → List ℕ
 eightBytes v = v / 2 ^ 56 % 256 ∷ v / 2 ^ 48 % 256 ∷ v / 2 ^ 40 % 256 ∷ v / 2 ^ 32 % 256 ∷ v / 2 ^ 24 % 256 ∷ v / 2 ^ 16 % 256 ∷ v / 2 ^ 8 % 256 ∷ v % 256 ∷ []

@@ -1,4 +1,4 @@
-// Words, numbers of 32 bits, and their four bytes; numbers of 64 bits and their eight; the highest first.
+// Words, numbers of 32 bits, and their four bytes; double words, of 64 bits, and their eight; the highest first.
 pub mod steps;
 
 ghost use mathlib.Core.Path.{_≡_};
@@ -23,18 +23,18 @@ pub fn word_bytes(word: u32) -> [u8; 4]
     ]
 }
 
-// The eight bytes of a number of 64 bits.
-pub fn eight_bytes(number: u64) -> [u8; 8]
-    ensures { λ r. ⌜ r ≡ eightBytes number ⌝ }
+// The eight bytes of a double word.
+pub fn double_word_bytes(double: u64) -> [u8; 8]
+    ensures { λ r. ⌜ r ≡ eightBytes double ⌝ }
 {
     [
-        (number / 0x0100_0000_0000_0000 % 256) as u8,
-        (number / 0x0001_0000_0000_0000 % 256) as u8,
-        (number / 0x0000_0100_0000_0000 % 256) as u8,
-        (number / 0x0000_0001_0000_0000 % 256) as u8,
-        (number / 0x0000_0000_0100_0000 % 256) as u8,
-        (number / 0x0000_0000_0001_0000 % 256) as u8,
-        (number / 0x0000_0000_0000_0100 % 256) as u8,
-        (number % 256) as u8,
+        (double / 0x0100_0000_0000_0000 % 256) as u8,
+        (double / 0x0001_0000_0000_0000 % 256) as u8,
+        (double / 0x0000_0100_0000_0000 % 256) as u8,
+        (double / 0x0000_0001_0000_0000 % 256) as u8,
+        (double / 0x0000_0000_0100_0000 % 256) as u8,
+        (double / 0x0000_0000_0001_0000 % 256) as u8,
+        (double / 0x0000_0000_0000_0100 % 256) as u8,
+        (double % 256) as u8,
     ]
 }

@@ -17,11 +17,11 @@ pub none-passed : 0 ≡ edcOf []
 unfolding bitsOf number tabulate
 none-passed = leaves-one (leaves-self 0 (omega arith)) (edc-leaves [])
 
-pub eight-passed : (l : List ℕ) (n eight next : ℕ) → eightBytes eight ≡ take 8 (drop n l) → next ≡ edcOf (take n l ++ eightBytes eight) → next ≡ edcOf (take (n + 8) l)
-eight-passed l n eight next e f = f ∙ ap edcOf (ap (λ (m : List ℕ). take n l ++ m) e ∙ sym (take-add n 8 l))
+pub eight-of-list : (l : List ℕ) (n eight next : ℕ) → eightBytes eight ≡ take 8 (drop n l) → next ≡ edcOf (take n l ++ eightBytes eight) → next ≡ edcOf (take (n + 8) l)
+eight-of-list l n eight next e f = f ∙ ap edcOf (ap (λ (m : List ℕ). take n l ++ m) e ∙ sym (take-add n 8 l))
 
-pub byte-passed : (l : List ℕ) (n x next : ℕ) → n < length l → x ≡ getD l n 0 → next ≡ edcOf (take n l ++ (x ∷ [])) → next ≡ edcOf (take (n + 1) l)
-byte-passed l n x next h e f = rw (add-one n, take-suc l n 0 h, ← e) f
+pub byte-of-list : (l : List ℕ) (n x next : ℕ) → n < length l → x ≡ getD l n 0 → next ≡ edcOf (take n l ++ (x ∷ [])) → next ≡ edcOf (take (n + 1) l)
+byte-of-list l n x next h e f = rw (add-one n, take-suc l n 0 h, ← e) f
 
-pub all-passed : (l : List ℕ) (n register : ℕ) → length l ≤ n → register ≡ edcOf (take n l) → register ≡ edcOf l
-all-passed l n register h e = e ∙ ap edcOf (take-all n l h)
+pub bytes-passed : (l : List ℕ) (n register : ℕ) → length l ≤ n → register ≡ edcOf (take n l) → register ≡ edcOf l
+bytes-passed l n register h e = e ∙ ap edcOf (take-all n l h)

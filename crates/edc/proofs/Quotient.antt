@@ -184,7 +184,7 @@ pub high-small : (q : ℕ) → q < 2 ^ 28 → highOf q ≡ folded 1 q
 unfolding highOf
 high-small q h = ap (bitXor (folded 1 q)) (div-eq-of-lt (folded-lt 4 28 q h)) ∙ xor-zero-r (folded 1 q)
 
--- what x^4 + 1 of G(x) brings back from x^32 on, and what that brings back again
+-- what corrects the quotient: the sums of what x^4 + 1 of G(x) brings back to x^32 and above, and of what that brings back
 unfoldable pub carried : ℕ → ℕ
 carried v = bitXor (v / 2 ^ 28) (v / 2 ^ 30)
 
@@ -205,11 +205,11 @@ twice-folded v =
     ap₂ bitXor four one
 
 -- the quotient whose product has v from x^32 on: s are the sums of v
-unfoldable pub quotientOf : ℕ → ℕ → ℕ
-quotientOf v s = bitXor (bitXor s (carried v)) (carriedTwice v)
+unfoldable pub quotientByG : ℕ → ℕ → ℕ
+quotientByG v s = bitXor (bitXor s (carried v)) (carriedTwice v)
 
-pub quotient-high : (v s : ℕ) → v < 2 ^ 64 → folded 1 s ≡ v → highOf (quotientOf v s) ≡ v
-unfolding highOf quotientOf
+pub quotient-high : (v s : ℕ) → v < 2 ^ 64 → folded 1 s ≡ v → highOf (quotientByG v s) ≡ v
+unfolding highOf quotientByG
 quotient-high v s h e =
     let u : ℕ = v / 2 ^ 56 in
     let b : ℕ = folded 2 (v / 2 ^ 28) in

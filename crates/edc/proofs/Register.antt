@@ -15,7 +15,7 @@ use Rattle.big_endian.proofs.Words.{number-of-eight}
 use Rattle.edc.specs.Edc.{edcOf}
 use Rattle.edc.proofs.Division.{Leaves, leaves-self, leaves-add, leaves-one, leaves-multiple, multiple-leaves, multiple-scaled}
 use Rattle.edc.proofs.Detection.{edc-leaves, edc-lt}
-use Rattle.edc.proofs.Quotient.{folded, folded-xor, folded-low, unsummed, sumsRaised, raised-sums, lowOf, highOf, low-leaves, high-small, carried, carriedTwice, quotientOf, quotient-high}
+use Rattle.edc.proofs.Quotient.{folded, folded-xor, folded-low, unsummed, sumsRaised, raised-sums, lowOf, highOf, low-leaves, high-small, carried, carriedTwice, quotientByG, quotient-high}
 
 -- the bytes l and their code, k bits higher, are a multiple of G(x)
 over : (l : List ℕ) (k : ℕ) → Leaves (bitXor (number (bitsOf l) * 2 ^ 32) (edcOf l) * 2 ^ k) 0
@@ -76,7 +76,7 @@ eight-taken l r w wide s a o b d er hw ew es ea eo eb ed =
     sums = folded-xor 1 s t ∙ ap₂ bitXor es (raised-sums x ∙ ap (λ (y : ℕ). y * 2 ^ 32) of-register) ∙ xor-comm w (r * 2 ^ 32)
 
     q : ℕ
-    q = quotientOf v (bitXor s t)
+    q = quotientByG v (bitXor s t)
 
     below : t % 2 ^ 32 ≡ o
     below = unfold sumsRaised in digits-mod x {r = x % 2 * (2 ^ 32 - 1)} (omega arith) ∙ sym (eo x of-register)
@@ -86,7 +86,7 @@ eight-taken l r w wide s a o b d er hw ew es ea eo eb ed =
 
     low : q % 2 ^ 32 ≡ bitXor (bitXor (bitXor a o) b) d
     low =
-        unfold quotientOf in
+        unfold quotientByG in
         xor-mod (bitXor (bitXor s t) (carried v)) (carriedTwice v) 32
         ∙ ap₂ bitXor
         (xor-mod (bitXor s t) (carried v) 32 ∙ ap₂ bitXor (xor-mod s t 32 ∙ ap₂ bitXor (sym ea) below) (sym (eb ∙ ap (λ (y : ℕ). carried y % 2 ^ 32) same)))

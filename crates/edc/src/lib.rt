@@ -1,7 +1,7 @@
 // 13.3: the error-detection code.
 pub mod steps;
 
-use big_endian::steps::eight_at;
+use big_endian::steps::double_word_at;
 ghost use mathlib.Core.Path.{_≡_};
 ghost use Rattle.edc.specs.Edc.{edcOf};
 
@@ -12,7 +12,7 @@ pub fn edc(bytes: &[u8]) -> u32
     let mut register: u32 = 0;
     let eights = bytes.len() / 8;
     for k in 0..eights {
-        register = steps::eight_more(register, eight_at(bytes, 8 * k));
+        register = steps::eight_more(register, double_word_at(bytes, 8 * k));
     }
     for k in 8 * eights..bytes.len() {
         register = steps::byte_more(register, bytes[k]);

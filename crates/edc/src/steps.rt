@@ -1,16 +1,11 @@
 // The register, eight bytes or one at a time, for the crates of this repository.
+use big_endian::steps::wide;
 ghost use mathlib.Core.Path.{_≡_};
 ghost use mathlib.Core.List.{List, [], _∷_, _++_};
-ghost use Prim.Native.Nat.{ℕ, _*_, _-_, _/_, _%_, _^_, _<_};
+ghost use Prim.Native.Nat.{ℕ, _*_, _-_, _/_, _%_, _^_};
 ghost use lib.Bits.{bitXor};
 ghost use Rattle.big_endian.specs.Words.{eightBytes};
 ghost use Rattle.edc.specs.Edc.{edcOf};
-
-fn wide(word: u32) -> u64
-    ensures { λ r. ⌜ (r ≡ word) × (r < 2 ^ 32) ⌝ }
-{
-    word as u64
-}
 
 // Bits 31 to 0.
 fn low(v: u64) -> u32
@@ -38,15 +33,22 @@ fn sum_below(w: u32) -> u32
     u32::count_ones(w) % 2 * 0xffff_ffff
 }
 
-// The register after eight bytes more. v(x) is both; q(x) G(x) has v(x) from x^32 on, and below it the remainder.
+// What q(x) G(x) has below x^32.
+fn below(q: u32) -> u32
+    ensures { λ r. ⌜ r ≡ bitXor (bitXor (q * 2 ^ 31 % 2 ^ 32) (q * 2 ^ 4 % 2 ^ 32)) q ⌝ }
+{
+    (q << 31) ^ (q << 4) ^ q
+}
+
+// The register after eight bytes more. v(x) is the register, 32 bits up, with the eight bytes; q(x) G(x) has v(x) from x^32 on.
 pub fn eight_more(register: u32, eight: u64) -> u32
     ensures { λ r. ⌜ ((bytes : List ℕ) → register ≡ edcOf bytes → r ≡ edcOf (bytes ++ eightBytes eight)) ⌝ }
 {
     let v = wide(register) * 0x1_0000_0000 ^ eight;
     let s = low(sums(eight)) ^ sum_below(register);
-    // G(x) is x^31 (x + 1) + (x^4 + 1). Sums divide by x + 1; for x^4 + 1 bits of v come in 28 lower, and for these once more.
+    // G(x) is x^31 (x + 1) + (x^4 + 1). Sums divide by x + 1; for x^4 + 1 bits of v come in 28 and 30 lower, and for these once more.
     let q = s ^ low((v >> 28) ^ (v >> 30)) ^ low(((v >> 56) ^ (v >> 60)) ^ ((v >> 57) ^ (v >> 61)));
-    (q << 31) ^ (q << 4) ^ q
+    below(q)
 }
 
 // The register after one byte more.
@@ -54,6 +56,5 @@ pub fn byte_more(register: u32, byte: u8) -> u32
     ensures { λ r. ⌜ ((bytes : List ℕ) → register ≡ edcOf bytes → r ≡ edcOf (bytes ++ (byte ∷ []))) ⌝ }
 {
     let q = low(sums(wide(register >> 24) ^ byte as u64));
-    let code = (q << 31) ^ (q << 4) ^ q;
-    code ^ (register << 8)
+    below(q) ^ (register << 8)
 }

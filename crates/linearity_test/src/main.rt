@@ -60,10 +60,11 @@ fn plain_frame(sector: &[u8]) -> [u8; 2052] {
     frame
 }
 
-fn scrambled(frame: [u8; 2052], psn: u32) -> [u8; 2052] {
-    let mut bytes = frame;
-    compare::combine(&mut bytes, &scrambling::scrambling(Psn(psn)));
-    bytes
+// The data frame of a sector, scrambled.
+fn scrambled(sector: &[u8], psn: u32) -> [u8; 2052] {
+    let mut frame = [0u8; 2052];
+    sector::data_frame(sector, &scrambling::scrambling(Psn(psn)), &mut frame);
+    frame
 }
 
 fn sum(a: [u8; 2052], b: [u8; 2052]) -> [u8; 2052] {
@@ -81,8 +82,14 @@ fn sum_line(text: &[u8], expected: [u8; 2052], a: [u8; 2052], b: [u8; 2052]) {
     lines::number_line(text, compare::differing(&expected, &sum(a, b)));
 }
 
-// Two frames, scrambled and plain.
-fn frame_lines(a: [u8; 2052], b: [u8; 2052], plain_a: [u8; 2052], plain_b: [u8; 2052]) {
+// Two frames, scrambled and plain; the second, of these user bytes, in the next cluster.
+fn frame_lines(
+    a: [u8; 2052],
+    b: [u8; 2052],
+    plain_a: [u8; 2052],
+    plain_b: [u8; 2052],
+    sector: &[u8],
+) {
     let plain = sum(plain_a, plain_b);
     first_bytes(b"scrambled frame 0: ", a);
     first_bytes(b"scrambled frame 31: ", b);
@@ -90,7 +97,7 @@ fn frame_lines(a: [u8; 2052], b: [u8; 2052], plain_a: [u8; 2052], plain_b: [u8; 
     first_bytes(b"plain frames combined: ", plain);
     sum_line(b"bytes that differ: ", plain, a, b);
     sum_line(b"with frame 31 plain: ", plain, a, plain_b);
-    let other = scrambled(plain_b, NEXT);
+    let other = scrambled(sector, NEXT);
     sum_line(
         b"with frame 31 of the next cluster's PSN: ",
         plain,
@@ -99,17 +106,17 @@ fn frame_lines(a: [u8; 2052], b: [u8; 2052], plain_a: [u8; 2052], plain_b: [u8; 
     );
 }
 
-// In how many bytes a frame differs from the plain one, scrambled here.
-fn scrambled_line(text: &[u8], frame: [u8; 2052], plain: [u8; 2052]) {
-    lines::number_line(text, compare::differing(&frame, &scrambled(plain, PSN)));
+// In how many bytes a frame differs from that of a sector, scrambled here.
+fn scrambled_line(text: &[u8], frame: [u8; 2052], sector: &[u8]) {
+    lines::number_line(text, compare::differing(&frame, &scrambled(sector, PSN)));
 }
 
 fn frames(first: [u8; 2052], last: [u8; 2052], a: [u8; 2048], b: [u8; 2048]) {
     let plain_a = plain_frame(&a);
     let plain_b = plain_frame(&b);
-    frame_lines(first, last, plain_a, plain_b);
-    scrambled_line(b"frame 0, scrambled here, differs in: ", first, plain_a);
-    scrambled_line(b"frame 31, scrambled here, differs in: ", last, plain_b);
+    frame_lines(first, last, plain_a, plain_b, &b);
+    scrambled_line(b"frame 0, scrambled here, differs in: ", first, &a);
+    scrambled_line(b"frame 31, scrambled here, differs in: ", last, &b);
 }
 
 fn read_sector() -> [u8; 2048] {

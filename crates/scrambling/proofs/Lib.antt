@@ -1,3 +1,3 @@
 -- Scrambling.
-pub mod Shifts
+pub mod EightShifts
 pub mod Stream

@@ -122,26 +122,26 @@ writing-since user stream before middle frame n m r s h p q =
 -- ---- reading
 
 module _ (frame stream : List ℕ) where
-  pub reading-none : PassReading frame stream 0 0
+  pub undoing-none : PassReading frame stream 0 0
   unfolding scrambled tabulate
-  reading-none = record { taken = omega arith; remainder = none-passed }
+  undoing-none = record { taken = omega arith; remainder = none-passed }
 
   module _ (n register : ℕ) (p : PassReading frame stream n register) where
-    reading-part : (m next : ℕ) (part bytes : List ℕ) → n + m ≤ length frame → part ≡ take m (drop n frame) → bytes ≡ scrambled (drop n stream) part
+    undoing-part : (m next : ℕ) (part bytes : List ℕ) → n + m ≤ length frame → part ≡ take m (drop n frame) → bytes ≡ scrambled (drop n stream) part
         → next ≡ edcOf (scrambled stream (take n frame) ++ bytes) → PassReading frame stream (n + m) next
-    reading-part m next part bytes h ep eb en =
+    undoing-part m next part bytes h ep eb en =
         record {
           taken = h;
           remainder = en ∙ ap edcOf (ap (λ (l : List ℕ). scrambled stream (take n frame) ++ l) (eb ∙ ap (scrambled (drop n stream)) ep) ∙ sym (scrambled-on stream frame n m (p .taken)));
         }
 
-    pub reading-eight : (eight s next past : ℕ) → past ≡ n + 8 → past ≤ length frame → past ≤ length stream → eightBytes eight ≡ take 8 (drop n frame) → eightBytes s ≡ take 8 (drop n stream)
+    pub undoing-eight : (eight s next past : ℕ) → past ≡ n + 8 → past ≤ length frame → past ≤ length stream → eightBytes eight ≡ take 8 (drop n frame) → eightBytes s ≡ take 8 (drop n stream)
         → ((l : List ℕ) → register ≡ edcOf l → next ≡ edcOf (l ++ eightBytes (bitXor eight s))) → PassReading frame stream past next
-    reading-eight eight s next past eq hf hs ef es en =
-        rw eq (reading-part 8 next (eightBytes eight) (eightBytes (bitXor eight s)) (omega arith) ef (eight-scrambled stream n eight s (omega arith) es) (en (scrambled stream (take n frame)) (p .remainder)))
+    undoing-eight eight s next past eq hf hs ef es en =
+        rw eq (undoing-part 8 next (eightBytes eight) (eightBytes (bitXor eight s)) (omega arith) ef (eight-scrambled stream n eight s (omega arith) es) (en (scrambled stream (take n frame)) (p .remainder)))
 
-    pub reading-byte : (s next : ℕ) → n < length frame → s ≡ getD stream n 0
+    pub undoing-byte : (s next : ℕ) → n < length frame → s ≡ getD stream n 0
         → ((l : List ℕ) → register ≡ edcOf l → next ≡ edcOf (l ++ (bitXor (getD frame n 0) s ∷ []))) → PassReading frame stream (n + 1) next
-    reading-byte s next h es en =
+    undoing-byte s next h es en =
         let x : ℕ = getD frame n 0 in
-        reading-part 1 next (x ∷ []) (bitXor x s ∷ []) (omega arith) (one-there frame n h) (byte-scrambled stream n x s es) (en (scrambled stream (take n frame)) (p .remainder))
+        undoing-part 1 next (x ∷ []) (bitXor x s ∷ []) (omega arith) (one-there frame n h) (byte-scrambled stream n x s es) (en (scrambled stream (take n frame)) (p .remainder))

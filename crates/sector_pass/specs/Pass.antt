@@ -6,7 +6,7 @@ use lib.ListN.{length, take, drop}
 use Rattle.edc.specs.Edc.{edcOf}
 use Rattle.scrambling.specs.Scrambling.{scrambled}
 
--- Writing, n user bytes taken: their n scrambled bytes are written, the rest of the frame is as it was before, and the register holds the
+-- Writing, n user bytes taken: their n scrambled bytes are written, the rest of the frame is as it was before, and the EDC's register holds the
 -- remainder of those n.
 pub record PassWriting (user stream before : List ℕ) (n : ℕ) (frame : List ℕ) (register : ℕ) : Type 0 where
   pub taken : n ≤ length user
@@ -14,7 +14,7 @@ pub record PassWriting (user stream before : List ℕ) (n : ℕ) (frame : List �
   pub rest : drop n frame ≡ drop n before
   pub remainder : register ≡ edcOf (take n user)
 
--- Reading, n bytes of a scrambled data frame taken: the register holds the remainder of those n, unscrambled.
+-- Reading, n bytes of a scrambled data frame taken: the EDC's register holds the remainder of those n, unscrambled.
 pub record PassReading (frame stream : List ℕ) (n register : ℕ) : Type 0 where
   pub taken : n ≤ length frame
   pub remainder : register ≡ edcOf (scrambled stream (take n frame))

@@ -1,6 +1,6 @@
 // Eight bytes at a step as far as the stream reaches, then one.
-use big_endian::eight_bytes;
-use big_endian::steps::eight_at;
+use big_endian::double_word_bytes;
+use big_endian::steps::double_word_at;
 use big_endian::word;
 use edc::steps::byte_more;
 use edc::steps::eight_more;
@@ -11,7 +11,7 @@ ghost use lib.ListN.{length, getD};
 ghost use Rattle.big_endian.specs.Words.{wordAt};
 ghost use Rattle.sector_pass.specs.Pass.{PassWriting, PassReading};
 
-// How many times eight bytes of a sector have bytes of the stream beside them.
+// How many whole eights of a sector have bytes of the stream beside them.
 fn eights(stream: &[u8]) -> usize
     ensures { λ r. ⌜ r ≡ min 2048 (length (now (stream .entry))) / 8 ⌝ }
 {
@@ -53,9 +53,9 @@ pub fn write(user: &[u8], stream: &[u8], frame: &mut [u8]) -> u32
     for k in 0..whole {
         let at = 8 * k;
         let past = at + 8;
-        let eight = eight_at(user, at);
-        let scrambled = eight ^ eight_at(stream, at);
-        copy_bytes(&eight_bytes(scrambled), &mut frame[at..past]);
+        let eight = double_word_at(user, at);
+        let scrambled = eight ^ double_word_at(stream, at);
+        copy_bytes(&double_word_bytes(scrambled), &mut frame[at..past]);
         register = eight_more(register, eight);
     }
     for k in 8 * whole..2048 {
@@ -66,7 +66,7 @@ pub fn write(user: &[u8], stream: &[u8], frame: &mut [u8]) -> u32
     register
 }
 
-// The register behind the first 2,048 bytes of a data frame, unscrambled.
+// The register after the first 2,048 bytes of a scrambled data frame, unscrambled.
 pub fn read(frame: &[u8], stream: &[u8]) -> u32
     requires { ⌜ length (now frame) ≡ 2052 ⌝ }
     ensures { λ r. ⌜ PassReading (now (frame .entry)) (now (stream .entry)) 2048 r ⌝ }
@@ -75,7 +75,7 @@ pub fn read(frame: &[u8], stream: &[u8]) -> u32
     let whole = eights(stream);
     for k in 0..whole {
         let at = 8 * k;
-        let plain = eight_at(frame, at) ^ eight_at(stream, at);
+        let plain = double_word_at(frame, at) ^ double_word_at(stream, at);
         register = eight_more(register, plain);
     }
     for k in 8 * whole..2048 {

@@ -134,12 +134,23 @@ fn frame_lines(text: &[u8], user: &[u8], stream: &[u8], hashed: &[u8]) {
     lines::hex_line(hashed, hash::of(&frame), 16);
 }
 
-// The scrambled data frame of a sector of zeros is the stream; behind the end of a shorter one, zeros.
+// The scrambled data frame of a sector of zeros is the stream.
 fn zeros_scrambled(stream: [u8; 2052]) {
     let user = no_user();
     frame_lines(b"data frame of zeros ", &user, &stream, b"scrambled ");
+}
+
+// That of bytes drawn, with the first 1,001 bytes of the stream.
+fn short_stream(stream: [u8; 2052]) {
+    let mut user = no_user();
+    draws::draw(1, &mut user);
     let part = compare::part(&stream, 0, 1001);
-    frame_lines(b"with 1,001 scrambling bytes ", &user, part, b"scrambled ");
+    frame_lines(
+        b"data frame with 1,001 scrambling bytes ",
+        &user,
+        part,
+        b"scrambled ",
+    );
 }
 
 // The bytes 1, 2, .. of other lengths, and what is refused.
@@ -157,6 +168,7 @@ fn main() {
     last_byte(1);
     last_byte(2);
     zeros_scrambled(scrambling::scrambling(Psn(0x0010_0000)));
+    short_stream(scrambling::scrambling(Psn(0x0010_0000)));
     other_lengths(&[1u8, 2, 3, 4, 5, 6, 7, 8, 9, 10, 11, 12, 13]);
     cluster(0x0010_0000, false, 0);
     cluster(0x04C5_DBC0, true, 0);

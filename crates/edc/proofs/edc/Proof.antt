@@ -5,7 +5,7 @@ use lib.ListN.{length, take}
 use native.Mathlib.Omega.{arith}
 use borrow.Author.Needs.{needs}
 use Rattle.edc.specs.Edc.{edcOf}
-use Rattle.edc.proofs.Loops.{none-passed, eight-passed, byte-passed, all-passed}
+use Rattle.edc.proofs.Loops.{none-passed, eight-of-list, byte-of-list, bytes-passed}
 use Rattle.edc.proofs.edc.Statement.{statement}
 use Rattle.edc.proofs.edc.Tie as tie
 
@@ -24,11 +24,11 @@ abbrev μ-loop2 : tie.MeasureT-loop2
 loop-holds : tie.Need-loop-holds Inv-loop μ-loop Inv-loop2 μ-loop2
 loop-holds c = (omega arith, none-passed)
 
-mul-eight-at : tie.Need-mul-eight-at Inv-loop μ-loop Inv-loop2 μ-loop2
-mul-eight-at c = search needs
+mul-double-word-at : tie.Need-mul-double-word-at Inv-loop μ-loop Inv-loop2 μ-loop2
+mul-double-word-at c = search needs
 
-eight-at-requires : tie.Need-eight-at-requires Inv-loop μ-loop Inv-loop2 μ-loop2
-eight-at-requires c κs = search needs
+double-word-at-requires : tie.Need-double-word-at-requires Inv-loop μ-loop Inv-loop2 μ-loop2
+double-word-at-requires c κs = search needs
 
 eight-more-requires : tie.Need-eight-more-requires Inv-loop μ-loop Inv-loop2 μ-loop2
 eight-more-requires c κs = search needs
@@ -46,7 +46,7 @@ loop-again c =
     let bytes = head .before .before .args .bytes .now in
     let k = head .loop .k in
     let next : 8 * k + 8 ≡ 8 * (k + 1) = omega arith in
-    let passed = eight-passed bytes (8 * k) (read .eight-at .result) (c .eight-more .result) (read .eight-at .ensures) (c .eight-more .ensures (take (8 * k) bytes) (head .loop .inv .1)) in
+    let passed = eight-of-list bytes (8 * k) (read .double-word-at .result) (c .eight-more .result) (read .double-word-at .ensures) (c .eight-more .ensures (take (8 * k) bytes) (head .loop .inv .1)) in
     (omega arith, passed ∙ ap (λ (n : ℕ). edcOf (take n bytes)) next)
 
 mul-k : tie.Need-mul-k Inv-loop μ-loop Inv-loop2 μ-loop2
@@ -77,12 +77,12 @@ loop2-again c =
     let head = c .before .before .before in
     let bytes = head .before .before .before .before .args .bytes .now in
     let k = head .loop2 .k in
-    (omega arith, byte-passed bytes k _ (c .byte-more .result) (omega arith) refl (c .byte-more .ensures (take k bytes) (head .loop2 .inv .1)))
+    (omega arith, byte-of-list bytes k _ (c .byte-more .result) (omega arith) refl (c .byte-more .ensures (take k bytes) (head .loop2 .inv .1)))
 
 returns : tie.Need-returns Inv-loop μ-loop Inv-loop2 μ-loop2
 returns c =
     let head = c .before in
-    all-passed (head .before .before .before .before .args .bytes .now) (head .loop2 .k) (head .loop2 .register) (omega arith) (head .loop2 .inv .1)
+    bytes-passed (head .before .before .before .before .args .bytes .now) (head .loop2 .k) (head .loop2 .register) (omega arith) (head .loop2 .inv .1)
 
 pub edc-spec : {M : Type 1} → statement M
 edc-spec =
@@ -93,8 +93,8 @@ edc-spec =
     Inv-loop2
     μ-loop2
     loop-holds
-    mul-eight-at
-    eight-at-requires
+    mul-double-word-at
+    double-word-at-requires
     eight-more-requires
     add-k
     loop-less

@@ -1,4 +1,5 @@
 -- `eight_more` meets its contract: quotient and remainder (Register).
+use mathlib.Core.Path.{_∙_}
 use Rattle.edc.proofs.Quotient.{folded, lowOf, carried, carriedTwice}
 use Rattle.edc.proofs.Register.{eight-taken}
 use borrow.Author.Needs.{needs}
@@ -26,17 +27,22 @@ low-requires-2 c κs = search needs
 low-requires-3 : tie.Need-low-requires-3
 low-requires-3 c κs = search needs
 
+below-requires : tie.Need-below-requires
+below-requires c κs = search needs
+
 returns : tie.Need-returns
 unfolding folded lowOf carried carriedTwice
 returns c bytes held =
-    let back = c .before in
-    let below = back .before in
-    let front = below .before in
+    let twice = c .before in
+    let once = twice .before in
+    let under = once .before in
+    let front = under .before in
     let summed = front .before in
     let start = summed .before .before in
-    eight-taken bytes (start .args .register) (start .args .eight) (summed .before .wide .result) (summed .sums .result) (front .low .result) (below .sum-below .result)
-    (back .low2 .result) (c .low3 .result) held (start .fits .eight .fits) (summed .before .wide .ensures .0) (summed .sums .ensures) (front .low .ensures) (below .sum-below .ensures)
-    (back .low2 .ensures) (c .low3 .ensures)
+    c .below .ensures
+    ∙ eight-taken bytes (start .args .register) (start .args .eight) (summed .before .wide .result) (summed .sums .result) (front .low .result) (under .sum-below .result)
+    (once .low2 .result) (twice .low3 .result) held (start .fits .eight .fits) (summed .before .wide .ensures .0) (summed .sums .ensures) (front .low .ensures) (under .sum-below .ensures)
+    (once .low2 .ensures) (twice .low3 .ensures)
 
 pub eight-more-spec : {M : Type 1} → statement M
 eight-more-spec =
@@ -49,4 +55,5 @@ eight-more-spec =
     sum-below-requires
     low-requires-2
     low-requires-3
+    below-requires
     returns)

@@ -4,7 +4,7 @@ use Prim.Native.Nat.{ℕ, _≤_, _+_, _*_, _-_}
 use native.Mathlib.Omega.{arith}
 use borrow.Author.Needs.{needs}
 use Rattle.sector_pass.specs.Pass.{PassReading}
-use Rattle.sector_pass.proofs.Pass.{reading-none, reading-eight, reading-byte}
+use Rattle.sector_pass.proofs.Pass.{undoing-none, undoing-eight, undoing-byte}
 use Rattle.sector_pass.proofs.steps.read.Statement.{statement}
 use Rattle.sector_pass.proofs.steps.read.Tie as tie
 
@@ -24,16 +24,16 @@ eights-requires : tie.Need-eights-requires Inv-loop μ-loop Inv-loop2 μ-loop2
 eights-requires c κs = search needs
 
 loop-holds : tie.Need-loop-holds Inv-loop μ-loop Inv-loop2 μ-loop2
-loop-holds c = (omega arith, reading-none _ _)
+loop-holds c = (omega arith, undoing-none _ _)
 
 mul-at : tie.Need-mul-at Inv-loop μ-loop Inv-loop2 μ-loop2
 mul-at c = search needs
 
-eight-at-requires : tie.Need-eight-at-requires Inv-loop μ-loop Inv-loop2 μ-loop2
-eight-at-requires c κs = search needs
+double-word-at-requires : tie.Need-double-word-at-requires Inv-loop μ-loop Inv-loop2 μ-loop2
+double-word-at-requires c κs = search needs
 
-eight-at-requires-2 : tie.Need-eight-at-requires-2 Inv-loop μ-loop Inv-loop2 μ-loop2
-eight-at-requires-2 c κs = search needs
+double-word-at-requires-2 : tie.Need-double-word-at-requires-2 Inv-loop μ-loop Inv-loop2 μ-loop2
+double-word-at-requires-2 c κs = search needs
 
 eight-more-requires : tie.Need-eight-more-requires Inv-loop μ-loop Inv-loop2 μ-loop2
 eight-more-requires c κs = search needs
@@ -52,8 +52,8 @@ loop-again c =
     let args = head .before .before .before .before .args in
     let k = head .loop .k in (
       omega arith,
-      reading-eight (args .frame .now) (args .stream .now) (8 * k) (head .loop .register) (head .loop .inv .1) (read .eight-at .result) (beside .eight-at2 .result) (c .eight-more .result)
-          (8 * (k + 1)) (omega arith) (omega arith) (omega arith) (read .eight-at .ensures) (beside .eight-at2 .ensures) (c .eight-more .ensures),
+      undoing-eight (args .frame .now) (args .stream .now) (8 * k) (head .loop .register) (head .loop .inv .1) (read .double-word-at .result) (beside .double-word-at2 .result) (c .eight-more .result)
+          (8 * (k + 1)) (omega arith) (omega arith) (omega arith) (read .double-word-at .ensures) (beside .double-word-at2 .ensures) (c .eight-more .ensures),
     )
 
 mul-k : tie.Need-mul-k Inv-loop μ-loop Inv-loop2 μ-loop2
@@ -89,7 +89,7 @@ loop2-again c =
     let args = head .before .before .before .before .before .before .args in
     let k = head .loop2 .k in (
       omega arith,
-      reading-byte (args .frame .now) (args .stream .now) k (head .loop2 .register) (head .loop2 .inv .1) (beside .stream-byte .result) (c .byte-more .result) (omega arith)
+      undoing-byte (args .frame .now) (args .stream .now) k (head .loop2 .register) (head .loop2 .inv .1) (beside .stream-byte .result) (c .byte-more .result) (omega arith)
           (beside .stream-byte .ensures) (c .byte-more .ensures),
     )
 
@@ -111,8 +111,8 @@ read-spec =
     eights-requires
     loop-holds
     mul-at
-    eight-at-requires
-    eight-at-requires-2
+    double-word-at-requires
+    double-word-at-requires-2
     eight-more-requires
     add-k
     loop-less

@@ -1,12 +1,8 @@
 -- `stream_byte` meets its contract: within the stream, and behind its end.
-use mathlib.Core.Path.{sym}
+use mathlib.Core.Path.{refl, sym}
 use native.Mathlib.Omega.{arith}
-use lib.ListN.{List·getD-eq-default}
--- `stream_byte` meets its contract: within the stream, and behind its end.
-use mathlib.Core.Path.{sym}
-use native.Mathlib.Omega.{arith}
-use lib.ListN.{List·getD-eq-default}
 use borrow.Author.Needs.{needs}
+use lib.ListN.{List·getD-eq-default}
 use Rattle.sector_pass.proofs.steps.stream_byte.Statement.{statement}
 use Rattle.sector_pass.proofs.steps.stream_byte.Tie as tie
 
@@ -14,7 +10,7 @@ shared-slice-read-result : tie.Need-shared-slice-read-result
 shared-slice-read-result c = search needs
 
 returns : tie.Need-returns
-returns c = search needs
+returns c = refl
 
 returns-2 : tie.Need-returns-2
 returns-2 c = sym (List·getD-eq-default (c .before .args .stream .now) 0 {n = c .before .args .k} (omega arith))

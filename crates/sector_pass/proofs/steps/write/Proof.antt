@@ -32,14 +32,14 @@ mul-at c = search needs
 add-past : tie.Need-add-past Inv-loop μ-loop Inv-loop2 μ-loop2
 add-past c = search needs
 
-eight-at-requires : tie.Need-eight-at-requires Inv-loop μ-loop Inv-loop2 μ-loop2
-eight-at-requires c κs = search needs
+double-word-at-requires : tie.Need-double-word-at-requires Inv-loop μ-loop Inv-loop2 μ-loop2
+double-word-at-requires c κs = search needs
 
-eight-at-requires-2 : tie.Need-eight-at-requires-2 Inv-loop μ-loop Inv-loop2 μ-loop2
-eight-at-requires-2 c κs = search needs
+double-word-at-requires-2 : tie.Need-double-word-at-requires-2 Inv-loop μ-loop Inv-loop2 μ-loop2
+double-word-at-requires-2 c κs = search needs
 
-eight-bytes-requires : tie.Need-eight-bytes-requires Inv-loop μ-loop Inv-loop2 μ-loop2
-eight-bytes-requires c κs = search needs
+double-word-bytes-requires : tie.Need-double-word-bytes-requires Inv-loop μ-loop Inv-loop2 μ-loop2
+double-word-bytes-requires c κs = search needs
 
 slice-aggregate-copy-bytes : tie.Need-slice-aggregate-copy-bytes Inv-loop μ-loop Inv-loop2 μ-loop2
 slice-aggregate-copy-bytes c = search needs
@@ -81,9 +81,9 @@ loop-again c =
     let k = head .loop .k in
     let at = head .loop .inv .1 in (
       omega arith,
-      writing-eight (args .user .now) (args .stream .now) (args .frame .now) (8 * k) (head .loop .frame) (head .loop .register) at (read .eight-at .result) (beside .eight-at2 .result)
-          (c .eight-more .result) (8 * k + 8 - 8 * k) (8 * (k + 1)) (copied .copy-bytes .last .1 .0) (omega arith) (omega arith) (omega (arith, head .before .eights .ensures, start .pre .0)) (omega (arith, head .before .eights .ensures)) (read .eight-at .ensures) (beside .eight-at2 .ensures)
-          (copied .copy-bytes .ensures ∙ made .eight-bytes .ensures) (c .eight-more .ensures),
+      writing-eight (args .user .now) (args .stream .now) (args .frame .now) (8 * k) (head .loop .frame) (head .loop .register) at (read .double-word-at .result) (beside .double-word-at2 .result)
+          (c .eight-more .result) (8 * k + 8 - 8 * k) (8 * (k + 1)) (copied .copy-bytes .last .1 .0) (omega arith) (omega arith) (omega (arith, head .before .eights .ensures, start .pre .0)) (omega (arith, head .before .eights .ensures)) (read .double-word-at .ensures) (beside .double-word-at2 .ensures)
+          (copied .copy-bytes .ensures ∙ made .double-word-bytes .ensures) (c .eight-more .ensures),
     )
 
 mul-k : tie.Need-mul-k Inv-loop μ-loop Inv-loop2 μ-loop2
@@ -163,9 +163,9 @@ write-spec =
     loop-holds
     mul-at
     add-past
-    eight-at-requires
-    eight-at-requires-2
-    eight-bytes-requires
+    double-word-at-requires
+    double-word-at-requires-2
+    double-word-bytes-requires
     slice-aggregate-copy-bytes
     sub-copy-bytes
     part-copy-bytes-start

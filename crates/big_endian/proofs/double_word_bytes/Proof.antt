@@ -1,8 +1,8 @@
--- `eight_bytes` meets its contract: the bytes are the definition.
+-- `double_word_bytes` meets its contract: the bytes are the definition.
 use mathlib.Core.Path.{refl}
 use borrow.Author.Needs.{needs}
-use Rattle.big_endian.proofs.eight_bytes.Statement.{statement}
-use Rattle.big_endian.proofs.eight_bytes.Tie as tie
+use Rattle.big_endian.proofs.double_word_bytes.Statement.{statement}
+use Rattle.big_endian.proofs.double_word_bytes.Tie as tie
 
 cast-t4 : tie.Need-cast-t4
 cast-t4 c = search needs
@@ -31,7 +31,7 @@ cast-t24 c = search needs
 returns : tie.Need-returns
 returns c = refl
 
-pub eight-bytes-spec : {M : Type 1} → statement M
-eight-bytes-spec =
+pub double-word-bytes-spec : {M : Type 1} → statement M
+double-word-bytes-spec =
     tie.close
     (tie.spec cast-t4 cast-t7 cast-t10 cast-t13 cast-t16 cast-t19 cast-t22 cast-t24 returns)

@@ -1,9 +1,9 @@
--- `eight_at` meets its contract: the bytes of two words (Words).
+-- `double_word_at` meets its contract: the bytes of two words (Words).
 use mathlib.Core.Path.{_∙_}
 use Rattle.big_endian.proofs.Words.{eight-there}
 use borrow.Author.Needs.{needs}
-use Rattle.big_endian.proofs.steps.eight_at.Statement.{statement}
-use Rattle.big_endian.proofs.steps.eight_at.Tie as tie
+use Rattle.big_endian.proofs.steps.double_word_at.Statement.{statement}
+use Rattle.big_endian.proofs.steps.double_word_at.Tie as tie
 
 word-at-requires : tie.Need-word-at-requires
 word-at-requires c κs = search needs
@@ -35,8 +35,8 @@ returns c =
     eight-there (start .args .bytes .now) (start .args .at) (high .wide .result) (c .wide2 .result) (λ k. known .shared-slice-known .given k .fits) (start .pre)
     (high .wide .ensures .0 ∙ high .before .word-at .ensures) (c .wide2 .ensures .0 ∙ low .word-at2 .ensures) (c .wide2 .ensures .1)
 
-pub eight-at-spec : {M : Type 1} → statement M
-eight-at-spec =
+pub double-word-at-spec : {M : Type 1} → statement M
+double-word-at-spec =
     tie.close
     (tie.spec
     word-at-requires
