@@ -1,5 +1,5 @@
-//! Times error-detection code and scrambling, by themselves, of a cluster's 32 sectors, and prints the medians. A word on the command line: how
-//! many clusters (default 2000). `bench/sectors` builds it, with the functions that it calls.
+//! Times error-detection code and scrambling, by themselves, of a cluster's 32 sectors, and prints the medians and their sums. A word on the
+//! command line: how many clusters (default 2000). `bench/sectors` builds it, with the functions that it calls.
 #[allow(dead_code)]
 #[path = "src/random.rs"]
 mod random;
@@ -60,10 +60,10 @@ fn cluster(r: &Random, times: &mut [Vec<f64>; 4]) {
 }
 
 fn main() {
-    let count: usize = std::env::args().nth(1).map_or(2000, |n| n.parse().expect("bench/sectors [CLUSTERS]"));
+    let count: usize = std::env::args().nth(1).map_or(2000, |n| n.parse().expect("bench/sectors [CLUSTERS]")).max(1);
     let mut times: [Vec<f64>; 4] = Default::default();
     let r = Random::new(0x7135);
-    for _ in 0..count.max(1) {
+    for _ in 0..count {
         cluster(&r, &mut times);
     }
     println!("ms per cluster, medians of {count} random clusters");
