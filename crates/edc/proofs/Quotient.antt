@@ -68,7 +68,7 @@ unsummed w h =
       folded-twice 32 w,
     ) (folded-out 64 w h)
 
--- the lowest of the sums is odd where the number of ones is
+-- remainders modulo 2 of a sum of sums
 odd-sums : (d r a b s t : ℕ) → d % 2 ≡ (a + b) % 2 → r % 2 ≡ (s + t) % 2 → (d % 2 + r) % 2 ≡ (a % 2 + s + (b % 2 + t)) % 2
 odd-sums d r a b s t e f =
     let first : a % 2 + s + (b % 2 + t) ≡ a % 2 + (b % 2 + (s + t)) = omega arith in
@@ -98,6 +98,7 @@ ones-xor =
     none : ones 0 ≡ 0
     none = unfold ones onesIn in refl
 
+-- the lowest of the sums is odd where the number of ones is
 pub sums-odd : (s : ℕ) → ones (folded 1 s) % 2 ≡ s % 2
 unfolding folded
 sums-odd s = omega (arith, ones-xor s (s / 2), ones-step s)

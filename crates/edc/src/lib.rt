@@ -9,7 +9,7 @@ ghost use Rattle.edc.specs.Edc.{edcOf};
 pub fn edc(bytes: &[u8]) -> u32
     ensures { λ r. ⌜ r ≡ edcOf (now (bytes .entry)) ⌝ }
 {
-    let mut register: u32 = 0;
+    let mut register = steps::FIRST;
     let eights = bytes.len() / 8;
     for k in 0..eights {
         register = steps::eight_more(register, double_word_at(bytes, 8 * k));

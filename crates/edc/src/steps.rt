@@ -7,6 +7,9 @@ ghost use lib.Bits.{bitXor};
 ghost use Rattle.big_endian.specs.Words.{eightBytes};
 ghost use Rattle.edc.specs.Edc.{edcOf};
 
+// The register before the first byte.
+pub const FIRST: u32 = 0;
+
 // Bits 31 to 0.
 fn low(v: u64) -> u32
     ensures { λ r. ⌜ r ≡ v % 2 ^ 32 ⌝ }
@@ -40,13 +43,14 @@ fn below(q: u32) -> u32
     (q << 31) ^ (q << 4) ^ q
 }
 
-// The register after eight bytes more. v(x) is the register, 32 bits up, with the eight bytes; q(x) G(x) has v(x) from x^32 on.
+// The register after eight bytes more. v(x) is the register, 32 bits up, with the eight bytes. Of the quotient of v(x) x^32 by G(x) bits 31 to 0
+// are enough: those above have no part below x^32.
 pub fn eight_more(register: u32, eight: u64) -> u32
     ensures { λ r. ⌜ ((bytes : List ℕ) → register ≡ edcOf bytes → r ≡ edcOf (bytes ++ eightBytes eight)) ⌝ }
 {
     let v = wide(register) * 0x1_0000_0000 ^ eight;
     let s = low(sums(eight)) ^ sum_below(register);
-    // G(x) is x^31 (x + 1) + (x^4 + 1). Sums divide by x + 1; for x^4 + 1 bits of v come in 28 and 30 lower, and for these once more.
+    // G(x) is x^31 (x + 1) + (x^4 + 1). Sums divide by x + 1; x^4 + 1 brings v in 28 and 30 bits lower, and these again 56, 57, 60 and 61.
     let q = s ^ low((v >> 28) ^ (v >> 30)) ^ low(((v >> 56) ^ (v >> 60)) ^ ((v >> 57) ^ (v >> 61)));
     below(q)
 }

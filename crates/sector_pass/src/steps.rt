@@ -2,6 +2,7 @@
 use big_endian::double_word_bytes;
 use big_endian::steps::double_word_at;
 use big_endian::word;
+use edc::steps::FIRST;
 use edc::steps::byte_more;
 use edc::steps::eight_more;
 use slices::steps::copy_bytes;
@@ -48,7 +49,7 @@ pub fn write(user: &[u8], stream: &[u8], frame: &mut [u8]) -> u32
     requires { ⌜ (length (now user) ≡ 2048) × (length (now frame) ≡ 2052) ⌝ }
     ensures { λ r. ⌜ PassWriting (now (user .entry)) (now (stream .entry)) (now (frame .entry)) 2048 (now (frame .exit)) r ⌝ }
 {
-    let mut register: u32 = 0;
+    let mut register = FIRST;
     let whole = eights(stream);
     for k in 0..whole {
         let at = 8 * k;
@@ -71,7 +72,7 @@ pub fn read(frame: &[u8], stream: &[u8]) -> u32
     requires { ⌜ length (now frame) ≡ 2052 ⌝ }
     ensures { λ r. ⌜ PassReading (now (frame .entry)) (now (stream .entry)) 2048 r ⌝ }
 {
-    let mut register: u32 = 0;
+    let mut register = FIRST;
     let whole = eights(stream);
     for k in 0..whole {
         let at = 8 * k;

@@ -140,7 +140,7 @@ fn zeros_scrambled(stream: [u8; 2052]) {
     frame_lines(b"data frame of zeros ", &user, &stream, b"scrambled ");
 }
 
-// That of bytes drawn, with the first 1,001 bytes of the stream.
+// The scrambled data frame of bytes drawn, with the first 1,001 bytes of the stream.
 fn short_stream(stream: [u8; 2052]) {
     let mut user = no_user();
     draws::draw(1, &mut user);
