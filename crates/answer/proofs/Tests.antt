@@ -6,7 +6,7 @@ use native.Mathlib.Decide.{decLt}
 use native.Mathlib.Omega.{arith}
 use borrow.Author.Tests.{ne-eqb, eqb-true, lt-ltb, le-ltb}
 use Rattle.answer.specs.declared.Answer.{Answer}
-use Rattle.answer.specs.declared.Answer.the-variants.{Done, WrongUser, WrongSide, WrongDc, WrongImage, WrongWork, NoMultiple, NoZone, DcWord, LastBits, Sync, Frame, BisColumn, AddressUnit, NoPsn, LdcColumn, Sector, WrongColumn}
+use Rattle.answer.specs.declared.Answer.the-variants.{Done, WrongUser, WrongSide, WrongDc, WrongImage, WrongWork, NoMultiple, NoZone, DcWord, LastBits, Sync, Frame, BisColumn, AddressUnit, NoPsn, LdcColumn, Sector, WrongColumn, WrongCount, Repeated}
 use Rattle.answer.specs.Answer.{numberOf, isDone, andThen, lowest}
 
 -- the answer whose number is 0 is `Done`
@@ -29,6 +29,8 @@ number-zero NoPsn e = absurd (omega arith)
 number-zero (LdcColumn n) e = absurd (omega arith)
 number-zero (Sector n) e = absurd (omega arith)
 number-zero WrongColumn e = absurd (omega arith)
+number-zero WrongCount e = absurd (omega arith)
+number-zero (Repeated n) e = absurd (omega arith)
 
 pub done-is : (a : Answer) → isDone a ≡ true → a ≡ Done
 done-is a e = number-zero a (eqb-true (numberOf a) 0 e)

@@ -3,7 +3,7 @@ use mathlib.Core.Bool.{Bool, cond}
 use Prim.Native.Nat.{ℕ}
 use lib.Dec.{eqb, ltb}
 use Rattle.answer.specs.declared.Answer.{Answer}
-use Rattle.answer.specs.declared.Answer.the-variants.{Done, WrongUser, WrongSide, WrongDc, WrongImage, WrongWork, NoMultiple, NoZone, DcWord, LastBits, Sync, Frame, BisColumn, AddressUnit, NoPsn, LdcColumn, Sector, WrongColumn}
+use Rattle.answer.specs.declared.Answer.the-variants.{Done, WrongUser, WrongSide, WrongDc, WrongImage, WrongWork, NoMultiple, NoZone, DcWord, LastBits, Sync, Frame, BisColumn, AddressUnit, NoPsn, LdcColumn, Sector, WrongColumn, WrongCount, Repeated}
 
 abbrev pub numberOf : Answer → ℕ
 numberOf Done = 0
@@ -24,6 +24,8 @@ numberOf NoPsn = 14
 numberOf (LdcColumn n) = 15
 numberOf (Sector n) = 16
 numberOf WrongColumn = 22
+numberOf WrongCount = 23
+numberOf (Repeated n) = 24
 
 abbrev pub placeOf : Answer → ℕ
 placeOf Done = 0
@@ -44,6 +46,8 @@ placeOf NoPsn = 0
 placeOf (LdcColumn n) = n
 placeOf (Sector n) = n
 placeOf WrongColumn = 0
+placeOf WrongCount = 0
+placeOf (Repeated n) = n
 
 abbrev pub isDone : Answer → Bool
 isDone a = eqb (numberOf a) 0

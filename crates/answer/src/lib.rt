@@ -27,6 +27,10 @@ pub enum Answer {
     Sector(usize),
     // The data and parity slices of a column (document 02).
     WrongColumn,
+    // The number of entries of a sheet (document 02).
+    WrongCount,
+    // The lowest entry of a sheet whose PSN an earlier one has.
+    Repeated(usize),
 }
 
 impl Answer {
@@ -53,6 +57,8 @@ impl Answer {
             Answer::LdcColumn(_) => 15,
             Answer::Sector(_) => 16,
             Answer::WrongColumn => 22,
+            Answer::WrongCount => 23,
+            Answer::Repeated(_) => 24,
         }
     }
 
@@ -79,6 +85,8 @@ impl Answer {
             Answer::LdcColumn(n) => n,
             Answer::Sector(n) => n,
             Answer::WrongColumn => 0,
+            Answer::WrongCount => 0,
+            Answer::Repeated(n) => n,
         }
     }
 

@@ -31,7 +31,9 @@ fn put_meaning(text: Text, answer: Answer) -> Text
         |LDC column * has a wrong parity\n\
         |sector * has a wrong error-detection code\n\
         |||||\
-        |the data are not 1 to 223 bytes, or the parity is not 32\n";
+        |the data are not 1 to 223 bytes, or the parity is not 32\n\
+        |the sheet has not 1 to 64 PSNs\n\
+        |an earlier entry has the same PSN\n";
     put_piece(text, pieces, answer.number() as usize, answer.place())
 }
 

@@ -3,7 +3,7 @@ use mathlib.Core.Bool.{Bool, cond}
 use mathlib.Core.List.{List, [], _++_}
 use Prim.Native.Nat.{ℕ}
 use Rattle.answer.specs.declared.Answer.{Answer}
-use Rattle.answer.specs.declared.Answer.the-variants.{Done, WrongUser, WrongSide, WrongDc, WrongImage, WrongWork, NoMultiple, NoZone, DcWord, LastBits, Sync, Frame, BisColumn, AddressUnit, NoPsn, LdcColumn, Sector, WrongColumn}
+use Rattle.answer.specs.declared.Answer.the-variants.{Done, WrongUser, WrongSide, WrongDc, WrongImage, WrongWork, NoMultiple, NoZone, DcWord, LastBits, Sync, Frame, BisColumn, AddressUnit, NoPsn, LdcColumn, Sector, WrongColumn, WrongCount, Repeated}
 use Rattle.answer.specs.Answer.{numberOf, placeOf}
 use Rattle.verdict.specs.declared.Verdict.{Verdict}
 use Rattle.verdict.specs.declared.Verdict.the-variants.{Pass, Refused, OtherPsn, OtherUser, OtherSide}
@@ -12,7 +12,7 @@ use Rattle.texts.specs.Numbers.{decimal, hexadecimal}
 
 -- ---- answers
 
--- what an answer means, in a line; none for 0; the place of 1, 6 and 7 stands in the line before alone
+-- what an answer means, in a line; none for 0; the place of 1, 6, 7 and 24 stands in the line before alone
 abbrev pub meaning : Answer → List ℕ
 meaning Done = []
 meaning (WrongUser n) = the "the user data are not 65536 bytes\n"
@@ -32,6 +32,8 @@ meaning NoPsn = the "no accepted PSN has these address unit numbers\n"
 meaning (LdcColumn n) = the "LDC column " ++ decimal n ++ the " has a wrong parity\n"
 meaning (Sector n) = the "sector " ++ decimal n ++ the " has a wrong error-detection code\n"
 meaning WrongColumn = the "the data are not 1 to 223 bytes, or the parity is not 32\n"
+meaning WrongCount = the "the sheet has not 1 to 64 PSNs\n"
+meaning (Repeated n) = the "an earlier entry has the same PSN\n"
 
 -- number and place in a line, then what they mean
 unfoldable pub answerText : Answer → List ℕ

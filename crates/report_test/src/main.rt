@@ -35,6 +35,13 @@ fn columns() {
     print_answer(Answer::WrongColumn);
 }
 
+fn sheets() {
+    print_answer(Answer::WrongCount);
+    print_answer(Answer::NoMultiple(63));
+    print_answer(Answer::NoZone(62));
+    print_answer(Answer::Repeated(1));
+}
+
 // The longest place.
 fn longest() {
     print_answer(Answer::AddressUnit(18446744073709551615));
@@ -69,6 +76,7 @@ fn main() {
     lengths_and_psn();
     images();
     columns();
+    sheets();
     longest();
     verdicts();
     reads();

@@ -1,0 +1,3 @@
+-- Sheets of addresses, and what is promised of them.
+pub mod Sheet
+pub mod Promise

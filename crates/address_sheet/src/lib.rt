@@ -1,0 +1,95 @@
+// A sheet of addresses (document 02, W-211): 1 to 64 PSNs, accepted or refused as a whole.
+use address::Psn;
+use answer::Answer;
+ghost use mathlib.Core.Path.{_≡_};
+ghost use mathlib.Core.Logic.{_↔_};
+ghost use Prim.Native.Nat.{_≤_, _<_};
+ghost use Rattle.answer.specs.declared.Answer.the-variants.{Done};
+ghost use Rattle.laws.specs.First.{first};
+ghost use Rattle.address_sheet.specs.Sheet.{countAnswer, aloneBy, repeats, sheetAnswer, entries};
+ghost use Rattle.address_sheet.specs.Promise.{RightSheet};
+
+// The most PSNs of a sheet.
+pub const MOST: usize = 64;
+
+fn judge_count(count: usize) -> Answer
+    ensures { λ r. ⌜ r ≡ countAnswer count ⌝ }
+{
+    if count == 0 {
+        return Answer::WrongCount;
+    }
+    if MOST < count {
+        return Answer::WrongCount;
+    }
+    Answer::Done
+}
+
+// The lowest entry that is answered by this number alone, count where there is none.
+fn first_alone_by(psns: [Psn; MOST], count: usize, number: u32) -> usize
+    requires { ⌜ count ≤ 64 ⌝ }
+    ensures { λ r. ⌜ r ≡ first count (aloneBy number (entries psns)) ⌝ }
+{
+    let mut i = 0;
+    while i < count {
+        let psn = psns[i];
+        if psn.judge().number() == number {
+            return i;
+        }
+        i += 1;
+    }
+    count
+}
+
+// Whether an earlier entry has the PSN of entry i.
+fn repeats(psns: [Psn; MOST], i: usize) -> bool
+    requires { ⌜ i < 64 ⌝ }
+    ensures { λ r. ⌜ r ≡ repeats (entries psns) i ⌝ }
+{
+    let mut j = 0;
+    while j < i {
+        if psns[j].0 == psns[i].0 {
+            return true;
+        }
+        j += 1;
+    }
+    false
+}
+
+// The lowest entry whose PSN an earlier one has, count where there is none.
+fn first_repeated(psns: [Psn; MOST], count: usize) -> usize
+    requires { ⌜ count ≤ 64 ⌝ }
+    ensures { λ r. ⌜ r ≡ first count (repeats (entries psns)) ⌝ }
+{
+    let mut i = 0;
+    while i < count {
+        if repeats(psns, i) {
+            return i;
+        }
+        i += 1;
+    }
+    count
+}
+
+// Judges the first `count` entries as one sheet: 0, or 23, 6, 7 and 24, tested in this order.
+pub fn judge(psns: [Psn; MOST], count: usize) -> Answer
+    ensures { λ r. ⌜ r ≡ sheetAnswer count (entries psns) ⌝ }
+    ensures { λ r. ⌜ ((r ≡ Done) ↔ RightSheet count (entries psns)) ⌝ }
+{
+    let counted = judge_count(count);
+    if !counted.is_done() {
+        return counted;
+    }
+    let multiple = first_alone_by(psns, count, 6);
+    if multiple < count {
+        return Answer::NoMultiple(multiple);
+    }
+    let zone = first_alone_by(psns, count, 7);
+    if zone < count {
+        return Answer::NoZone(zone);
+    }
+    let repeated = first_repeated(psns, count);
+    if repeated < count {
+        return Answer::Repeated(repeated);
+    }
+    Answer::Done
+}
