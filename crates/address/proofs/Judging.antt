@@ -1,6 +1,6 @@
 -- The cases of what is answered of a PSN. Assumes nothing.
 use mathlib.Core.Path.{_≡_, refl, sym, ap, _∙_}
-use mathlib.Core.Bool.{Bool, true, false}
+use mathlib.Core.Bool.{Bool, true, false, cond}
 use Prim.Native.Nat.{ℕ, _*_, _/_, _%_, _<_, _≤_}
 use native.Mathlib.Nat.{mul-mod-right}
 use native.Mathlib.Omega.{arith}
@@ -8,9 +8,9 @@ use borrow.Author.Tests.{eq-eqb, ne-eqb, le-leb, lt-leb}
 use lib.Dec.{leb}
 use Rattle.answer.specs.declared.Answer.{Answer}
 use Rattle.answer.specs.declared.Answer.the-variants.{Done, NoMultiple, NoZone}
-use Rattle.answer.specs.Answer.{isDone}
+use Rattle.answer.specs.Answer.{numberOf, isDone}
 use Rattle.address.specs.declared.PsnAnswer.{PsnAnswer}
-use Rattle.address.specs.Zones.{within, zone0, zone1, zone2, inDataZone}
+use Rattle.address.specs.Zones.{within, zone0, zone1, zone2, inDataZone, firstOfCluster}
 use Rattle.address.specs.Judged.{judged, ifDone}
 use Rattle.address.specs.Conversions.{withPsn, paaToPsn, aunToPsn}
 
@@ -48,6 +48,16 @@ module _ (psn : ℕ) (r : Bool) (h : psn % 32 ≡ 0) (hr : r ≡ inDataZone psn)
   pub accepted : r ≡ true → Done ≡ judged psn
   unfolding judged
   accepted e = let zone : inDataZone psn ≡ true = sym hr ∙ e in rw (eq-eqb (psn % 32) 0 h, zone)
+
+-- what is answered neither by 6 nor by 7 is accepted
+pub accepted-else : (psn : ℕ) → (numberOf (judged psn) ≡ 6 → ⊥) → (numberOf (judged psn) ≡ 7 → ⊥) → judged psn ≡ Done
+unfolding judged
+accepted-else psn = by (firstOfCluster psn) (inDataZone psn)
+  where
+    by : (m z : Bool) → let a = cond m (cond z Done (NoZone 0)) (NoMultiple 0) in (numberOf a ≡ 6 → ⊥) → (numberOf a ≡ 7 → ⊥) → a ≡ Done
+    by true true six seven = refl
+    by true false six seven = absurd (seven refl)
+    by false z six seven = absurd (six refl)
 
 -- no zone reaches above 29 bits
 pub past-zones : (psn : ℕ) → 0x2000_0000 ≤ psn → inDataZone psn ≡ false

@@ -29,11 +29,12 @@ repeats psn i = ltb (first i (λ j. eqb (psn j) (psn i))) i
 abbrev pub overAll : (ℕ → Answer) → ℕ → (ℕ → Bool) → Answer
 overAll refusal count fails = lowest refusal count (first count fails)
 
+-- test 6 over all entries, then 7, then repetitions
+abbrev pub entriesAnswer : ℕ → (ℕ → ℕ) → Answer
+entriesAnswer count psn = andThen (overAll NoMultiple count (aloneBy 6 psn)) (andThen (overAll NoZone count (aloneBy 7 psn)) (overAll Repeated count (repeats psn)))
+
 unfoldable pub sheetAnswer : ℕ → (ℕ → ℕ) → Answer
-sheetAnswer count psn =
-    andThen (countAnswer count)
-    (andThen (overAll NoMultiple count (aloneBy 6 psn))
-    (andThen (overAll NoZone count (aloneBy 7 psn)) (overAll Repeated count (repeats psn))))
+sheetAnswer count psn = andThen (countAnswer count) (entriesAnswer count psn)
 
 -- the PSN of each entry of an array
 abbrev pub entries : List Psn → ℕ → ℕ

@@ -6,7 +6,7 @@ ghost use mathlib.Core.Logic.{_↔_};
 ghost use Prim.Native.Nat.{_≤_, _<_};
 ghost use Rattle.answer.specs.declared.Answer.the-variants.{Done};
 ghost use Rattle.laws.specs.First.{first};
-ghost use Rattle.address_sheet.specs.Sheet.{countAnswer, aloneBy, repeats, sheetAnswer, entries};
+ghost use Rattle.address_sheet.specs.Sheet.{countAnswer, aloneBy, repeats, entriesAnswer, sheetAnswer, entries};
 ghost use Rattle.address_sheet.specs.Promise.{RightSheet};
 
 // The most PSNs of a sheet.
@@ -70,15 +70,11 @@ fn first_repeated(psns: [Psn; MOST], count: usize) -> usize
     count
 }
 
-// Judges the first `count` entries as one sheet: 0, or 23, 6, 7 and 24, tested in this order.
-pub fn judge(psns: [Psn; MOST], count: usize) -> Answer
-    ensures { λ r. ⌜ r ≡ sheetAnswer count (entries psns) ⌝ }
-    ensures { λ r. ⌜ ((r ≡ Done) ↔ RightSheet count (entries psns)) ⌝ }
+// Tests 6, 7 and 24, each over all entries before the next.
+fn judge_entries(psns: [Psn; MOST], count: usize) -> Answer
+    requires { ⌜ count ≤ 64 ⌝ }
+    ensures { λ r. ⌜ r ≡ entriesAnswer count (entries psns) ⌝ }
 {
-    let counted = judge_count(count);
-    if !counted.is_done() {
-        return counted;
-    }
     let multiple = first_alone_by(psns, count, 6);
     if multiple < count {
         return Answer::NoMultiple(multiple);
@@ -92,4 +88,16 @@ pub fn judge(psns: [Psn; MOST], count: usize) -> Answer
         return Answer::Repeated(repeated);
     }
     Answer::Done
+}
+
+// Judges the first `count` entries as one sheet: 0, or 23, 6, 7 and 24, tested in this order.
+pub fn judge(psns: [Psn; MOST], count: usize) -> Answer
+    ensures { λ r. ⌜ r ≡ sheetAnswer count (entries psns) ⌝ }
+    ensures { λ r. ⌜ ((r ≡ Done) ↔ RightSheet count (entries psns)) ⌝ }
+{
+    let counted = judge_count(count);
+    if counted.is_done() {
+        return judge_entries(psns, count);
+    }
+    counted
 }

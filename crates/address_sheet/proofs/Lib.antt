@@ -1,0 +1,3 @@
+-- The tests of a sheet, and what is promised of it.
+pub mod Tests
+pub mod Statements

@@ -1,0 +1,128 @@
+-- What is promised of a sheet: which are accepted, and what is answered of every other. Assumes nothing.
+use mathlib.Core.Path.{_≡_, refl, sym, ap, subst, _∙_}
+use mathlib.Core.Bool.{Bool, true, false}
+use mathlib.Core.Logic.{_↔_}
+use Prim.Native.Nat.{ℕ, _<_, _≤_}
+use native.Mathlib.Decide.{decLt}
+use native.Mathlib.Omega.{arith}
+use borrow.Author.Tests.{eq-eqb, ne-eqb, eqb-false}
+use Rattle.answer.specs.declared.Answer.{Answer}
+use Rattle.answer.specs.declared.Answer.the-variants.{Done, NoMultiple, NoZone, WrongCount, Repeated}
+use Rattle.answer.specs.Answer.{numberOf, isDone}
+use Rattle.answer.proofs.Tests.{done-told, then-next, then-here, then-done, goes-on, stops}
+use Rattle.address.specs.Judged.{judged}
+use Rattle.address.proofs.Judging.{accepted-else}
+use Rattle.laws.specs.First.{first}
+use Rattle.laws.proofs.First.{Passed, first-at, first-none}
+use Rattle.address_sheet.specs.Sheet.{countAnswer, aloneBy, repeats, overAll, entriesAnswer, sheetAnswer}
+use Rattle.address_sheet.specs.Promise.{RightCount, RightSheet, AloneBy, RepeatsEarlier, Lowest}
+use Rattle.address_sheet.proofs.Tests.{count-right, count-done, count-refused, repeats-not, repeats-is, repeats-earlier, over-done, tests7, fails-6, fails-7, fails-24, fails-none}
+
+module _ (count : ℕ) (psn : ℕ → ℕ) where
+  -- no entry is answered by this number alone
+  none-by : (number : ℕ) → ((i : ℕ) → i < count → AloneBy number psn i → ⊥) → count ≡ first count (aloneBy number psn)
+  none-by number h = sym (first-none count (aloneBy number psn) (record { fails = λ i lt. ne-eqb (numberOf (judged (psn i))) number (h i lt) }))
+
+  -- i is the lowest that is
+  lowest-by : (number i : ℕ) → Lowest count (AloneBy number psn) i → i ≡ first count (aloneBy number psn)
+  lowest-by number i low =
+      sym
+      (first-at count (aloneBy number psn) i (low .within) (record { fails = λ k lt. ne-eqb (numberOf (judged (psn k))) number (low .below k lt) })
+      (eq-eqb (numberOf (judged (psn i))) number (low .here)))
+
+  repeats-false : (i : ℕ) → (RepeatsEarlier psn i → ⊥) → repeats psn i ≡ false
+  repeats-false i h = by (repeats psn i) refl
+    where
+      by : (t : Bool) → repeats psn i ≡ t → t ≡ false
+      by true e = absurd (h (repeats-earlier psn i e))
+      by false e = refl
+
+  lowest-repeated : (i : ℕ) → Lowest count (RepeatsEarlier psn) i → i ≡ first count (repeats psn)
+  lowest-repeated i low =
+      sym (first-at count (repeats psn) i (low .within) (record { fails = λ k lt. repeats-false k (low .below k lt) }) (repeats-is psn i (low .here)))
+
+  -- what is accepted alone is answered by no other number
+  not-by : ((i : ℕ) → i < count → judged (psn i) ≡ Done) → (number : ℕ) → 0 < number → (i : ℕ) → i < count → AloneBy number psn i → ⊥
+  not-by alone number some i h e = let zero : 0 ≡ number = sym (ap numberOf (alone i h)) ∙ e in omega (arith, zero, some)
+
+  none-refused : ((i : ℕ) → i < count → judged (psn i) ≡ Done) → (number : ℕ) → 0 < number → count ≡ first count (aloneBy number psn)
+  none-refused alone number some = none-by number (not-by alone number some)
+
+  -- ---- accepted
+
+  accepts : RightSheet count psn → sheetAnswer count psn ≡ Done
+  unfolding sheetAnswer
+  accepts right =
+      then-next (countAnswer count) (entriesAnswer count psn) (count-right count (right .size))
+      ∙ sym (fails-none count psn (none-refused (right .alone) 6 (omega arith)) (omega arith) (none-refused (right .alone) 7 (omega arith)) (omega arith) none-again (omega arith))
+    where
+      apart : (i : ℕ) → i < count → RepeatsEarlier psn i → ⊥
+      apart i h is = right .apart (is .earlier) i (omega (arith, is .before)) h (λ e. omega (arith, is .before, e)) (is .same)
+
+      none-again : count ≡ first count (repeats psn)
+      none-again = sym (first-none count (repeats psn) (record { fails = λ i h. repeats-false i (apart i h) }))
+
+  rightly : sheetAnswer count psn ≡ Done → RightSheet count psn
+  unfolding sheetAnswer
+  rightly e =
+      let two = then-done (countAnswer count) (entriesAnswer count psn) e in
+      let more = then-done (overAll NoMultiple count (aloneBy 6 psn)) (tests7 count psn) (two .1) in
+      let last = then-done (overAll NoZone count (aloneBy 7 psn)) (overAll Repeated count (repeats psn)) (more .1) in
+      let six = over-done NoMultiple count (aloneBy 6 psn) (λ k. refl) (more .0) in
+      let seven = over-done NoZone count (aloneBy 7 psn) (λ k. refl) (last .0) in
+      let again = over-done Repeated count (repeats psn) (λ k. refl) (last .1) in
+      record {
+        size = count-done count (two .0);
+        alone = λ i h. accepted-else (psn i) (eqb-false (numberOf (judged (psn i))) 6 (six i h)) (eqb-false (numberOf (judged (psn i))) 7 (seven i h));
+        apart = λ i j hi hj differ same.
+            elim (decLt i j) [
+              | yes h ↦ repeats-not psn j (again j hj) (record { earlier = i; before = h; same = same })
+              | no h ↦ repeats-not psn i (again i hi) (record { earlier = j; before = omega (arith, h, differ); same = sym same })
+            ];
+      }
+
+  -- ACCEPTED EXACTLY WHERE THE COUNT IS RIGHT, EVERY ENTRY IS ACCEPTED ALONE AND NO TWO ARE EQUAL
+  pub accepted-iff : (sheetAnswer count psn ≡ Done) ↔ RightSheet count psn
+  accepted-iff = (rightly, accepts)
+
+  -- ---- refused: of every other sheet one of these tells the answer
+
+  pub refused-count : (RightCount count → ⊥) → sheetAnswer count psn ≡ WrongCount
+  unfolding sheetAnswer
+  refused-count wrong = let is = count-refused count wrong in then-here (countAnswer count) (entriesAnswer count psn) (ap isDone is) ∙ is
+
+  module _ (size : RightCount count) where
+    counted : sheetAnswer count psn ≡ entriesAnswer count psn
+    unfolding sheetAnswer
+    counted = then-next (countAnswer count) (entriesAnswer count psn) (count-right count size)
+
+    -- the lowest entry that 6 refuses alone
+    pub refused-6 : (i : ℕ) → Lowest count (AloneBy 6 psn) i → sheetAnswer count psn ≡ NoMultiple i
+    refused-6 i low = counted ∙ sym (fails-6 count psn (lowest-by 6 i low) (low .within))
+
+    -- 6 refuses none, and the lowest that 7 refuses alone
+    pub refused-7 : ((i : ℕ) → i < count → AloneBy 6 psn i → ⊥) → (i : ℕ) → Lowest count (AloneBy 7 psn) i → sheetAnswer count psn ≡ NoZone i
+    refused-7 six i low = counted ∙ sym (fails-7 count psn (none-by 6 six) (omega arith) (lowest-by 7 i low) (low .within))
+
+    -- all are accepted alone, and the lowest that repeats an earlier one
+    pub refused-24 : ((i : ℕ) → i < count → judged (psn i) ≡ Done) → (i : ℕ) → Lowest count (RepeatsEarlier psn) i → sheetAnswer count psn ≡ Repeated i
+    refused-24 alone i low =
+        counted
+        ∙ sym (fails-24 count psn (none-refused alone 6 (omega arith)) (omega arith) (none-refused alone 7 (omega arith)) (omega arith) (lowest-repeated i low) (low .within))
+
+-- ---- as the code has it: a is what is answered of the count, d whether it is `Done`
+
+module _ (count : ℕ) (psn : ℕ → ℕ) {a : Answer} {d : Bool} (ha : a ≡ countAnswer count) (hd : d ≡ isDone a) where
+  pub may-judge : d ≡ true → count ≤ 64
+  may-judge e = count-done count (done-told ha hd e) .most
+
+  judges : {r : Answer} → r ≡ sheetAnswer count psn → (r ≡ sheetAnswer count psn) × ((r ≡ Done) ↔ RightSheet count psn)
+  judges e = (e, subst (λ (a : Answer). (a ≡ Done) ↔ RightSheet count psn) (sym e) (accepted-iff count psn))
+
+  pub judged-whole : {r : Answer} → d ≡ true → r ≡ entriesAnswer count psn → (r ≡ sheetAnswer count psn) × ((r ≡ Done) ↔ RightSheet count psn)
+  unfolding sheetAnswer
+  judged-whole {r} t e = judges (goes-on (countAnswer count) (entriesAnswer count psn) a d ha hd r t e)
+
+  pub judged-count : d ≡ false → (a ≡ sheetAnswer count psn) × ((a ≡ Done) ↔ RightSheet count psn)
+  unfolding sheetAnswer
+  judged-count t = judges (stops (countAnswer count) (entriesAnswer count psn) a d ha hd t)
