@@ -2,7 +2,7 @@
 use mathlib.Core.Path.{_≡_, refl, sym, ap, _∙_}
 use mathlib.Core.Bool.{Bool, true, false, cond, _&&_}
 use mathlib.Core.List.{List}
-use Prim.Native.Nat.{ℕ, _+_, _<_, _≤_}
+use Prim.Native.Nat.{ℕ, _+_, _-_, _<_, _≤_}
 use native.Mathlib.Decide.{decLt}
 use native.Mathlib.Omega.{arith}
 use borrow.Author.Tests.{eq-eqb, ne-eqb, eqb-true, eqb-false, lt-ltb, le-ltb, ltb-true, ltb-false, le-leb, lt-leb, leb-true}
@@ -14,7 +14,7 @@ use Rattle.answer.proofs.Tests.{done-not, then-next, then-here, lowest-here, lo
 use Rattle.address.specs.Judged.{judged}
 use Rattle.laws.specs.First.{first}
 use Rattle.laws.proofs.First.{Passed, passed-more, first-here, first-past, first-at, first-all, first-none, first-holds}
-use Rattle.address_sheet.specs.Sheet.{countAnswer, aloneBy, repeats, overAll, entriesAnswer}
+use Rattle.address_sheet.specs.Sheet.{countAnswer, aloneBy, sameAs, repeats, overAll, entriesAnswer}
 use Rattle.address_sheet.specs.Promise.{RightCount, RepeatsEarlier}
 
 -- ---- the count
@@ -58,21 +58,17 @@ module _ (psn : ℕ → ℕ) (i number : ℕ) {n : ℕ} {a : Answer} (passed : P
 
 -- ---- repetitions
 
--- entry i beside the earlier ones
-abbrev pub sameAs : (ℕ → ℕ) → ℕ → ℕ → Bool
-sameAs psn i j = eqb (psn j) (psn i)
-
 module _ (psn : ℕ → ℕ) (i : ℕ) where
   -- in a loop over the earlier ones
   module _ (j : ℕ) (passed : Passed (sameAs psn i) j) where
-    pub same-here : j < i → psn j ≡ psn i → true ≡ repeats psn i
-    same-here h e = sym (lt-ltb (first i (sameAs psn i)) i (omega (arith, h, first-at i (sameAs psn i) j h passed (eq-eqb (psn j) (psn i) e))))
+    pub same-here : j < i → psn j ≡ psn i → (j ≤ i) × (j ≡ first i (sameAs psn i))
+    same-here h e = (omega arith, first-here h passed (eq-eqb (psn j) (psn i) e))
 
     pub same-on : (psn j ≡ psn i → ⊥) → Passed (sameAs psn i) (j + 1)
     same-on h = passed-more passed (ne-eqb (psn j) (psn i) h)
 
-    pub same-none : i ≤ j → false ≡ repeats psn i
-    same-none h = sym (le-ltb (first i (sameAs psn i)) i (omega (arith, first-past h passed)))
+    pub same-none : i ≤ j → (i ≤ i) × (i ≡ first i (sameAs psn i))
+    same-none h = (omega arith, first-past h passed)
 
   pub repeats-not : repeats psn i ≡ false → RepeatsEarlier psn i → ⊥
   repeats-not e is =
@@ -91,13 +87,13 @@ module _ (psn : ℕ → ℕ) (i : ℕ) where
       let h = ltb-true (first i (sameAs psn i)) i e in
       record { earlier = first i (sameAs psn i); before = h; same = eqb-true (psn (first i (sameAs psn i))) (psn i) (first-holds i (sameAs psn i) h .0) }
 
--- in a loop over all entries: r is whether entry i repeats an earlier one
-module _ (psn : ℕ → ℕ) {i : ℕ} {r : Bool} (passed : Passed (repeats psn) i) (hr : r ≡ repeats psn i) where
-  pub repeated-here : {count : ℕ} → i < count → r ≡ true → i ≡ first count (repeats psn)
-  repeated-here h e = first-here h passed (sym hr ∙ e)
+-- in a loop over all entries: earlier is the lowest entry with the PSN of entry i
+module _ (psn : ℕ → ℕ) {i earlier : ℕ} (passed : Passed (repeats psn) i) (h : (earlier ≤ i) × (earlier ≡ first i (sameAs psn i))) where
+  pub repeated-here : {count : ℕ} → i < count → (i - earlier ≡ 0 → ⊥) → i ≡ first count (repeats psn)
+  repeated-here within far = first-here within passed (lt-ltb (first i (sameAs psn i)) i (omega (arith, h .0, h .1, far)))
 
-  pub repeated-on : r ≡ false → Passed (repeats psn) (i + 1)
-  repeated-on e = passed-more passed (sym hr ∙ e)
+  pub repeated-on : i - earlier ≡ 0 → Passed (repeats psn) (i + 1)
+  repeated-on none = passed-more passed (le-ltb (first i (sameAs psn i)) i (omega (arith, h .0, h .1, none)))
 
 -- ---- a test of all entries; as the code has it, i is the lowest that fails
 

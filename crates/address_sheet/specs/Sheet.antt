@@ -21,9 +21,13 @@ countAnswer count = cond (leb 1 count && leb count 64) Done WrongCount
 abbrev pub aloneBy : ℕ → (ℕ → ℕ) → ℕ → Bool
 aloneBy number psn i = eqb (numberOf (judged (psn i))) number
 
+-- entry j has the PSN of entry i
+abbrev pub sameAs : (ℕ → ℕ) → ℕ → ℕ → Bool
+sameAs psn i j = eqb (psn j) (psn i)
+
 -- an earlier entry has the same PSN
 abbrev pub repeats : (ℕ → ℕ) → ℕ → Bool
-repeats psn i = ltb (first i (λ j. eqb (psn j) (psn i))) i
+repeats psn i = ltb (first i (sameAs psn i)) i
 
 -- a test of all entries; the lowest that fails is the place
 abbrev pub overAll : (ℕ → Answer) → ℕ → (ℕ → Bool) → Answer

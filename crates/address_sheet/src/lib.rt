@@ -6,7 +6,7 @@ ghost use mathlib.Core.Logic.{_↔_};
 ghost use Prim.Native.Nat.{_≤_, _<_};
 ghost use Rattle.answer.specs.declared.Answer.the-variants.{Done};
 ghost use Rattle.laws.specs.First.{first};
-ghost use Rattle.address_sheet.specs.Sheet.{countAnswer, aloneBy, repeats, entriesAnswer, sheetAnswer, entries};
+ghost use Rattle.address_sheet.specs.Sheet.{countAnswer, aloneBy, sameAs, repeats, entriesAnswer, sheetAnswer, entries};
 ghost use Rattle.address_sheet.specs.Promise.{RightSheet};
 
 // The most PSNs of a sheet.
@@ -40,19 +40,19 @@ fn first_alone_by(psns: [Psn; MOST], count: usize, number: u32) -> usize
     count
 }
 
-// Whether an earlier entry has the PSN of entry i.
-fn repeats(psns: [Psn; MOST], i: usize) -> bool
+// The lowest entry before i that has its PSN, i where there is none.
+fn first_same(psns: [Psn; MOST], i: usize) -> usize
     requires { ⌜ i < 64 ⌝ }
-    ensures { λ r. ⌜ r ≡ repeats (entries psns) i ⌝ }
+    ensures { λ r. ⌜ (r ≤ i) × (r ≡ first i (sameAs (entries psns) i)) ⌝ }
 {
     let mut j = 0;
     while j < i {
         if psns[j].0 == psns[i].0 {
-            return true;
+            return j;
         }
         j += 1;
     }
-    false
+    i
 }
 
 // The lowest entry whose PSN an earlier one has, count where there is none.
@@ -60,12 +60,14 @@ fn first_repeated(psns: [Psn; MOST], count: usize) -> usize
     requires { ⌜ count ≤ 64 ⌝ }
     ensures { λ r. ⌜ r ≡ first count (repeats (entries psns)) ⌝ }
 {
-    let mut i = 0;
-    while i < count {
-        if repeats(psns, i) {
-            return i;
+    let mut later = 0;
+    while later < count {
+        let earlier = first_same(psns, later);
+        let back = later - earlier;
+        if back != 0 {
+            return later;
         }
-        i += 1;
+        later += 1;
     }
     count
 }

@@ -1,35 +1,44 @@
 -- `first_repeated` meets its contract: a search from the front (Tests; laws, First).
 use Prim.Native.Nat.{_-_}
 use Rattle.laws.proofs.First.{Passed, passed-none, first-past}
-use Rattle.address_sheet.specs.Sheet as sheet
+use Rattle.address_sheet.specs.Sheet.{repeats, entries}
 use Rattle.address_sheet.proofs.Tests.{repeated-here, repeated-on}
 use borrow.Author.Needs.{needs}
 use Rattle.address_sheet.proofs.first_repeated.Statement.{statement}
 use Rattle.address_sheet.proofs.first_repeated.Tie as tie
 
 abbrev Inv-loop : tie.InvT-loop
-Inv-loop psns count i₀ i = Passed (sheet.repeats (sheet.entries psns)) i
+Inv-loop psns count later₀ later = Passed (repeats (entries psns)) later
 
 abbrev μ-loop : tie.MeasureT-loop
-μ-loop psns count i₀ i = count - i
+μ-loop psns count later₀ later = count - later
 
 loop-holds : tie.Need-loop-holds Inv-loop μ-loop
 loop-holds c = passed-none
 
-repeats-requires : tie.Need-repeats-requires Inv-loop μ-loop
-repeats-requires c κs = search needs
+first-same-requires : tie.Need-first-same-requires Inv-loop μ-loop
+first-same-requires c κs = search needs
+
+sub-back : tie.Need-sub-back Inv-loop μ-loop
+sub-back c = search needs
 
 returns : tie.Need-returns Inv-loop μ-loop
-returns c = search (repeated-here)
+returns c =
+    let same = c .before in
+    let turn = same .before .before in
+    repeated-here (entries (turn .before .args .psns)) (turn .loop .inv) (same .first-same .ensures) (search needs) (c .if1 .taken)
 
-add-i : tie.Need-add-i Inv-loop μ-loop
-add-i c = search needs
+add-later : tie.Need-add-later Inv-loop μ-loop
+add-later c = search needs
 
 loop-less : tie.Need-loop-less Inv-loop μ-loop
 loop-less c = search needs
 
 loop-again : tie.Need-loop-again Inv-loop μ-loop
-loop-again c = search (repeated-on)
+loop-again c =
+    let same = c .before in
+    let turn = same .before .before in
+    repeated-on (entries (turn .before .args .psns)) (turn .loop .inv) (same .first-same .ensures) (c .if1 .left)
 
 returns-2 : tie.Need-returns-2 Inv-loop μ-loop
 returns-2 c = search (first-past)
@@ -41,9 +50,10 @@ first-repeated-spec =
     Inv-loop
     μ-loop
     loop-holds
-    repeats-requires
+    first-same-requires
+    sub-back
     returns
-    add-i
+    add-later
     loop-less
     loop-again
     returns-2)

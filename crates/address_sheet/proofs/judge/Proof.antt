@@ -11,7 +11,7 @@ is-done-requires : tie.Need-is-done-requires
 is-done-requires c κs = search needs
 
 judge-entries-requires : tie.Need-judge-entries-requires
-judge-entries-requires c κs = search (may-judge)
+judge-entries-requires c κs = search (may-judge, needs)
 
 returns : tie.Need-returns
 returns c =

@@ -1,11 +1,11 @@
--- `repeats` meets its contract: a search among the earlier entries (Tests; laws, First).
+-- `first_same` meets its contract: a search among the earlier entries (Tests; laws, First).
 use Prim.Native.Nat.{_-_}
 use Rattle.laws.proofs.First.{Passed, passed-none}
-use Rattle.address_sheet.specs.Sheet.{entries}
-use Rattle.address_sheet.proofs.Tests.{sameAs, same-here, same-on, same-none}
+use Rattle.address_sheet.specs.Sheet.{sameAs, entries}
+use Rattle.address_sheet.proofs.Tests.{same-here, same-on, same-none}
 use borrow.Author.Needs.{needs}
-use Rattle.address_sheet.proofs.repeats.Statement.{statement}
-use Rattle.address_sheet.proofs.repeats.Tie as tie
+use Rattle.address_sheet.proofs.first_same.Statement.{statement}
+use Rattle.address_sheet.proofs.first_same.Tie as tie
 
 abbrev Inv-loop : tie.InvT-loop
 Inv-loop i psns j₀ j = Passed (sameAs (entries psns) i) j
@@ -29,7 +29,9 @@ element-copy-out-if1-2 : tie.Need-element-copy-out-if1-2 Inv-loop μ-loop
 element-copy-out-if1-2 c = search needs
 
 returns : tie.Need-returns Inv-loop μ-loop
-returns c = search (same-here)
+returns c =
+    let turn = c .before .before in
+    same-here (entries (turn .before .args .t1)) _ _ (turn .loop .inv) (search needs) (c .if1 .taken)
 
 add-j : tie.Need-add-j Inv-loop μ-loop
 add-j c = search needs
@@ -41,10 +43,12 @@ loop-again : tie.Need-loop-again Inv-loop μ-loop
 loop-again c = search (same-on)
 
 returns-2 : tie.Need-returns-2 Inv-loop μ-loop
-returns-2 c = search (same-none)
+returns-2 c =
+    let turns = c .before in
+    same-none (entries (turns .before .args .t1)) _ _ (turns .loop .inv) (search needs)
 
-pub repeats-spec : {M : Type 1} → statement M
-repeats-spec =
+pub first-same-spec : {M : Type 1} → statement M
+first-same-spec =
     tie.close
     (tie.spec
     Inv-loop
