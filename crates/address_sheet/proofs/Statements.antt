@@ -1,20 +1,21 @@
 -- What is promised of a sheet: which are accepted, and what is answered of every other. Assumes nothing.
-use mathlib.Core.Path.{_≡_, refl, sym, ap, subst, _∙_}
+use mathlib.Core.Path.{_≡_, refl, sym, ap, ap₂, subst, _∙_}
 use mathlib.Core.Bool.{Bool, true, false}
 use mathlib.Core.Logic.{_↔_}
 use Prim.Native.Nat.{ℕ, _<_, _≤_}
 use native.Mathlib.Decide.{decLt}
 use native.Mathlib.Omega.{arith}
 use borrow.Author.Tests.{eq-eqb, ne-eqb, eqb-false}
+use lib.Dec.{ltb, eqb}
 use Rattle.answer.specs.declared.Answer.{Answer}
 use Rattle.answer.specs.declared.Answer.the-variants.{Done, NoMultiple, NoZone, WrongCount, Repeated}
-use Rattle.answer.specs.Answer.{numberOf, isDone}
-use Rattle.answer.proofs.Tests.{done-told, then-next, then-here, then-done, goes-on, stops}
+use Rattle.answer.specs.Answer.{numberOf, isDone, andThen, lowest}
+use Rattle.answer.proofs.Tests.{done-is, done-told, then-next, then-here, then-done, goes-on, stops}
 use Rattle.address.specs.Judged.{judged}
 use Rattle.address.proofs.Judging.{accepted-else}
 use Rattle.laws.specs.First.{first}
-use Rattle.laws.proofs.First.{Passed, first-at, first-none}
-use Rattle.address_sheet.specs.Sheet.{countAnswer, aloneBy, repeats, overAll, entriesAnswer, sheetAnswer}
+use Rattle.laws.proofs.First.{first-at, first-none, first-ext}
+use Rattle.address_sheet.specs.Sheet.{countAnswer, aloneBy, sameAs, repeats, overAll, entriesAnswer, sheetAnswer}
 use Rattle.address_sheet.specs.Promise.{RightCount, RightSheet, AloneBy, RepeatsEarlier, Lowest}
 use Rattle.address_sheet.proofs.Tests.{count-right, count-done, count-refused, repeats-not, repeats-is, repeats-earlier, over-done, tests7, fails-6, fails-7, fails-24, fails-none}
 
@@ -126,3 +127,29 @@ module _ (count : ℕ) (psn : ℕ → ℕ) {a : Answer} {d : Bool} (ha : a ≡ c
   pub judged-count : d ≡ false → (a ≡ sheetAnswer count psn) × ((a ≡ Done) ↔ RightSheet count psn)
   unfolding sheetAnswer
   judged-count t = judges (stops (countAnswer count) (entriesAnswer count psn) a d ha hd t)
+
+-- ---- sheets whose entries agree, as far as they are looked at
+
+module _ (count : ℕ) (f g : ℕ → ℕ) (agree : (i : ℕ) → i < count → i < 64 → f i ≡ g i) where
+  module _ (size : RightCount count) where
+    same : (i : ℕ) → i < count → f i ≡ g i
+    same i h = agree i h (omega (arith, h, size .most))
+
+    same-by : (number : ℕ) → first count (aloneBy number f) ≡ first count (aloneBy number g)
+    same-by number = first-ext count (aloneBy number f) (aloneBy number g) (λ i h. ap (λ (p : ℕ). eqb (numberOf (judged p)) number) (same i h))
+
+    same-repeats : first count (repeats f) ≡ first count (repeats g)
+    same-repeats =
+        first-ext count (repeats f) (repeats g) (λ i h.
+            ap (λ (j : ℕ). ltb j i) (first-ext i (sameAs f i) (sameAs g i) (λ j lt. ap₂ eqb (same j (omega arith)) (same i h))))
+
+    same-entries : entriesAnswer count f ≡ entriesAnswer count g
+    same-entries i = andThen (lowest NoMultiple count (same-by 6 i)) (andThen (lowest NoZone count (same-by 7 i)) (lowest Repeated count (same-repeats i)))
+
+  pub same-sheet : sheetAnswer count f ≡ sheetAnswer count g
+  unfolding sheetAnswer
+  same-sheet = by (isDone (countAnswer count)) refl
+    where
+      by : (t : Bool) → isDone (countAnswer count) ≡ t → andThen (countAnswer count) (entriesAnswer count f) ≡ andThen (countAnswer count) (entriesAnswer count g)
+      by true t = ap (andThen (countAnswer count)) (same-entries (count-done count (done-is (countAnswer count) t)))
+      by false t = then-here (countAnswer count) (entriesAnswer count f) t ∙ sym (then-here (countAnswer count) (entriesAnswer count g) t)

@@ -1,0 +1,1 @@
+-- What is returned are number and place of the sheet's answer. Assumes nothing.

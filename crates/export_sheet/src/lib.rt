@@ -1,0 +1,35 @@
+// A sheet of addresses for programs in other languages: numbers and slices only.
+use address::Psn;
+use answer_numbers::Answered;
+ghost use mathlib.Core.Path.{_≡_};
+ghost use mathlib.Core.Logic.{_↔_};
+ghost use lib.ListN.{length};
+ghost use Rattle.answer_numbers.specs.Numbers.{answered};
+ghost use Rattle.address_sheet.specs.Sheet.{sheetAnswer};
+ghost use Rattle.address_sheet.specs.Promise.{RightSheet};
+ghost use Rattle.laws.specs.Tabulate.{tabulate};
+ghost use Rattle.export_sheet.specs.Exported.{numbers};
+
+// The first 64 numbers as PSNs, 0 where there are fewer.
+fn psns_of(numbers: &[u32]) -> [Psn; address_sheet::MOST]
+    ensures { λ r. ⌜ r ≡ tabulate 64 (λ i. record { 0 = numbers (now (numbers .entry)) i }) ⌝ }
+{
+    let mut psns = [Psn(0); address_sheet::MOST];
+    let mut i = 0;
+    while i < address_sheet::MOST {
+        if i < numbers.len() {
+            psns[i] = Psn(numbers[i]);
+        }
+        i += 1;
+    }
+    psns
+}
+
+// Judges a sheet of PSNs.
+pub fn judge_sheet(psns: &[u32]) -> Answered
+    ensures { λ r. ⌜ r ≡ answered (sheetAnswer (length (now (psns .entry))) (numbers (now (psns .entry)))) ⌝ }
+    ensures { λ r. ⌜ ((r .number ≡ 0) ↔ RightSheet (length (now (psns .entry))) (numbers (now (psns .entry)))) ⌝ }
+{
+    let answer = address_sheet::judge(psns_of(psns), psns.len());
+    Answered::of(answer)
+}

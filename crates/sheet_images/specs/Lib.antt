@@ -1,0 +1,2 @@
+-- The images of a sheet's clusters.
+pub mod Images
