@@ -18,6 +18,11 @@ ghost use Rattle.export_address.specs.Exported.{psnSeen, aunSeen, paaSeen};
 ghost use Rattle.column_parity.specs.Outcome as column_parity;
 ghost use Rattle.column_parity.specs.Promise.{CompletesExactly};
 ghost use Rattle.export_parity.specs.Exported.{completing};
+ghost use lib.ListN.{length};
+ghost use Rattle.answer_numbers.specs.Numbers.{answered};
+ghost use Rattle.address_sheet.specs.Sheet.{sheetAnswer};
+ghost use Rattle.address_sheet.specs.Promise.{RightSheet};
+ghost use Rattle.export_sheet.specs.Exported.{numbers};
 
 // Writes the image of a cluster.
 #[no_mangle]
@@ -115,4 +120,13 @@ pub extern "C" fn bdre_parity(message: &[u8], parity: &mut [u8]) -> Answered
     ensures { λ r. ⌜ CompletesExactly (now (message .entry)) (now (parity .entry)) (r .number) (now (parity .exit)) ⌝ }
 {
     export_parity::write_parity(message, parity)
+}
+
+// Judges a sheet of PSNs.
+#[no_mangle]
+pub extern "C" fn bdre_sheet(psns: &[u32]) -> Answered
+    ensures { λ r. ⌜ r ≡ answered (sheetAnswer (length (now (psns .entry))) (numbers (now (psns .entry)))) ⌝ }
+    ensures { λ r. ⌜ ((r .number ≡ 0) ↔ RightSheet (length (now (psns .entry))) (numbers (now (psns .entry)))) ⌝ }
+{
+    export_sheet::judge_sheet(psns)
 }

@@ -2,7 +2,13 @@
 use mathlib.Core.List.{List}
 use Prim.Native.Nat.{ℕ}
 use lib.ListN.{getD}
+use Rattle.laws.specs.Tabulate.{tabulate}
+use Rattle.address.specs.declared.Psn.{Psn}
 
 -- the PSN of each entry
 abbrev pub numbers : List ℕ → ℕ → ℕ
 numbers psns i = getD psns i 0
+
+-- the first 64 of them
+unfoldable pub psnsOf : List ℕ → List Psn
+psnsOf psns = tabulate 64 (λ i. record { 0 = numbers psns i })

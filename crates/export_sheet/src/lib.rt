@@ -7,19 +7,26 @@ ghost use lib.ListN.{length};
 ghost use Rattle.answer_numbers.specs.Numbers.{answered};
 ghost use Rattle.address_sheet.specs.Sheet.{sheetAnswer};
 ghost use Rattle.address_sheet.specs.Promise.{RightSheet};
-ghost use Rattle.laws.specs.Tabulate.{tabulate};
-ghost use Rattle.export_sheet.specs.Exported.{numbers};
+ghost use Rattle.export_sheet.specs.Exported.{numbers, psnsOf};
 
-// The first 64 numbers as PSNs, 0 where there are fewer.
-fn psns_of(numbers: &[u32]) -> [Psn; address_sheet::MOST]
-    ensures { λ r. ⌜ r ≡ tabulate 64 (λ i. record { 0 = numbers (now (numbers .entry)) i }) ⌝ }
+// Number i, 0 where there is none.
+fn number_at(given: &[u32], i: usize) -> u32
+    ensures { λ r. ⌜ r ≡ numbers (now (given .entry)) i ⌝ }
+{
+    if i < given.len() {
+        return given[i];
+    }
+    0
+}
+
+// The first 64 numbers as PSNs.
+fn psns_of(given: &[u32]) -> [Psn; address_sheet::MOST]
+    ensures { λ r. ⌜ r ≡ psnsOf (now (given .entry)) ⌝ }
 {
     let mut psns = [Psn(0); address_sheet::MOST];
     let mut i = 0;
     while i < address_sheet::MOST {
-        if i < numbers.len() {
-            psns[i] = Psn(numbers[i]);
-        }
+        psns[i] = Psn(number_at(given, i));
         i += 1;
     }
     psns
