@@ -1,13 +1,13 @@
-/* BD-RE clusters (ISO/IEC 30193:2021, clause 13) written, strictly read and marked, and the parity of columns: the functions of libbdre.a.
+/* BD-RE clusters (ISO/IEC 30193:2021, clause 13) written, strictly read and marked, parity of columns, sheets of PSNs: the functions of libbdre.a.
  *
  * A slice is a pointer and the number of its elements. Two things are asked of a caller, here and nowhere else: each pointer is valid
  * (not null, even for 0 elements) for that many elements, and a slice that a call writes overlaps no other slice of that call. Every
  * length, number and content gets an answer. Nothing is kept from call to call, so threads may call at the same time.
  *
  * Stack that a call takes, in bytes (measured by bench/stack; 128 KiB are the limit): write 86,368, read 90,016, mark 90,112,
- * a conversion 40, parity 66,240. No memory is allocated.
+ * a conversion 40, parity 66,240, sheet 584. No memory is allocated.
  *
- * `number` is 0 where it is done, else it says what was refused; the place is 0 unless one is named.
+ * `number` is 0 where it is done, else it says what was refused; the place is 0 unless one is named; at 6 and 7 of a sheet it is the entry.
  *
  *    1  user is not 65,536 bytes long            9  the image's last two bits are not zero
  *    2  side is not 592 bytes long              10  the sync of frame `place` is wrong (496: the closing one)
@@ -18,6 +18,8 @@
  *    7  the PSN lies in no data zone            15  the parity of LDC column `place` is wrong
  *    8  dc word `place` is above 0FFFFFFFh      16  the error-detection code of sector `place` is wrong
  *   22  the data are not 1 to 223 bytes, or the parity slice is not 32 bytes long
+ *   23  the sheet has not 1 to 64 PSNs
+ *   24  entry `place` of the sheet has the PSN of an earlier one
  */
 #ifndef BDRE_H
 #define BDRE_H
@@ -31,7 +33,7 @@ extern "C" {
 #endif
 
 /* The version of this interface, for a libbdre.a of the same version; README.md, 'Versions'. */
-#define BDRE_VERSION "2.0.1"
+#define BDRE_VERSION "2.1.0"
 
 #define BDRE_USER 65536      /* user data: 32 sectors of 2,048 bytes */
 #define BDRE_SIDE 592        /* side data: 16 flag bytes, then 32 x 18 bytes of user control data */
@@ -40,6 +42,7 @@ extern "C" {
 #define BDRE_WORK 76880      /* work: the ECC cluster */
 #define BDRE_COLUMN_DATA 223 /* the most data bytes of a column */
 #define BDRE_PARITY 32       /* the parity bytes of a column */
+#define BDRE_SHEET 64        /* the most PSNs of a sheet */
 
 struct bdre_answer {
     uint32_t number;
@@ -100,6 +103,10 @@ struct bdre_conversion bdre_aun_to_psn(uint32_t aun);
  * others). 0: parity holds the only 32 bytes that, behind the data, give the column its roots alpha^0 to alpha^31. 22: no data, more than
  * 223 bytes of it, or a parity slice that is not 32 long; the slice is as it was. */
 struct bdre_answer bdre_parity(const uint8_t *data, size_t data_length, uint8_t *parity, size_t parity_length);
+
+/* Judges a sheet of 1 to 64 PSNs as a whole. 0: each passes as it would alone and none occurs twice; no two of its clusters
+ * have equal images. Else 23, 6, 7 or 24, each tested on all entries before the next; the place of 6, 7 and 24 is the lowest such entry, from 0. */
+struct bdre_answer bdre_sheet(const uint32_t *psns, size_t count);
 
 #ifdef __cplusplus
 }

@@ -1,8 +1,8 @@
-//! BD-RE clusters (ISO/IEC 30193:2021, clause 13) written, strictly read and marked, and the parity of columns: safe calls of the functions of
-//! libbdre.a. Nothing is asked of the caller. bdre.h lists the numbers that are answered.
+//! BD-RE clusters (ISO/IEC 30193:2021, clause 13) written, strictly read and marked, parity of columns, sheets of PSNs: safe calls of the functions
+//! of libbdre.a. Nothing is asked of the caller. bdre.h lists the numbers that are answered.
 
 /// The version of this interface, for a libbdre.a of the same version; README.md, 'Versions'.
-pub const VERSION: &str = "2.0.1";
+pub const VERSION: &str = "2.1.0";
 /// User data: 32 sectors of 2,048 bytes.
 pub const USER: usize = 65_536;
 /// Side data: 16 flag bytes, then 32 x 18 bytes of user control data.
@@ -17,6 +17,8 @@ pub const WORK: usize = 76_880;
 pub const COLUMN_DATA: usize = 223;
 /// The parity bytes of a column.
 pub const PARITY: usize = 32;
+/// The most PSNs of a sheet.
+pub const SHEET: usize = 64;
 
 #[repr(C)]
 #[derive(Clone, Copy, Debug, PartialEq, Eq)]
@@ -110,6 +112,7 @@ mod c {
         pub fn bdre_psn_to_aun(psn: u32, unit: u32) -> Conversion;
         pub fn bdre_aun_to_psn(aun: u32) -> Conversion;
         pub fn bdre_parity(data: *const u8, data_length: usize, parity: *mut u8, parity_length: usize) -> Answer;
+        pub fn bdre_sheet(psns: *const u32, count: usize) -> Answer;
     }
 }
 
@@ -223,4 +226,10 @@ pub fn aun_to_psn(aun: u32) -> Conversion {
 /// to alpha^31. 22: no data, more than 223 bytes of it, or a parity slice that is not 32 long; the slice is as it was.
 pub fn parity(data: &[u8], parity: &mut [u8]) -> Answer {
     unsafe { c::bdre_parity(data.as_ptr(), data.len(), parity.as_mut_ptr(), parity.len()) }
+}
+
+/// Judges a sheet of 1 to 64 PSNs as a whole. 0: each passes as it would alone and none occurs twice; no two of its clusters have
+/// equal images. Else 23, 6, 7 or 24, each tested on all entries before the next; the place of 6, 7 and 24 is the lowest such entry, from 0.
+pub fn sheet(psns: &[u32]) -> Answer {
+    unsafe { c::bdre_sheet(psns.as_ptr(), psns.len()) }
 }

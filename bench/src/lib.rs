@@ -6,6 +6,7 @@ pub mod clusters;
 pub mod damage;
 pub mod random;
 pub mod reference;
+pub mod sheets;
 
 /// The words on the command line, which are numbers; else the program ends with status 2.
 pub fn numbers(usage: &str) -> Vec<usize> {

@@ -1,7 +1,7 @@
 //! Compares the library with the reference, and says how much was compared. Stops at the first difference, with status 1.
 //! Damaged images are read by both paths of the reference; bin/soak reads many more by the fast one alone.
 //! With the word `short`: fewer of each, and the reference's plain path, which is slow, on some clusters only.
-use bench::bdre::{self, COLUMN_DATA, DC, IMAGE, PARITY, SIDE, USER, WORK};
+use bench::bdre::{self, COLUMN_DATA, DC, IMAGE, PARITY, SHEET, SIDE, USER, WORK};
 use bench::both::{self, agree};
 use bench::clusters::{Cluster, Filled, Lent, LARGEST, ZONES};
 use bench::damage::{damage, Written};
@@ -9,7 +9,9 @@ use bench::random::Random;
 use bench::reference::columns;
 use bench::reference::fast::Fast;
 use bench::reference::plain;
-use std::collections::BTreeMap;
+use bench::reference::sheet;
+use bench::sheets::{each_sheet, random_sheet, ANSWERS};
+use std::collections::{BTreeMap, BTreeSet};
 use std::time::Instant;
 
 // ---- refusals
@@ -140,6 +142,36 @@ fn parities(r: &Random, count: usize) {
     agree(calls.keys().eq(&[0, 22]), || "an answer did not occur".into());
 }
 
+// ---- sheets
+
+/// How often each number was answered. Behind a sheet stand other numbers, which are not its own.
+fn judged(r: &Random, sheets: impl Iterator<Item = Vec<u32>>) -> BTreeMap<u32, usize> {
+    let mut calls = BTreeMap::new();
+    for psns in sheets {
+        let n = psns.len();
+        let what = || format!("sheet of {n}, {psns:08X?}");
+        let room = [&psns[..], &[r.word(), r.word()]].concat();
+        let a = bdre::sheet(&room[..n]);
+        let b = sheet::sheet(&psns);
+        agree((a.number, a.place) == b, || format!("{}: judged {a:?}, by the reference {b:?}", what()));
+        let alone = psns.iter().all(|&psn| bdre::psn_to_paa(psn).number == 0);
+        let distinct = psns.iter().collect::<BTreeSet<_>>().len() == n;
+        agree((a.number == 0) == ((1..=SHEET).contains(&n) && alone && distinct), what);
+        *calls.entry(a.number).or_insert(0) += 1;
+    }
+    calls
+}
+
+fn sheets(r: &Random, count: usize) {
+    let each = judged(r, each_sheet(r).into_iter());
+    println!("sheets, each count and place: answered {each:?} times");
+    agree(each.keys().eq(&ANSWERS), || "an answer did not occur".into());
+    let random = judged(r, (0..count).map(|_| random_sheet(r)));
+    println!("sheets, random: answered {random:?} times");
+    let often = |number| random.get(number).map_or(false, |&calls| calls >= count / 10);
+    agree(ANSWERS.iter().all(often), || "an answer was rare".into());
+}
+
 // ---- clusters and images
 
 fn clusters(r: &Random, fast: &mut Fast, count: usize, plain_every: usize) {
@@ -212,6 +244,7 @@ fn main() {
     refused_inputs(r, if short { 200 } else { 2000 });
     conversions(r, 1_000_000);
     parities(r, if short { 1000 } else { 10_000 });
+    sheets(r, if short { 2000 } else { 20_000 });
     clusters(r, &mut fast, if short { 30 } else { 240 }, if short { 4 } else { 1 });
     damaged(r, &mut fast, if short { 200 } else { 2000 }, if short { 10 } else { 1 });
     marks(r, &mut fast, if short { 30 } else { 300 });

@@ -6,6 +6,7 @@ use bench::clusters::{Cluster, Filled, Lent, LARGEST, ZONES};
 use bench::damage::{damage, Written};
 use bench::random::Random;
 use bench::reference::fast::Fast;
+use bench::sheets::{random_sheet, ANSWERS};
 use std::arch::asm;
 use std::collections::BTreeMap;
 
@@ -165,12 +166,22 @@ fn parities(stack: &mut Stack, r: &Random) -> usize {
     parity.most(&COMPLETED)
 }
 
+fn sheets(stack: &mut Stack, r: &Random) -> usize {
+    let mut sheet = Operation::new("sheet");
+    for _ in 0..400 {
+        let psns = random_sheet(r);
+        sheet.run(stack, || bdre::sheet(&psns).number);
+    }
+    sheet.most(&ANSWERS)
+}
+
 fn main() {
     let r = &Random::new(0x57AC);
     let stack = &mut Stack(vec![0; ROOM]);
     println!("bytes of stack");
     println!("{:<12}{:>10}{:>10}", "", "answer 0", "others");
-    let most = writes(stack, r).max(reads(stack, r)).max(conversions(stack)).max(parities(stack, r));
+    let most =
+        writes(stack, r).max(reads(stack, r)).max(conversions(stack)).max(parities(stack, r)).max(sheets(stack, r));
     println!("at most {most}; {LIMIT} are allowed");
     if most > LIMIT {
         std::process::exit(1);

@@ -4,3 +4,4 @@ pub mod code;
 pub mod columns;
 pub mod fast;
 pub mod plain;
+pub mod sheet;

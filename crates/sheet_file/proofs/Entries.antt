@@ -1,0 +1,115 @@
+-- Entries, one by one. Assumes nothing.
+use mathlib.Core.Path.{_≡_, refl, sym, ap, subst, _∙_}
+use mathlib.Core.Bool.{Bool, true, false, cond}
+use mathlib.Core.List.{List, [], _∷_, _++_}
+use Prim.Native.Nat.{ℕ, suc, _+_, _<_, _≤_, min}
+use native.Mathlib.Nat.{not-suc-le-zero}
+use native.Mathlib.Decide.{decLt}
+use native.Mathlib.Omega.{arith}
+use borrow.Author.Tests.{eq-eqb, ne-eqb}
+use lib.Dec.{eqb}
+use lib.ListN.{length, getD, set, length-set, length-append, List·getD-append}
+use lib.Seq.{getD-set-same, getD-set-other, getD-append-add}
+use Rattle.address.specs.declared.Psn.{Psn}
+use Rattle.address_sheet.specs.Sheet.{entries}
+use Rattle.notation.specs.declared.PsnText.{PsnText}
+use Rattle.notation.specs.Psn.{psnOf}
+use Rattle.sheet_file.specs.declared.SheetEntries.{SheetEntries}
+use Rattle.sheet_file.specs.File.{Entry, lineOf, isNumber, numberIn, wrongLine, entryAt, psnAt, lineAt}
+use Rattle.sheet_file.specs.Reading.{HoldsEntries, IsEntry}
+
+-- ---- the first line that is no PSN
+
+module _ (wrong line : ℕ) (right : Bool) where
+  abbrev pub wrongAfter : ℕ
+  wrongAfter = cond (eqb wrong 0) (cond right 0 line) wrong
+
+  pub wrong-kept : (wrong ≡ 0 → ⊥) → wrong ≡ wrongAfter
+  wrong-kept h = rw (ne-eqb wrong 0 h)
+
+  pub wrong-none : wrong ≡ 0 → right ≡ true → 0 ≡ wrongAfter
+  wrong-none e t = rw (eq-eqb wrong 0 e, t)
+
+  pub wrong-here : wrong ≡ 0 → right ≡ false → line ≡ wrongAfter
+  wrong-here e t = rw (eq-eqb wrong 0 e, t)
+
+-- an entry more
+wrong-more : (list : List Entry) (entry : Entry) → wrongLine (list ++ (entry ∷ [])) ≡ wrongAfter (wrongLine list) (lineOf entry) (isNumber (psnOf (entry .text)))
+unfolding wrongLine
+wrong-more [] entry = refl
+wrong-more (e ∷ list) entry = by (isNumber (psnOf (e .text))) (wrong-more list entry)
+  where
+    by : (t : Bool) → wrongLine (list ++ (entry ∷ [])) ≡ wrongAfter (wrongLine list) (lineOf entry) (isNumber (psnOf (entry .text)))
+        → cond t (wrongLine (list ++ (entry ∷ []))) (lineOf e) ≡ wrongAfter (cond t (wrongLine list) (lineOf e)) (lineOf entry) (isNumber (psnOf (entry .text)))
+    by true rest = rest
+    by false rest = wrong-kept (lineOf e) (lineOf entry) (isNumber (psnOf (entry .text))) (λ z. omega (arith, z))
+
+-- ---- the entries
+
+-- an entry of the longer list
+module _ (list : List Entry) (entry : Entry) where
+  longer : length (list ++ (entry ∷ [])) ≡ suc (length list)
+  longer = omega (arith, length-append list (entry ∷ []))
+
+  old-at : (i : ℕ) → i < length list → entryAt (list ++ (entry ∷ [])) i ≡ entryAt list i
+  old-at i h = List·getD-append list (entry ∷ []) (record { before = 0; text = [] }) i h
+
+  new-at : (i : ℕ) → i ≡ length list → entryAt (list ++ (entry ∷ [])) i ≡ entry
+  new-at i e = ap (entryAt (list ++ (entry ∷ []))) {y = length list + 0} (omega (arith, e)) ∙ getD-append-add list (entry ∷ []) 0 (record { before = 0; text = [] })
+
+  module _ {held : SheetEntries} {psn line wrong : ℕ} {right : Bool} (holds : HoldsEntries list held) (is : IsEntry entry psn right line) (hw : wrong ≡ wrongAfter (held .wrong) line right) where
+    is-wrong : wrong ≡ wrongLine (list ++ (entry ∷ []))
+    is-wrong =
+        hw
+        ∙ (λ i. wrongAfter (holds .wrong i) (is .own-line i) (is .is-psn i))
+        ∙ sym (wrong-more list entry)
+
+    -- there is no room for it
+    pub entry-past : 64 ≤ held .count → HoldsEntries (list ++ (entry ∷ [])) (record { psns = held .psns; lines = held .lines; count = 65; wrong = wrong })
+    entry-past h =
+        let many : 64 ≤ length list = omega (arith, h, holds .count) in
+        record {
+          psns-room = holds .psns-room;
+          lines-room = holds .lines-room;
+          count = omega (arith, many, longer);
+          psns = λ i lt _. holds .psns i lt (omega arith) ∙ sym (ap (λ (e : Entry). numberIn (psnOf (e .text))) (old-at i (omega arith)));
+          lines = λ i lt _. holds .lines i lt (omega arith) ∙ sym (ap lineOf (old-at i (omega arith)));
+          wrong = is-wrong;
+        }
+
+    pub entry-more : (p : Psn) → p .0 ≡ psn → held .count < 64
+        → HoldsEntries (list ++ (entry ∷ [])) (record { psns = set (held .psns) (held .count) p; lines = set (held .lines) (held .count) line; count = held .count + 1; wrong = wrong })
+    entry-more p hp h =
+        record {
+          psns-room = length-set (held .psns) (held .count) p ∙ holds .psns-room;
+          lines-room = length-set (held .lines) (held .count) line ∙ holds .lines-room;
+          count = omega (arith, all, longer, h);
+          psns = λ i lt within.
+              elim (decLt i (length list)) [
+                | yes old ↦
+                    ap (λ (q : Psn). q .0) (getD-set-other (held .psns) (held .count) i p (record { 0 = 0 }) (λ e. omega (arith, e, old, all)))
+                    ∙ holds .psns i lt old
+                    ∙ sym (ap (λ (e : Entry). numberIn (psnOf (e .text))) (old-at i old))
+                | no new ↦
+                    let last : i ≡ held .count = omega (arith, new, within, longer, all) in
+                    ap (λ (j : ℕ). getD (set (held .psns) (held .count) p) j (record { 0 = 0 }) .0) last
+                    ∙ ap (λ (q : Psn). q .0) (getD-set-same (held .psns) (held .count) p (record { 0 = 0 }) (omega (arith, h, holds .psns-room)))
+                    ∙ hp
+                    ∙ is .own-psn
+                    ∙ sym (ap (λ (e : Entry). numberIn (psnOf (e .text))) (new-at i (omega (arith, last, all))))
+              ];
+          lines = λ i lt within.
+              elim (decLt i (length list)) [
+                | yes old ↦ getD-set-other (held .lines) (held .count) i line 0 (λ e. omega (arith, e, old, all)) ∙ holds .lines i lt old ∙ sym (ap lineOf (old-at i old))
+                | no new ↦
+                    let last : i ≡ held .count = omega (arith, new, within, longer, all) in
+                    ap (λ (j : ℕ). getD (set (held .lines) (held .count) line) j 0) last
+                    ∙ getD-set-same (held .lines) (held .count) line 0 (omega (arith, h, holds .lines-room))
+                    ∙ is .own-line
+                    ∙ sym (ap lineOf (new-at i (omega (arith, last, all))))
+              ];
+          wrong = is-wrong;
+        }
+      where
+        all : held .count ≡ length list
+        all = omega (arith, holds .count, h)
