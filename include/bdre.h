@@ -104,8 +104,8 @@ struct bdre_conversion bdre_aun_to_psn(uint32_t aun);
  * 223 bytes of it, or a parity slice that is not 32 long; the slice is as it was. */
 struct bdre_answer bdre_parity(const uint8_t *data, size_t data_length, uint8_t *parity, size_t parity_length);
 
-/* Judges a sheet of 1 to 64 PSNs as a whole. 0: each passes as it would alone and none occurs twice; no two of its clusters
- * have equal images. Else 23, 6, 7 or 24, each tested on all entries before the next; the place of 6, 7 and 24 is the lowest such entry, from 0. */
+/* Judges a sheet of PSNs as a whole. 0: each would pass alone and none occurs twice; no two of its clusters have equal images. Else the first that
+ * fits: 23, not 1 to 64 PSNs; 6, no multiple of 32; 7, in no data zone; 24, the PSN of an earlier entry. Place of 6, 7, 24: the lowest entry, from 0. */
 struct bdre_answer bdre_sheet(const uint32_t *psns, size_t count);
 
 #ifdef __cplusplus

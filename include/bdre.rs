@@ -228,8 +228,8 @@ pub fn parity(data: &[u8], parity: &mut [u8]) -> Answer {
     unsafe { c::bdre_parity(data.as_ptr(), data.len(), parity.as_mut_ptr(), parity.len()) }
 }
 
-/// Judges a sheet of 1 to 64 PSNs as a whole. 0: each passes as it would alone and none occurs twice; no two of its clusters have
-/// equal images. Else 23, 6, 7 or 24, each tested on all entries before the next; the place of 6, 7 and 24 is the lowest such entry, from 0.
+/// Judges a sheet of PSNs as a whole. 0: each would pass alone and none occurs twice; no two of its clusters have equal images. Else the first that
+/// fits: 23, not 1 to 64 PSNs; 6, no multiple of 32; 7, in no data zone; 24, the PSN of an earlier entry. Place of 6, 7, 24: the lowest entry, from 0.
 pub fn sheet(psns: &[u32]) -> Answer {
     unsafe { c::bdre_sheet(psns.as_ptr(), psns.len()) }
 }

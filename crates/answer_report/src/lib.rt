@@ -9,7 +9,7 @@ ghost use Rattle.texts.specs.Text.{added, textOf};
 ghost use Rattle.report.specs.Words.{meaning, answerText};
 
 // What an answer means; nothing for 0.
-fn put_meaning(text: Text, answer: Answer) -> Text
+pub fn put_meaning(text: Text, answer: Answer) -> Text
     ensures { λ r. ⌜ r ≡ added text (meaning answer) ⌝ }
 {
     // The piece of the answer's number, with its place. No answer has 17 to 21.

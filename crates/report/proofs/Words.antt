@@ -20,7 +20,7 @@ use Rattle.report.specs.Words.{meaning, answerText, psnText, firstText, 
 
 -- ---- every text has room
 
-meaning-short : (a : Answer) → length (meaning a) ≤ 66
+pub meaning-short : (a : Answer) → length (meaning a) ≤ 66
 meaning-short Done = omega arith
 meaning-short (WrongUser n) = omega arith
 meaning-short WrongSide = omega arith

@@ -1,0 +1,2 @@
+-- Laws of what is printed for a sheet's file.
+pub mod Words

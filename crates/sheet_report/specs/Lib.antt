@@ -1,0 +1,2 @@
+-- What is printed for a sheet's file.
+pub mod Said
