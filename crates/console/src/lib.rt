@@ -34,7 +34,7 @@ fn wrong_length(path: &[u8], wanted: usize) {
 }
 
 // Argument i, a file's name, at the start of name; 0 where there is none.
-fn file_name(i: usize, name: &mut [u8]) -> usize
+pub fn file_name(i: usize, name: &mut [u8]) -> usize
     ensures { λ r. ⌜ Counts r (now (name .exit)) ⌝ }
 {
     let n = os::arg(i, name);

@@ -1,0 +1,50 @@
+-- `read_all` is safe and ends.
+use Prim.Native.Nat.{_≤_, _-_, _^_}
+use borrow.Author.Needs.{needs}
+use Rattle.sheet.proofs.read_all.Statement.{statement}
+use Rattle.sheet.proofs.read_all.Tie as tie
+
+abbrev Inv-loop : tie.InvT-loop
+Inv-loop fd file₀ turn₀ file turn = turn ≤ 2 ^ 47
+
+abbrev μ-loop : tie.MeasureT-loop
+μ-loop fd file₀ turn₀ file turn = 2 ^ 47 - turn
+
+start-requires : tie.Need-start-requires Inv-loop μ-loop
+start-requires c κs = search needs
+
+loop-holds : tie.Need-loop-holds Inv-loop μ-loop
+loop-holds c = search needs
+
+read-part-requires : tie.Need-read-part-requires Inv-loop μ-loop
+read-part-requires c κs = search needs
+
+returns : tie.Need-returns Inv-loop μ-loop
+returns c = search needs
+
+add-counter : tie.Need-add-counter Inv-loop μ-loop
+add-counter c = search needs
+
+loop-less : tie.Need-loop-less Inv-loop μ-loop
+loop-less c = search needs
+
+loop-again : tie.Need-loop-again Inv-loop μ-loop
+loop-again c = search needs
+
+returns-2 : tie.Need-returns-2 Inv-loop μ-loop
+returns-2 c = search needs
+
+pub read-all-spec : {M : Type 1} → statement M
+read-all-spec =
+    tie.close
+    (tie.spec
+    Inv-loop
+    μ-loop
+    start-requires
+    loop-holds
+    read-part-requires
+    returns
+    add-counter
+    loop-less
+    loop-again
+    returns-2)
