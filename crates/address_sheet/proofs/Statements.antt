@@ -141,7 +141,7 @@ module _ (count : ℕ) (f g : ℕ → ℕ) (agree : (i : ℕ) → i < count → 
     same-repeats : first count (repeats f) ≡ first count (repeats g)
     same-repeats =
         first-ext count (repeats f) (repeats g) (λ i h.
-            ap (λ (j : ℕ). ltb j i) (first-ext i (sameAs f i) (sameAs g i) (λ j lt. ap₂ eqb (same j (omega arith)) (same i h))))
+        ap (λ (j : ℕ). ltb j i) (first-ext i (sameAs f i) (sameAs g i) (λ j lt. ap₂ eqb (same j (omega arith)) (same i h))))
 
     same-entries : entriesAnswer count f ≡ entriesAnswer count g
     same-entries i = andThen (lowest NoMultiple count (same-by 6 i)) (andThen (lowest NoZone count (same-by 7 i)) (lowest Repeated count (same-repeats i)))

@@ -1,2 +1,3 @@
 -- The images of a sheet's clusters.
 pub mod Statements
+pub mod Counterexamples
