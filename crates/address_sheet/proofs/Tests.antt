@@ -1,19 +1,17 @@
 -- The tests of a sheet, case by case. Assumes nothing.
 use mathlib.Core.Path.{_≡_, refl, sym, ap, _∙_}
 use mathlib.Core.Bool.{Bool, true, false, cond, _&&_}
-use mathlib.Core.List.{List}
 use Prim.Native.Nat.{ℕ, _+_, _-_, _<_, _≤_}
-use native.Mathlib.Decide.{decLt}
 use native.Mathlib.Omega.{arith}
 use borrow.Author.Tests.{eq-eqb, ne-eqb, eqb-true, eqb-false, lt-ltb, le-ltb, ltb-true, ltb-false, le-leb, lt-leb, leb-true}
-use lib.Dec.{leb, ltb, eqb}
+use lib.Dec.{leb}
 use Rattle.answer.specs.declared.Answer.{Answer}
 use Rattle.answer.specs.declared.Answer.the-variants.{Done, NoMultiple, NoZone, WrongCount, Repeated}
 use Rattle.answer.specs.Answer.{numberOf, isDone, andThen}
 use Rattle.answer.proofs.Tests.{done-not, then-next, then-here, lowest-here, lowest-none, lowest-done}
 use Rattle.address.specs.Judged.{judged}
 use Rattle.laws.specs.First.{first}
-use Rattle.laws.proofs.First.{Passed, passed-more, first-here, first-past, first-at, first-all, first-none, first-holds}
+use Rattle.laws.proofs.First.{Passed, passed-more, first-here, first-past, first-all, first-holds}
 use Rattle.address_sheet.specs.Sheet.{countAnswer, aloneBy, sameAs, repeats, overAll, entriesAnswer}
 use Rattle.address_sheet.specs.Promise.{RightCount, RepeatsEarlier}
 

@@ -1,9 +1,8 @@
 -- Entries, one by one. Assumes nothing.
-use mathlib.Core.Path.{_≡_, refl, sym, ap, subst, _∙_}
+use mathlib.Core.Path.{_≡_, refl, sym, ap, _∙_}
 use mathlib.Core.Bool.{Bool, true, false, cond}
 use mathlib.Core.List.{List, [], _∷_, _++_}
-use Prim.Native.Nat.{ℕ, suc, _+_, _<_, _≤_, min}
-use native.Mathlib.Nat.{not-suc-le-zero}
+use Prim.Native.Nat.{ℕ, suc, _+_, _<_, _≤_}
 use native.Mathlib.Decide.{decLt}
 use native.Mathlib.Omega.{arith}
 use borrow.Author.Tests.{eq-eqb, ne-eqb}
@@ -12,10 +11,9 @@ use lib.ListN.{length, getD, set, length-set, length-append, List·getD-append}
 use lib.Seq.{getD-set-same, getD-set-other, getD-append-add}
 use Rattle.address.specs.declared.Psn.{Psn}
 use Rattle.address_sheet.specs.Sheet.{entries}
-use Rattle.notation.specs.declared.PsnText.{PsnText}
 use Rattle.notation.specs.Psn.{psnOf}
 use Rattle.sheet_file.specs.declared.SheetEntries.{SheetEntries}
-use Rattle.sheet_file.specs.File.{Entry, lineOf, isNumber, numberIn, wrongLine, entryAt, psnAt, lineAt}
+use Rattle.sheet_file.specs.File.{Entry, lineOf, isNumber, numberIn, wrongLine, entryAt}
 use Rattle.sheet_file.specs.Reading.{HoldsEntries, IsEntry}
 
 -- ---- the first line that is no PSN

@@ -1,20 +1,18 @@
 -- A file, byte by byte. Assumes nothing.
 use mathlib.Core.Path.{_≡_, refl, sym, ap, subst, _∙_}
-use mathlib.Core.Bool.{Bool, true, false, cond}
+use mathlib.Core.Bool.{Bool, cond}
 use mathlib.Core.List.{List, [], _∷_, _++_, append-nil, append-assoc}
-use Prim.Native.Nat.{ℕ, suc, _+_, _^_, _<_, _≤_, min}
+use Prim.Native.Nat.{ℕ, suc, _+_, _^_, _<_, _≤_}
 use native.Mathlib.Numerals.{add-one}
 use native.Mathlib.Omega.{arith}
 use borrow.Author.Tests.{eq-eqb, ne-eqb}
-use lib.Dec.{eqb}
 use lib.ListN.{length, getD, take, length-append}
 use lib.Seq.{length-take-le, take-all, take-suc}
 use Rattle.notation.specs.declared.PsnText.{PsnText}
-use Rattle.notation.specs.Psn.{psnOf}
 use Rattle.sheet_file.specs.declared.Line.{Line}
 use Rattle.sheet_file.specs.declared.SheetEntries.{SheetEntries}
 use Rattle.sheet_file.specs.declared.SheetFile.{SheetFile}
-use Rattle.sheet_file.specs.File.{linesFrom, trimmed, Entry, entryOn, entriesFrom, fileEntries, lineOf, isNumber, numberIn}
+use Rattle.sheet_file.specs.File.{linesFrom, trimmed, Entry, entryOn, entriesFrom, fileEntries, isNumber, numberIn}
 use Rattle.sheet_file.specs.Reading.{shownPsn, HoldsLine, HoldsEntries, IsEntry, HasRead}
 use Rattle.sheet_file.proofs.Lines.{line-psn}
 

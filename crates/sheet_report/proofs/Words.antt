@@ -9,7 +9,6 @@ use borrow.Author.Tests.{eq-eqb, ne-eqb}
 use lib.Dec.{eqb}
 use lib.ListN.{length, getD, length-append}
 use Rattle.answer.specs.declared.Answer.{Answer}
-use Rattle.answer.specs.declared.Answer.the-variants.{WrongCount}
 use Rattle.answer.specs.Answer.{numberOf, placeOf, isDone}
 use Rattle.answer.proofs.Tests.{done-is}
 use Rattle.address_sheet.specs.Sheet.{sheetAnswer, entries}

@@ -2,7 +2,6 @@
 use mathlib.Core.Path.{sym}
 use native.Mathlib.Omega.{arith}
 use Rattle.address_sheet.proofs.Tests.{no-entries, many-entries, count-right}
-use borrow.Author.Needs.{needs}
 use Rattle.address_sheet.proofs.judge_count.Statement.{statement}
 use Rattle.address_sheet.proofs.judge_count.Tie as tie
 

@@ -14,7 +14,9 @@ of-requires : tie.Need-of-requires
 of-requires c κs = search needs
 
 returns : tie.Need-returns
-returns c = let call = c .before in judges-numbers _ (call .before .psns-of .ensures) (call .judge .ensures .0) (c .of .ensures)
+returns c =
+    let call = c .before in
+    judges-numbers _ (call .before .psns-of .ensures) (call .judge .ensures .0) (c .of .ensures)
 
 pub judge-sheet-spec : {M : Type 1} → statement M
 judge-sheet-spec = tie.close (tie.spec psns-of-requires judge-requires of-requires returns)

@@ -1,9 +1,7 @@
 -- `psns_of` meets its contract: a PSN a turn (Exported; laws, Fill).
 use mathlib.Core.Path.{ap}
 use Prim.Native.Nat.{ℕ, _-_}
-use native.Mathlib.Omega.{arith}
 use Rattle.laws.proofs.Fill.{upto-none, upto-more, upto-all}
-use Rattle.address.specs.declared.Psn.{Psn}
 use Rattle.export_sheet.specs.Exported.{psnsOf}
 use Rattle.export_sheet.proofs.Exported.{Taken}
 use borrow.Author.Needs.{needs}
@@ -35,7 +33,9 @@ loop-less : tie.Need-loop-less Inv-loop μ-loop
 loop-less c = search needs
 
 loop-again : tie.Need-loop-again Inv-loop μ-loop
-loop-again c = let turn = c .before .before in upto-more {n = 64} (search needs) (ap (λ (n : ℕ). record { 0 = n }) (c .number-at .ensures)) (turn .loop .inv)
+loop-again c =
+    let turn = c .before .before in
+    upto-more {n = 64} (search needs) (ap (λ (n : ℕ). record { 0 = n }) (c .number-at .ensures)) (turn .loop .inv)
 
 returns : tie.Need-returns Inv-loop μ-loop
 unfolding psnsOf

@@ -1,5 +1,5 @@
 -- `end_line` meets its contract: a blank line, a PSN, and another text (Files).
-use mathlib.Core.Path.{refl, sym, ap}
+use mathlib.Core.Path.{sym, ap}
 use Rattle.sheet_file.specs.File.{isNumber, numberIn}
 use Rattle.sheet_file.proofs.Files.{ends-blank, ends-entry}
 use borrow.Author.Needs.{needs}
@@ -28,10 +28,18 @@ add-entry-requires-2 : tie.Need-add-entry-requires-2
 add-entry-requires-2 c κs = search needs
 
 returns-2 : tie.Need-returns-2
-returns-2 c = let told = c .before .before in let numbered = told .before .before in let on = numbered .before in ends-entry (on .before .if1 .left) (on .psn-on .ensures) (numbered .next .ensures) (sym (ap numberIn (told .shown .given .1))) (sym (ap isNumber (told .shown .given .1))) (c .add-entry .ensures)
+returns-2 c =
+    let told = c .before .before in
+    let numbered = told .before .before in
+    let on = numbered .before in
+    ends-entry (on .before .if1 .left) (on .psn-on .ensures) (numbered .next .ensures) (sym (ap numberIn (told .shown .given .1))) (sym (ap isNumber (told .shown .given .1))) (c .add-entry .ensures)
 
 returns-3 : tie.Need-returns-3
-returns-3 c = let told = c .before in let numbered = told .before .before in let on = numbered .before in ends-entry (on .before .if1 .left) (on .psn-on .ensures) (numbered .next .ensures) (sym (ap numberIn (told .enum-told .given .1))) (sym (ap isNumber (told .enum-told .given .1))) (c .add-entry2 .ensures)
+returns-3 c =
+    let told = c .before in
+    let numbered = told .before .before in
+    let on = numbered .before in
+    ends-entry (on .before .if1 .left) (on .psn-on .ensures) (numbered .next .ensures) (sym (ap numberIn (told .enum-told .given .1))) (sym (ap isNumber (told .enum-told .given .1))) (c .add-entry2 .ensures)
 
 pub end-line-spec : {M : Type 1} → statement M
 end-line-spec =

@@ -1,6 +1,5 @@
 -- `is_white` meets its contract, byte by byte (Lines).
 use Rattle.sheet_file.proofs.Lines.{white-9, white-13, white-32}
-use borrow.Author.Needs.{needs}
 use Rattle.sheet_file.proofs.is_white.Statement.{statement}
 use Rattle.sheet_file.proofs.is_white.Tie as tie
 

@@ -2,7 +2,6 @@
 use mathlib.Core.Path.{refl}
 use native.Mathlib.Nat.{not-suc-le-zero}
 use Rattle.sheet_file.specs.File.{trimmed}
-use borrow.Author.Needs.{needs}
 use Rattle.sheet_file.proofs.no_line.Statement.{statement}
 use Rattle.sheet_file.proofs.no_line.Tie as tie
 

@@ -18,7 +18,9 @@ psn-of-requires : tie.Need-psn-of-requires
 psn-of-requires c κs = search needs
 
 returns-2 : tie.Need-returns-2
-returns-2 c = let start = c .before .before in c .psn-of .ensures ∙ sym (ap (λ (t : Bool). cond t (psnOf (start .before .args .t1)) NoNumber) (eq-eqb _ 8 (start .if1 .left)))
+returns-2 c =
+    let start = c .before .before in
+    c .psn-of .ensures ∙ sym (ap (λ (t : Bool). cond t (psnOf (start .before .args .t1)) NoNumber) (eq-eqb _ 8 (start .if1 .left)))
 
 pub psn-on-spec : {M : Type 1} → statement M
 psn-on-spec = tie.close (tie.spec returns slice-aggregate-psn-of psn-of-requires returns-2)

@@ -28,7 +28,9 @@ loop-less : tie.Need-loop-less Inv-loop μ-loop
 loop-less c = search needs
 
 loop-again : tie.Need-loop-again Inv-loop μ-loop
-loop-again c = let turn = c .before .before .before in reads-more (turn .loop .inv) (search needs) (c .step .ensures)
+loop-again c =
+    let turn = c .before .before .before in
+    reads-more (turn .loop .inv) (search needs) (c .step .ensures)
 
 returns : tie.Need-returns Inv-loop μ-loop
 returns c = reads-all (c .before .loop .inv) (search needs)

@@ -14,7 +14,10 @@ end-line-requires : tie.Need-end-line-requires
 end-line-requires c κs = search needs
 
 returns : tie.Need-returns
-returns c = let one = c .before in let none = one .before in steps-end _ _ (none .before .if1 .taken) (none .no-line .ensures) (one .next .ensures) (c .end-line .ensures)
+returns c =
+    let one = c .before in
+    let none = one .before in
+    steps-end _ _ (none .before .if1 .taken) (none .no-line .ensures) (one .next .ensures) (c .end-line .ensures)
 
 add-byte-requires : tie.Need-add-byte-requires
 add-byte-requires c κs = search needs

@@ -1,6 +1,5 @@
 -- `wrong_after` meets its contract, case by case (Entries).
 use Rattle.sheet_file.proofs.Entries.{wrong-kept, wrong-none, wrong-here}
-use borrow.Author.Needs.{needs}
 use Rattle.sheet_file.proofs.wrong_after.Statement.{statement}
 use Rattle.sheet_file.proofs.wrong_after.Tie as tie
 

@@ -1,7 +1,6 @@
 -- `line_at` meets its contract: within the array and past it.
 use mathlib.Core.Path.{sym}
-use native.Mathlib.Omega.{arith}
-use lib.ListN.{length, List·getD-eq-default}
+use lib.ListN.{List·getD-eq-default}
 use borrow.Author.Needs.{needs}
 use Rattle.sheet_report.proofs.line_at.Statement.{statement}
 use Rattle.sheet_report.proofs.line_at.Tie as tie

@@ -11,10 +11,14 @@ returns : tie.Need-returns
 returns c = names-6 (c .before .before .args .answer) (c .before .number .ensures) (c .if1 .taken)
 
 returns-2 : tie.Need-returns-2
-returns-2 c = let told = c .before .before in names-7 (told .before .args .answer) (told .number .ensures) (c .before .if1 .left) (c .if2 .taken)
+returns-2 c =
+    let told = c .before .before in
+    names-7 (told .before .args .answer) (told .number .ensures) (c .before .if1 .left) (c .if2 .taken)
 
 returns-3 : tie.Need-returns-3
-returns-3 c = let told = c .before .before in names-24 (told .before .args .answer) (told .number .ensures) (c .before .if1 .left) (c .if2 .left)
+returns-3 c =
+    let told = c .before .before in
+    names-24 (told .before .args .answer) (told .number .ensures) (c .before .if1 .left) (c .if2 .left)
 
 pub names-entry-spec : {M : Type 1} → statement M
 names-entry-spec = tie.close (tie.spec number-requires returns returns-2 returns-3)

@@ -16,10 +16,15 @@ put-piece-requires c κs = search needs
 
 returns : tie.Need-returns
 unfolding piece
-returns c = let named = c .before .before in let args = named .before .before .args in line-put (args .answer) (args .line) (args .text) (named .before .names-entry .ensures) (named .if1 .taken) (c .put-piece .ensures)
+returns c =
+    let named = c .before .before in
+    let args = named .before .before .args in
+    line-put (args .answer) (args .line) (args .text) (named .before .names-entry .ensures) (named .if1 .taken) (c .put-piece .ensures)
 
 returns-2 : tie.Need-returns-2
-returns-2 c = let args = c .before .before .args in line-not (args .answer) (args .line) (args .text) (c .before .names-entry .ensures) (c .if1 .left)
+returns-2 c =
+    let args = c .before .before .args in
+    line-not (args .answer) (args .line) (args .text) (c .before .names-entry .ensures) (c .if1 .left)
 
 pub put-line-spec : {M : Type 1} → statement M
 put-line-spec =

@@ -11,7 +11,9 @@ blank-requires : tie.Need-blank-requires
 blank-requires c κs = search needs
 
 returns : tie.Need-returns
-returns c = λ bytes short read. let call = c .before .before .before .before in wrong-said bytes (call .finish .ensures bytes short read) (c .before .if1 .taken) (c .blank .ensures)
+returns c = λ bytes short read.
+    let call = c .before .before .before .before in
+    wrong-said bytes (call .finish .ensures bytes short read) (c .before .if1 .taken) (c .blank .ensures)
 
 judge-requires : tie.Need-judge-requires
 judge-requires c κs = search needs
@@ -26,7 +28,13 @@ sheet-text-requires : tie.Need-sheet-text-requires
 sheet-text-requires c κs = search needs
 
 returns-2 : tie.Need-returns-2
-returns-2 c = λ bytes short read. let lined = c .before in let placed = lined .before in let judged = placed .before in let none = judged .before in let call = none .before .before .before in right-said bytes (call .finish .ensures bytes short read) (none .if1 .left) (judged .judge .ensures .0) (placed .place .ensures) (lined .line-at .ensures) (c .sheet-text .ensures)
+returns-2 c = λ bytes short read.
+    let lined = c .before in
+    let placed = lined .before in
+    let judged = placed .before in
+    let none = judged .before in
+    let call = none .before .before .before in
+    right-said bytes (call .finish .ensures bytes short read) (none .if1 .left) (judged .judge .ensures .0) (placed .place .ensures) (lined .line-at .ensures) (c .sheet-text .ensures)
 
 pub said-spec : {M : Type 1} → statement M
 said-spec =
