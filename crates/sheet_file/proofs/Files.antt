@@ -50,9 +50,6 @@ ends-entry {held} {r} {line} {before} some hs hn hp hr add list begun h entries 
 
 -- ---- a byte more
 
-pub read-none : {line : Line} {held : SheetEntries} → HoldsLine [] line → HoldsEntries [] held → HasRead [] (record { line = line; before = 0; entries = held })
-read-none line entries = record { ended = []; begun = []; before = omega arith; line = line; entries = entries; whole = λ rest. refl }
-
 -- what a byte promises
 abbrev pub Steps : SheetFile → ℕ → SheetFile → Type 0
 Steps file b r = (bytes : List ℕ) → length bytes < 2 ^ 63 → HasRead bytes file → HasRead (bytes ++ (b ∷ [])) r
