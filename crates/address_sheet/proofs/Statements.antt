@@ -5,12 +5,12 @@ use mathlib.Core.Logic.{_↔_}
 use Prim.Native.Nat.{ℕ, _<_, _≤_}
 use native.Mathlib.Decide.{decLt}
 use native.Mathlib.Omega.{arith}
-use borrow.Author.Tests.{eq-eqb, ne-eqb, eqb-false, ltb-true}
+use borrow.Author.Tests.{eq-eqb, ne-eqb, eqb-false}
 use lib.Dec.{ltb, eqb}
 use Rattle.answer.specs.declared.Answer.{Answer}
 use Rattle.answer.specs.declared.Answer.the-variants.{Done, NoMultiple, NoZone, WrongCount, Repeated}
 use Rattle.answer.specs.Answer.{numberOf, placeOf, isDone, andThen, lowest}
-use Rattle.answer.proofs.Tests.{done-is, done-told, done-not, then-next, then-here, then-done, goes-on, stops}
+use Rattle.answer.proofs.Tests.{done-is, done-told, done-not, then-next, then-here, then-done, then-within, goes-on, stops, lowest-within}
 use Rattle.address.specs.Judged.{judged}
 use Rattle.address.proofs.Judging.{accepted-else}
 use Rattle.laws.specs.First.{first}
@@ -156,27 +156,13 @@ module _ (count : ℕ) (f g : ℕ → ℕ) (agree : (i : ℕ) → i < count → 
 
 -- ---- the place of a refusal is an entry
 
-over-within : (refusal : ℕ → Answer) (count i : ℕ) → placeOf (refusal i) ≡ i → isDone (lowest refusal count i) ≡ false → placeOf (lowest refusal count i) < count
-over-within refusal count i own e = by (ltb i count) refl e
-  where
-    by : (t : Bool) → ltb i count ≡ t → isDone (cond t (refusal i) Done) ≡ false → placeOf (cond t (refusal i) Done) < count
-    by true t e = omega (arith, own, ltb-true i count t)
-    by false t e = absurd (done-not Done e refl)
-
-then-within : (a b : Answer) (count : ℕ) → (isDone a ≡ false → placeOf a < count) → (isDone b ≡ false → placeOf b < count) → isDone (andThen a b) ≡ false → placeOf (andThen a b) < count
-then-within a b count ha hb e = by (isDone a) refl e
-  where
-    by : (t : Bool) → isDone a ≡ t → isDone (cond t b a) ≡ false → placeOf (cond t b a) < count
-    by true t e = hb e
-    by false t e = ha t
-
 pub place-within : (count : ℕ) (psn : ℕ → ℕ) → RightCount count → isDone (sheetAnswer count psn) ≡ false → placeOf (sheetAnswer count psn) < count
 place-within count psn size e =
     let is = counted count psn size in
     subst (λ (a : Answer). placeOf a < count) (sym is)
-    (then-within (overAll NoMultiple count (aloneBy 6 psn)) (tests7 count psn) count (over-within NoMultiple count (first count (aloneBy 6 psn)) refl)
-    (then-within (overAll NoZone count (aloneBy 7 psn)) (overAll Repeated count (repeats psn)) count (over-within NoZone count (first count (aloneBy 7 psn)) refl)
-    (over-within Repeated count (first count (repeats psn)) refl)) (sym (ap isDone is) ∙ e))
+    (then-within (overAll NoMultiple count (aloneBy 6 psn)) (tests7 count psn) count (lowest-within NoMultiple count (first count (aloneBy 6 psn)) refl)
+    (then-within (overAll NoZone count (aloneBy 7 psn)) (overAll Repeated count (repeats psn)) count (lowest-within NoZone count (first count (aloneBy 7 psn)) refl)
+    (lowest-within Repeated count (first count (repeats psn)) refl)) (sym (ap isDone is) ∙ e))
 
 -- where 23 is not the answer, the count is right
 pub count-else : (count : ℕ) (psn : ℕ → ℕ) → (sheetAnswer count psn ≡ WrongCount → ⊥) → RightCount count

@@ -4,10 +4,11 @@ use mathlib.Core.Bool.{Bool, true, false, cond}
 use Prim.Native.Nat.{ℕ, _<_, _≤_}
 use native.Mathlib.Decide.{decLt}
 use native.Mathlib.Omega.{arith}
-use borrow.Author.Tests.{ne-eqb, eqb-true, lt-ltb, le-ltb}
+use borrow.Author.Tests.{ne-eqb, eqb-true, lt-ltb, le-ltb, ltb-true}
+use lib.Dec.{ltb}
 use Rattle.answer.specs.declared.Answer.{Answer}
 use Rattle.answer.specs.declared.Answer.the-variants.{Done, WrongUser, WrongSide, WrongDc, WrongImage, WrongWork, NoMultiple, NoZone, DcWord, LastBits, Sync, Frame, BisColumn, AddressUnit, NoPsn, LdcColumn, Sector, WrongColumn, WrongCount, Repeated}
-use Rattle.answer.specs.Answer.{numberOf, isDone, andThen, lowest}
+use Rattle.answer.specs.Answer.{numberOf, placeOf, isDone, andThen, lowest}
 
 -- the answer whose number is 0 is `Done`
 pub number-zero : (a : Answer) → numberOf a ≡ 0 → a ≡ Done
@@ -99,3 +100,20 @@ module _ (refusal : ℕ → Answer) {n i : ℕ} where
         | yes h ↦ absurd (done-not (refusal i) (r i) (sym (lowest-here h) ∙ e))
         | no h ↦ omega arith
       ]
+
+-- ---- the places of refusals, below n
+
+pub lowest-within : (refusal : ℕ → Answer) (n i : ℕ) → placeOf (refusal i) ≡ i → isDone (lowest refusal n i) ≡ false → placeOf (lowest refusal n i) < n
+lowest-within refusal n i own e = by (ltb i n) refl e
+  where
+    by : (t : Bool) → ltb i n ≡ t → isDone (cond t (refusal i) Done) ≡ false → placeOf (cond t (refusal i) Done) < n
+    by true t e = omega (arith, own, ltb-true i n t)
+    by false t e = absurd (done-not Done e refl)
+
+pub then-within : (a next : Answer) (n : ℕ) → (isDone a ≡ false → placeOf a < n) → (isDone next ≡ false → placeOf next < n)
+    → isDone (andThen a next) ≡ false → placeOf (andThen a next) < n
+then-within a next n ha hn e = by (isDone a) refl e
+  where
+    by : (t : Bool) → isDone a ≡ t → isDone (cond t next a) ≡ false → placeOf (cond t next a) < n
+    by true t e = hn e
+    by false t e = ha t

@@ -33,10 +33,10 @@ returns-3 : tie.Need-returns-3
 returns-3 c = search needs
 
 returns-4 : tie.Need-returns-4
-returns-4 c = search needs
+returns-4 c = sym (ap placeIn (c .before .self2 .given .1))
 
 returns-5 : tie.Need-returns-5
-returns-5 c = search needs
+returns-5 c = sym (ap placeIn (c .before .self3 .given .1))
 
 pub place-spec : {M : Type 1} → statement M
 place-spec =
