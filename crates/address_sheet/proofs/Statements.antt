@@ -5,7 +5,7 @@ use mathlib.Core.Logic.{_↔_}
 use Prim.Native.Nat.{ℕ, _<_, _≤_}
 use native.Mathlib.Decide.{decLt}
 use native.Mathlib.Omega.{arith}
-use borrow.Author.Tests.{eq-eqb, ne-eqb, eqb-false}
+use borrow.Author.Tests.{eq-eqb, ne-eqb, eqb-true, eqb-false}
 use lib.Dec.{ltb, eqb}
 use Rattle.answer.specs.declared.Answer.{Answer}
 use Rattle.answer.specs.declared.Answer.the-variants.{Done, NoMultiple, NoZone, WrongCount, Repeated}
@@ -14,10 +14,10 @@ use Rattle.answer.proofs.Tests.{done-is, done-told, done-not, then-next, then-h
 use Rattle.address.specs.Judged.{judged}
 use Rattle.address.proofs.Judging.{accepted-else}
 use Rattle.laws.specs.First.{first}
-use Rattle.laws.proofs.First.{first-at, first-none, first-ext}
+use Rattle.laws.proofs.First.{first-at, first-all, first-none, first-holds, first-ext}
 use Rattle.address_sheet.specs.Sheet.{countAnswer, aloneBy, sameAs, repeats, overAll, entriesAnswer, sheetAnswer}
-use Rattle.address_sheet.specs.Promise.{RightCount, RightSheet, AloneBy, RepeatsEarlier, Lowest}
-use Rattle.address_sheet.proofs.Tests.{count-right, count-done, count-refused, repeats-not, repeats-is, repeats-earlier, over-done, tests7, fails-6, fails-7, fails-24, fails-none}
+use Rattle.address_sheet.specs.Promise.{RightCount, RightSheet, AloneBy, RepeatsEarlier, Lowest, Says, accepted, wrong-count, no-multiple, no-zone, repeated}
+use Rattle.address_sheet.proofs.Tests.{count-right, count-done, count-refused, repeats-not, repeats-is, repeats-earlier, over-done, laterTests, fails-6, fails-7, fails-24, fails-none}
 
 module _ (count : ℕ) (psn : ℕ → ℕ) where
   -- no entry is answered by this number alone
@@ -67,7 +67,7 @@ module _ (count : ℕ) (psn : ℕ → ℕ) where
   unfolding sheetAnswer
   rightly e =
       let two = then-done (countAnswer count) (entriesAnswer count psn) e in
-      let more = then-done (overAll NoMultiple count (aloneBy 6 psn)) (tests7 count psn) (two .1) in
+      let more = then-done (overAll NoMultiple count (aloneBy 6 psn)) (laterTests count psn) (two .1) in
       let last = then-done (overAll NoZone count (aloneBy 7 psn)) (overAll Repeated count (repeats psn)) (more .1) in
       let six = over-done NoMultiple count (aloneBy 6 psn) (λ k. refl) (more .0) in
       let seven = over-done NoZone count (aloneBy 7 psn) (λ k. refl) (last .0) in
@@ -110,6 +110,61 @@ module _ (count : ℕ) (psn : ℕ → ℕ) where
     refused-24 alone i low =
         counted
         ∙ sym (fails-24 count psn (none-refused alone 6 (omega arith)) (omega arith) (none-refused alone 7 (omega arith)) (omega arith) (lowest-repeated i low) (low .within))
+
+-- ---- what the answer says
+
+module _ (count : ℕ) (psn : ℕ → ℕ) where
+  -- the lowest entry that fails a test
+  found : (fails : ℕ → Bool) (Holds : ℕ → Type 0) → ((k : ℕ) → fails k ≡ true → Holds k) → ((k : ℕ) → fails k ≡ false → Holds k → ⊥)
+      → first count fails < count → Lowest count Holds (first count fails)
+  found fails Holds holds not h = let low = first-holds count fails h in record { within = h; here = holds (first count fails) (low .0); below = λ k lt. not k (low .1 .fails k lt) }
+
+  found-by : (number : ℕ) → first count (aloneBy number psn) < count → Lowest count (AloneBy number psn) (first count (aloneBy number psn))
+  found-by number =
+      found (aloneBy number psn) (AloneBy number psn) (λ k. eqb-true (numberOf (judged (psn k))) number) (λ k. eqb-false (numberOf (judged (psn k))) number)
+
+  none-found : (number : ℕ) → count ≤ first count (aloneBy number psn) → (k : ℕ) → k < count → AloneBy number psn k → ⊥
+  none-found number h k lt = eqb-false (numberOf (judged (psn k))) number (first-all count (aloneBy number psn) h k lt)
+
+  -- where no entry fails 6 or 7
+  module _ (size : RightCount count) (past6 : count ≤ first count (aloneBy 6 psn)) (past7 : count ≤ first count (aloneBy 7 psn)) where
+    all-alone : (k : ℕ) → k < count → judged (psn k) ≡ Done
+    all-alone k h = accepted-else (psn k) (none-found 6 past6 k h) (none-found 7 past7 k h)
+
+    says-last : Says count psn (entriesAnswer count psn)
+    says-last =
+        elim (decLt (first count (repeats psn)) count) [
+          | yes h ↦
+              subst (Says count psn) (fails-24 count psn refl past6 refl past7 refl h)
+              (repeated (first count (repeats psn)) size all-alone (found (repeats psn) (RepeatsEarlier psn) (repeats-earlier psn) (repeats-not psn) h))
+          | no past ↦
+              let e = fails-none count psn refl past6 refl past7 refl (omega (arith, past)) in
+              subst (Says count psn) e (accepted (accepted-iff count psn .0 (counted count psn size ∙ sym e)))
+        ]
+
+  says-entries : RightCount count → Says count psn (entriesAnswer count psn)
+  says-entries size =
+      elim (decLt (first count (aloneBy 6 psn)) count) [
+        | yes h6 ↦ subst (Says count psn) (fails-6 count psn refl h6) (no-multiple (first count (aloneBy 6 psn)) size (found-by 6 h6))
+        | no p6 ↦
+            let past6 : count ≤ first count (aloneBy 6 psn) = omega (arith, p6) in
+            elim (decLt (first count (aloneBy 7 psn)) count) [
+              | yes h7 ↦ subst (Says count psn) (fails-7 count psn refl past6 refl h7) (no-zone (first count (aloneBy 7 psn)) size (none-found 6 past6) (found-by 7 h7))
+              | no p7 ↦ says-last size past6 (omega (arith, p7))
+            ]
+      ]
+
+  -- EVERY ANSWER IS TRUE OF ITS SHEET
+  pub says : Says count psn (sheetAnswer count psn)
+  says = by (isDone (countAnswer count)) refl
+    where
+      by : (t : Bool) → isDone (countAnswer count) ≡ t → Says count psn (sheetAnswer count psn)
+      by true t =
+          let size = count-done count (done-is (countAnswer count) t) in
+          subst (Says count psn) (sym (counted count psn size)) (says-entries size)
+      by false t =
+          let wrong : RightCount count → ⊥ = λ right. done-not (countAnswer count) t (count-right count right) in
+          subst (Says count psn) (sym (refused-count count psn wrong)) (wrong-count wrong)
 
 -- ---- as the code has it: a is what is answered of the count, d whether it is `Done`
 
@@ -160,7 +215,7 @@ pub place-within : (count : ℕ) (psn : ℕ → ℕ) → RightCount count → is
 place-within count psn size e =
     let is = counted count psn size in
     subst (λ (a : Answer). placeOf a < count) (sym is)
-    (then-within (overAll NoMultiple count (aloneBy 6 psn)) (tests7 count psn) count (lowest-within NoMultiple count (first count (aloneBy 6 psn)) refl)
+    (then-within (overAll NoMultiple count (aloneBy 6 psn)) (laterTests count psn) count (lowest-within NoMultiple count (first count (aloneBy 6 psn)) refl)
     (then-within (overAll NoZone count (aloneBy 7 psn)) (overAll Repeated count (repeats psn)) count (lowest-within NoZone count (first count (aloneBy 7 psn)) refl)
     (lowest-within Repeated count (first count (repeats psn)) refl)) (sym (ap isDone is) ∙ e))
 

@@ -2,28 +2,23 @@
 use mathlib.Core.Path.{_≡_, refl, sym, ap, _∙_}
 use mathlib.Core.Bool.{Bool, true, false, cond, _&&_}
 use Prim.Native.Nat.{ℕ, _+_, _-_, _<_, _≤_}
+use native.Mathlib.Decide.{decLt}
 use native.Mathlib.Omega.{arith}
 use borrow.Author.Tests.{eq-eqb, ne-eqb, eqb-true, eqb-false, lt-ltb, le-ltb, ltb-true, ltb-false, le-leb, lt-leb, leb-true}
-use lib.Dec.{leb}
+use lib.Dec.{leb, ltb}
 use Rattle.answer.specs.declared.Answer.{Answer}
 use Rattle.answer.specs.declared.Answer.the-variants.{Done, NoMultiple, NoZone, WrongCount, Repeated}
 use Rattle.answer.specs.Answer.{numberOf, isDone, andThen}
 use Rattle.answer.proofs.Tests.{done-not, then-next, then-here, lowest-here, lowest-none, lowest-done}
 use Rattle.address.specs.Judged.{judged}
 use Rattle.laws.specs.First.{first}
-use Rattle.laws.proofs.First.{Passed, passed-more, first-here, first-past, first-all, first-holds}
+use Rattle.laws.proofs.First.{Passed, passed-more, first-here, first-all, first-none, first-holds}
 use Rattle.address_sheet.specs.Sheet.{countAnswer, aloneBy, sameAs, repeats, overAll, entriesAnswer}
 use Rattle.address_sheet.specs.Promise.{RightCount, RepeatsEarlier}
 
 -- ---- the count
 
 module _ (count : ℕ) where
-  pub no-entries : count ≡ 0 → WrongCount ≡ countAnswer count
-  no-entries e = rw (lt-leb 1 count (omega (arith, e)))
-
-  pub many-entries : 64 < count → WrongCount ≡ countAnswer count
-  many-entries h = rw (le-leb 1 count (omega (arith, h)), lt-leb count 64 h)
-
   pub count-right : RightCount count → countAnswer count ≡ Done
   count-right right = rw (le-leb 1 count (right .some), le-leb count 64 (right .most))
 
@@ -57,17 +52,6 @@ module _ (psn : ℕ → ℕ) (i number : ℕ) {n : ℕ} {a : Answer} (passed : P
 -- ---- repetitions
 
 module _ (psn : ℕ → ℕ) (i : ℕ) where
-  -- in a loop over the earlier ones
-  module _ (j : ℕ) (passed : Passed (sameAs psn i) j) where
-    pub same-here : j < i → psn j ≡ psn i → (j ≤ i) × (j ≡ first i (sameAs psn i))
-    same-here h e = (omega arith, first-here h passed (eq-eqb (psn j) (psn i) e))
-
-    pub same-on : (psn j ≡ psn i → ⊥) → Passed (sameAs psn i) (j + 1)
-    same-on h = passed-more passed (ne-eqb (psn j) (psn i) h)
-
-    pub same-none : i ≤ j → (i ≤ i) × (i ≡ first i (sameAs psn i))
-    same-none h = (omega arith, first-past h passed)
-
   pub repeats-not : repeats psn i ≡ false → RepeatsEarlier psn i → ⊥
   repeats-not e is =
       let none = first-all i (sameAs psn i) (ltb-false (first i (sameAs psn i)) i e) (is .earlier) (is .before) in
@@ -85,21 +69,48 @@ module _ (psn : ℕ → ℕ) (i : ℕ) where
       let h = ltb-true (first i (sameAs psn i)) i e in
       record { earlier = first i (sameAs psn i); before = h; same = eqb-true (psn (first i (sameAs psn i))) (psn i) (first-holds i (sameAs psn i) h .0) }
 
--- in a loop over all entries: earlier is the lowest entry with the PSN of entry i
-module _ (psn : ℕ → ℕ) {i earlier : ℕ} (passed : Passed (repeats psn) i) (h : (earlier ≤ i) × (earlier ≡ first i (sameAs psn i))) where
+-- in a loop back over the earlier ones: none from j on has the PSN of entry i
+pub record NoneSince (psn : ℕ → ℕ) (i j : ℕ) : Type 0 where
+  pub within : j ≤ i
+  pub differ : (k : ℕ) → j ≤ k → k < i → sameAs psn i k ≡ false
+
+module _ (psn : ℕ → ℕ) {i j : ℕ} (none : NoneSince psn i j) where
+  pub same-here : 0 < j → psn (j - 1) ≡ psn i → (j - 1 ≤ i) × (ltb (j - 1) i ≡ repeats psn i)
+  same-here some e =
+      let h : j - 1 < i = omega (arith, some, none .within) in
+      (omega (arith, h), lt-ltb (j - 1) i h ∙ sym (repeats-is psn i (record { earlier = j - 1; before = h; same = e })))
+
+  pub same-on : 0 < j → (psn (j - 1) ≡ psn i → ⊥) → NoneSince psn i (j - 1)
+  same-on some other =
+      record {
+        within = omega (arith, none .within);
+        differ = λ k from h.
+            elim (decLt k j) [
+              | yes here ↦ ap (sameAs psn i) {y = j - 1} (omega (arith, from, here)) ∙ ne-eqb (psn (j - 1)) (psn i) other
+              | no past ↦ none .differ k (omega (arith, past)) h
+            ];
+      }
+
+  pub same-none : j ≤ 0 → (i ≤ i) × (ltb i i ≡ repeats psn i)
+  same-none all =
+      let past = first-none i (sameAs psn i) (record { fails = λ k h. none .differ k (omega (arith, all)) h }) in
+      (omega arith, ap (λ (n : ℕ). ltb n i) (sym past))
+
+-- in a loop over all entries: earlier is the nearest that has the PSN of entry i
+module _ (psn : ℕ → ℕ) {i earlier : ℕ} (passed : Passed (repeats psn) i) (h : (earlier ≤ i) × (ltb earlier i ≡ repeats psn i)) where
   pub repeated-here : {count : ℕ} → i < count → (i - earlier ≡ 0 → ⊥) → i ≡ first count (repeats psn)
-  repeated-here within far = first-here within passed (lt-ltb (first i (sameAs psn i)) i (omega (arith, h .0, h .1, far)))
+  repeated-here within far = first-here within passed (sym (h .1) ∙ lt-ltb earlier i (omega (arith, h .0, far)))
 
   pub repeated-on : i - earlier ≡ 0 → Passed (repeats psn) (i + 1)
-  repeated-on none = passed-more passed (le-ltb (first i (sameAs psn i)) i (omega (arith, h .0, h .1, none)))
+  repeated-on none = passed-more passed (sym (h .1) ∙ le-ltb earlier i (omega (arith, h .0, none)))
 
 -- ---- a test of all entries; as the code has it, i is the lowest that fails
 
 module _ (refusal : ℕ → Answer) (count : ℕ) (fails : ℕ → Bool) where
-  pub over-at : {i : ℕ} → i ≡ first count fails → i < count → overAll refusal count fails ≡ refusal i
+  over-at : {i : ℕ} → i ≡ first count fails → i < count → overAll refusal count fails ≡ refusal i
   over-at {i} e h = lowest-here refusal {n = count} {i = first count fails} (omega (arith, e, h)) ∙ ap refusal (sym e)
 
-  pub over-none : {i : ℕ} → i ≡ first count fails → count ≤ i → overAll refusal count fails ≡ Done
+  over-none : {i : ℕ} → i ≡ first count fails → count ≤ i → overAll refusal count fails ≡ Done
   over-none {i} e h = lowest-none refusal {n = count} {i = first count fails} (omega (arith, e, h))
 
   pub over-done : ((k : ℕ) → isDone (refusal k) ≡ false) → overAll refusal count fails ≡ Done → (k : ℕ) → k < count → fails k ≡ false
@@ -108,16 +119,16 @@ module _ (refusal : ℕ → Answer) (count : ℕ) (fails : ℕ → Bool) where
 -- ---- the three tests
 
 module _ (count : ℕ) (psn : ℕ → ℕ) where
-  abbrev pub tests7 : Answer
-  tests7 = andThen (overAll NoZone count (aloneBy 7 psn)) (overAll Repeated count (repeats psn))
+  abbrev pub laterTests : Answer
+  laterTests = andThen (overAll NoZone count (aloneBy 7 psn)) (overAll Repeated count (repeats psn))
 
   module _ {six : ℕ} (h6 : six ≡ first count (aloneBy 6 psn)) where
     pub fails-6 : six < count → NoMultiple six ≡ entriesAnswer count psn
-    fails-6 h = let here = over-at NoMultiple count (aloneBy 6 psn) h6 h in sym (then-here _ tests7 (ap isDone here) ∙ here)
+    fails-6 h = let here = over-at NoMultiple count (aloneBy 6 psn) h6 h in sym (then-here _ laterTests (ap isDone here) ∙ here)
 
     module _ (past6 : count ≤ six) {seven : ℕ} (h7 : seven ≡ first count (aloneBy 7 psn)) where
-      from7 : entriesAnswer count psn ≡ tests7
-      from7 = then-next _ tests7 (over-none NoMultiple count (aloneBy 6 psn) h6 past6)
+      from7 : entriesAnswer count psn ≡ laterTests
+      from7 = then-next _ laterTests (over-none NoMultiple count (aloneBy 6 psn) h6 past6)
 
       pub fails-7 : seven < count → NoZone seven ≡ entriesAnswer count psn
       fails-7 h = let here = over-at NoZone count (aloneBy 7 psn) h7 h in sym (from7 ∙ then-here _ _ (ap isDone here) ∙ here)

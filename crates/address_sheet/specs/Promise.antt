@@ -1,7 +1,8 @@
 -- What is promised of a sheet: which are accepted, and what a refusal says.
 use mathlib.Core.Path.{_≡_}
 use Prim.Native.Nat.{ℕ, _≤_, _<_}
-use Rattle.answer.specs.declared.Answer.the-variants.{Done}
+use Rattle.answer.specs.declared.Answer.{Answer}
+use Rattle.answer.specs.declared.Answer.the-variants.{Done, NoMultiple, NoZone, WrongCount, Repeated}
 use Rattle.answer.specs.Answer.{numberOf}
 use Rattle.address.specs.Judged.{judged}
 
@@ -30,3 +31,11 @@ pub record Lowest (count : ℕ) (Holds : ℕ → Type 0) (i : ℕ) : Type 0 wher
   pub within : i < count
   pub here : Holds i
   pub below : (k : ℕ) → k < i → Holds k → ⊥
+
+-- what each answer says of a sheet; no other is given
+pub data Says (count : ℕ) (psn : ℕ → ℕ) : Answer → Type 0 where
+  accepted : RightSheet count psn → Says count psn Done
+  wrong-count : (RightCount count → ⊥) → Says count psn WrongCount
+  no-multiple : (i : ℕ) → RightCount count → Lowest count (AloneBy 6 psn) i → Says count psn (NoMultiple i)
+  no-zone : (i : ℕ) → RightCount count → ((k : ℕ) → k < count → AloneBy 6 psn k → ⊥) → Lowest count (AloneBy 7 psn) i → Says count psn (NoZone i)
+  repeated : (i : ℕ) → RightCount count → ((k : ℕ) → k < count → judged (psn k) ≡ Done) → Lowest count (RepeatsEarlier psn) i → Says count psn (Repeated i)

@@ -41,5 +41,5 @@ unfoldable pub sheetAnswer : ℕ → (ℕ → ℕ) → Answer
 sheetAnswer count psn = andThen (countAnswer count) (entriesAnswer count psn)
 
 -- the PSN of each entry of an array
-abbrev pub entries : List Psn → ℕ → ℕ
-entries psns i = getD psns i (record { 0 = 0 }) .0
+abbrev pub entryPsn : List Psn → ℕ → ℕ
+entryPsn psns i = getD psns i (record { 0 = 0 }) .0

@@ -4,13 +4,14 @@ use answer::Answer;
 ghost use mathlib.Core.Path.{_≡_};
 ghost use mathlib.Core.Logic.{_↔_};
 ghost use Prim.Native.Nat.{_≤_, _<_};
+ghost use lib.Dec.{ltb};
 ghost use Rattle.answer.specs.declared.Answer.the-variants.{Done};
 ghost use Rattle.laws.specs.First.{first};
-ghost use Rattle.address_sheet.specs.Sheet.{countAnswer, aloneBy, sameAs, repeats, entriesAnswer, sheetAnswer, entries};
+ghost use Rattle.address_sheet.specs.Sheet.{countAnswer, aloneBy, repeats, entriesAnswer, sheetAnswer, entryPsn};
 ghost use Rattle.address_sheet.specs.Promise.{RightSheet};
 
 // The most PSNs of a sheet.
-pub const MOST: usize = 64;
+pub const SHEET: usize = 64;
 
 fn judge_count(count: usize) -> Answer
     ensures { λ r. ⌜ r ≡ countAnswer count ⌝ }
@@ -18,16 +19,16 @@ fn judge_count(count: usize) -> Answer
     if count == 0 {
         return Answer::WrongCount;
     }
-    if MOST < count {
+    if SHEET < count {
         return Answer::WrongCount;
     }
     Answer::Done
 }
 
 // The lowest entry that is answered by this number alone, count where there is none.
-fn first_alone_by(psns: [Psn; MOST], count: usize, number: u32) -> usize
+fn first_alone_by(psns: [Psn; SHEET], count: usize, number: u32) -> usize
     requires { ⌜ count ≤ 64 ⌝ }
-    ensures { λ r. ⌜ r ≡ first count (aloneBy number (entries psns)) ⌝ }
+    ensures { λ r. ⌜ r ≡ first count (aloneBy number (entryPsn psns)) ⌝ }
 {
     let mut i = 0;
     while i < count {
@@ -40,29 +41,30 @@ fn first_alone_by(psns: [Psn; MOST], count: usize, number: u32) -> usize
     count
 }
 
-// The lowest entry before i that has its PSN, i where there is none.
-fn first_same(psns: [Psn; MOST], i: usize) -> usize
+// The nearest entry before i that has its PSN, i where there is none.
+fn nearest_same(psns: [Psn; SHEET], i: usize) -> usize
     requires { ⌜ i < 64 ⌝ }
-    ensures { λ r. ⌜ (r ≤ i) × (r ≡ first i (sameAs (entries psns) i)) ⌝ }
+    ensures { λ r. ⌜ (r ≤ i) × (ltb r i ≡ repeats (entryPsn psns) i) ⌝ }
 {
-    let mut j = 0;
-    while j < i {
+    let mut j = i;
+    while 0 < j {
+        j -= 1;
         if psns[j].0 == psns[i].0 {
             return j;
         }
-        j += 1;
     }
     i
 }
 
 // The lowest entry whose PSN an earlier one has, count where there is none.
-fn first_repeated(psns: [Psn; MOST], count: usize) -> usize
+fn first_repeated(psns: [Psn; SHEET], count: usize) -> usize
     requires { ⌜ count ≤ 64 ⌝ }
-    ensures { λ r. ⌜ r ≡ first count (repeats (entries psns)) ⌝ }
+    ensures { λ r. ⌜ r ≡ first count (repeats (entryPsn psns)) ⌝ }
 {
     let mut later = 0;
     while later < count {
-        let earlier = first_same(psns, later);
+        let earlier = nearest_same(psns, later);
+        // how far back it stands, 0 where it is none
         let back = later - earlier;
         if back != 0 {
             return later;
@@ -73,9 +75,9 @@ fn first_repeated(psns: [Psn; MOST], count: usize) -> usize
 }
 
 // Tests 6, 7 and 24, each over all entries before the next.
-fn judge_entries(psns: [Psn; MOST], count: usize) -> Answer
+fn judge_entries(psns: [Psn; SHEET], count: usize) -> Answer
     requires { ⌜ count ≤ 64 ⌝ }
-    ensures { λ r. ⌜ r ≡ entriesAnswer count (entries psns) ⌝ }
+    ensures { λ r. ⌜ r ≡ entriesAnswer count (entryPsn psns) ⌝ }
 {
     let multiple = first_alone_by(psns, count, 6);
     if multiple < count {
@@ -93,9 +95,9 @@ fn judge_entries(psns: [Psn; MOST], count: usize) -> Answer
 }
 
 // Judges the first `count` entries as one sheet: 0, or 23, 6, 7 and 24, tested in this order.
-pub fn judge(psns: [Psn; MOST], count: usize) -> Answer
-    ensures { λ r. ⌜ r ≡ sheetAnswer count (entries psns) ⌝ }
-    ensures { λ r. ⌜ ((r ≡ Done) ↔ RightSheet count (entries psns)) ⌝ }
+pub fn judge(psns: [Psn; SHEET], count: usize) -> Answer
+    ensures { λ r. ⌜ r ≡ sheetAnswer count (entryPsn psns) ⌝ }
+    ensures { λ r. ⌜ ((r ≡ Done) ↔ RightSheet count (entryPsn psns)) ⌝ }
 {
     let counted = judge_count(count);
     if counted.is_done() {

@@ -22,7 +22,7 @@ ghost use lib.ListN.{length};
 ghost use Rattle.answer_numbers.specs.Numbers.{answered};
 ghost use Rattle.address_sheet.specs.Sheet.{sheetAnswer};
 ghost use Rattle.address_sheet.specs.Promise.{RightSheet};
-ghost use Rattle.export_sheet.specs.Exported.{numbers};
+ghost use Rattle.export_sheet.specs.Exported.{givenPsn};
 
 // Writes the image of a cluster.
 #[no_mangle]
@@ -125,8 +125,8 @@ pub extern "C" fn bdre_parity(message: &[u8], parity: &mut [u8]) -> Answered
 // Judges a sheet of PSNs.
 #[no_mangle]
 pub extern "C" fn bdre_sheet(psns: &[u32]) -> Answered
-    ensures { λ r. ⌜ r ≡ answered (sheetAnswer (length (now (psns .entry))) (numbers (now (psns .entry)))) ⌝ }
-    ensures { λ r. ⌜ ((r .number ≡ 0) ↔ RightSheet (length (now (psns .entry))) (numbers (now (psns .entry)))) ⌝ }
+    ensures { λ r. ⌜ r ≡ answered (sheetAnswer (length (now (psns .entry))) (givenPsn (now (psns .entry)))) ⌝ }
+    ensures { λ r. ⌜ ((r .number ≡ 0) ↔ RightSheet (length (now (psns .entry))) (givenPsn (now (psns .entry)))) ⌝ }
 {
     export_sheet::judge_sheet(psns)
 }

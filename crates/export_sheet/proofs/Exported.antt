@@ -10,29 +10,29 @@ use Rattle.answer.specs.declared.Answer.{Answer}
 use Rattle.answer.specs.Answer.{numberOf}
 use Rattle.answer.proofs.Tests.{number-zero}
 use Rattle.address.specs.declared.Psn.{Psn}
-use Rattle.address_sheet.specs.Sheet.{sheetAnswer, entries}
+use Rattle.address_sheet.specs.Sheet.{sheetAnswer, entryPsn}
 use Rattle.address_sheet.specs.Promise.{RightSheet}
 use Rattle.address_sheet.proofs.Statements.{accepted-iff, same-sheet}
 use Rattle.answer_numbers.specs.declared.Answered.{Answered}
 use Rattle.answer_numbers.specs.Numbers.{answered}
-use Rattle.export_sheet.specs.Exported.{numbers, psnsOf}
+use Rattle.export_sheet.specs.Exported.{givenPsn, givenPsns}
 
 -- in a loop: the first i numbers are PSNs
-abbrev pub Taken : List ℕ → ℕ → List Psn → Type 0
-Taken given i psns = Upto (record { 0 = 0 }) (λ k. record { 0 = numbers given k }) 64 i psns
+abbrev pub NumbersTaken : List ℕ → ℕ → List Psn → Type 0
+NumbersTaken given i psns = Upto (record { 0 = 0 }) (λ k. record { 0 = givenPsn given k }) 64 i psns
 
 -- the sheet of the PSNs is that of the numbers
-pub as-numbers : (given : List ℕ) → sheetAnswer (length given) (entries (psnsOf given)) ≡ sheetAnswer (length given) (numbers given)
-unfolding psnsOf
+as-numbers : (given : List ℕ) → sheetAnswer (length given) (entryPsn (givenPsns given)) ≡ sheetAnswer (length given) (givenPsn given)
+unfolding givenPsns
 as-numbers given =
-    same-sheet (length given) (entries (psnsOf given)) (numbers given)
-    (λ i h most. ap (λ (p : Psn). p .0) (getD-tabulate {A = Psn} 64 (λ k. record { 0 = numbers given k }) i (record { 0 = 0 }) most))
+    same-sheet (length given) (entryPsn (givenPsns given)) (givenPsn given)
+    (λ i h most. ap (λ (p : Psn). p .0) (getD-tabulate {A = Psn} 64 (λ k. record { 0 = givenPsn given k }) i (record { 0 = 0 }) most))
 
 -- psns are the PSNs, a is what is answered of them, r what is returned
-pub judges-numbers : (given : List ℕ) {psns : List Psn} {a : Answer} {r : Answered} → psns ≡ psnsOf given → a ≡ sheetAnswer (length given) (entries psns) → r ≡ answered a
-    → (r ≡ answered (sheetAnswer (length given) (numbers given))) × ((r .number ≡ 0) ↔ RightSheet (length given) (numbers given))
+pub judges-numbers : (given : List ℕ) {psns : List Psn} {a : Answer} {r : Answered} → psns ≡ givenPsns given → a ≡ sheetAnswer (length given) (entryPsn psns) → r ≡ answered a
+    → (r ≡ answered (sheetAnswer (length given) (givenPsn given))) × ((r .number ≡ 0) ↔ RightSheet (length given) (givenPsn given))
 judges-numbers given {psns} {a} {r} hp ha hr =
-    let is = ha ∙ ap (λ (l : List Psn). sheetAnswer (length given) (entries l)) hp ∙ as-numbers given in
-    let iff = accepted-iff (length given) (numbers given) in
-    let number : r .number ≡ numberOf (sheetAnswer (length given) (numbers given)) = ap (λ (x : Answered). x .number) hr ∙ ap numberOf is in
-    (hr ∙ ap answered is, (λ e. iff .0 (number-zero (sheetAnswer (length given) (numbers given)) (sym number ∙ e)), λ right. number ∙ ap numberOf (iff .1 right)))
+    let is = ha ∙ ap (λ (l : List Psn). sheetAnswer (length given) (entryPsn l)) hp ∙ as-numbers given in
+    let iff = accepted-iff (length given) (givenPsn given) in
+    let number : r .number ≡ numberOf (sheetAnswer (length given) (givenPsn given)) = ap (λ (x : Answered). x .number) hr ∙ ap numberOf is in
+    (hr ∙ ap answered is, (λ e. iff .0 (number-zero (sheetAnswer (length given) (givenPsn given)) (sym number ∙ e)), λ right. number ∙ ap numberOf (iff .1 right)))

@@ -6,9 +6,9 @@ use Rattle.laws.specs.Tabulate.{tabulate}
 use Rattle.address.specs.declared.Psn.{Psn}
 
 -- the PSN of each entry
-abbrev pub numbers : List ℕ → ℕ → ℕ
-numbers psns i = getD psns i 0
+abbrev pub givenPsn : List ℕ → ℕ → ℕ
+givenPsn psns i = getD psns i 0
 
 -- the first 64 of them
-unfoldable pub psnsOf : List ℕ → List Psn
-psnsOf psns = tabulate 64 (λ i. record { 0 = numbers psns i })
+unfoldable pub givenPsns : List ℕ → List Psn
+givenPsns psns = tabulate 64 (λ i. record { 0 = givenPsn psns i })

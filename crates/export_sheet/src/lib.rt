@@ -7,11 +7,11 @@ ghost use lib.ListN.{length};
 ghost use Rattle.answer_numbers.specs.Numbers.{answered};
 ghost use Rattle.address_sheet.specs.Sheet.{sheetAnswer};
 ghost use Rattle.address_sheet.specs.Promise.{RightSheet};
-ghost use Rattle.export_sheet.specs.Exported.{numbers, psnsOf};
+ghost use Rattle.export_sheet.specs.Exported.{givenPsn, givenPsns};
 
 // Number i, 0 where there is none.
 fn number_at(given: &[u32], i: usize) -> u32
-    ensures { λ r. ⌜ r ≡ numbers (now (given .entry)) i ⌝ }
+    ensures { λ r. ⌜ r ≡ givenPsn (now (given .entry)) i ⌝ }
 {
     if i < given.len() {
         return given[i];
@@ -20,12 +20,12 @@ fn number_at(given: &[u32], i: usize) -> u32
 }
 
 // The first 64 numbers as PSNs.
-fn psns_of(given: &[u32]) -> [Psn; address_sheet::MOST]
-    ensures { λ r. ⌜ r ≡ psnsOf (now (given .entry)) ⌝ }
+fn psns_of(given: &[u32]) -> [Psn; address_sheet::SHEET]
+    ensures { λ r. ⌜ r ≡ givenPsns (now (given .entry)) ⌝ }
 {
-    let mut psns = [Psn(0); address_sheet::MOST];
+    let mut psns = [Psn(0); address_sheet::SHEET];
     let mut i = 0;
-    while i < address_sheet::MOST {
+    while i < address_sheet::SHEET {
         psns[i] = Psn(number_at(given, i));
         i += 1;
     }
@@ -34,8 +34,8 @@ fn psns_of(given: &[u32]) -> [Psn; address_sheet::MOST]
 
 // Judges a sheet of PSNs.
 pub fn judge_sheet(psns: &[u32]) -> Answered
-    ensures { λ r. ⌜ r ≡ answered (sheetAnswer (length (now (psns .entry))) (numbers (now (psns .entry)))) ⌝ }
-    ensures { λ r. ⌜ ((r .number ≡ 0) ↔ RightSheet (length (now (psns .entry))) (numbers (now (psns .entry)))) ⌝ }
+    ensures { λ r. ⌜ r ≡ answered (sheetAnswer (length (now (psns .entry))) (givenPsn (now (psns .entry)))) ⌝ }
+    ensures { λ r. ⌜ ((r .number ≡ 0) ↔ RightSheet (length (now (psns .entry))) (givenPsn (now (psns .entry)))) ⌝ }
 {
     let answer = address_sheet::judge(psns_of(psns), psns.len());
     Answered::of(answer)

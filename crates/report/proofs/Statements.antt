@@ -57,7 +57,7 @@ told WrongColumn = (refl, omega arith)
 told WrongCount = (refl, omega arith)
 told (Repeated n) = (refl, omega arith)
 
-number-small : (a : Answer) → numberOf a < 10 ^ 20
+pub number-small : (a : Answer) → numberOf a < 10 ^ 20
 number-small a = told a .1
 
 same-answer : (a b : Answer) → numberOf a ≡ numberOf b → placeOf a ≡ placeOf b → a ≡ b

@@ -3,32 +3,29 @@ use mathlib.Core.Path.{_≡_, refl, sym, ap, _∙_}
 use mathlib.Core.Bool.{Bool, true, false, cond}
 use mathlib.Core.List.{List, [], _∷_, _++_}
 use Prim.Native.Nat.{ℕ, suc, _+_, _<_, _≤_}
-use native.Mathlib.Decide.{decLt}
 use native.Mathlib.Omega.{arith}
 use borrow.Author.Tests.{eq-eqb, ne-eqb}
 use lib.Dec.{eqb}
 use lib.ListN.{length, getD, set, length-set, length-append, List·getD-append}
-use lib.Seq.{getD-set-same, getD-set-other, getD-append-add}
+use lib.Seq.{getD-append-add}
+use Rattle.laws.proofs.Fill.{upto-more}
 use Rattle.address.specs.declared.Psn.{Psn}
-use Rattle.address_sheet.specs.Sheet.{entries}
+use Rattle.address_sheet.specs.Sheet.{entryPsn}
 use Rattle.notation.specs.Psn.{psnOf}
 use Rattle.sheet_file.specs.declared.SheetEntries.{SheetEntries}
 use Rattle.sheet_file.specs.File.{Entry, lineOf, isNumber, numberIn, wrongLine, entryAt}
-use Rattle.sheet_file.specs.Reading.{HoldsEntries, IsEntry}
+use Rattle.sheet_file.specs.Reading.{wrongAfter, HoldsEntries, IsEntry}
 
 -- ---- the first line that is no PSN
 
 module _ (wrong line : ℕ) (right : Bool) where
-  abbrev pub wrongAfter : ℕ
-  wrongAfter = cond (eqb wrong 0) (cond right 0 line) wrong
-
-  pub wrong-kept : (wrong ≡ 0 → ⊥) → wrong ≡ wrongAfter
+  pub wrong-kept : (wrong ≡ 0 → ⊥) → wrong ≡ wrongAfter wrong line right
   wrong-kept h = rw (ne-eqb wrong 0 h)
 
-  pub wrong-none : wrong ≡ 0 → right ≡ true → 0 ≡ wrongAfter
+  pub wrong-none : wrong ≡ 0 → right ≡ true → 0 ≡ wrongAfter wrong line right
   wrong-none e t = rw (eq-eqb wrong 0 e, t)
 
-  pub wrong-here : wrong ≡ 0 → right ≡ false → line ≡ wrongAfter
+  pub wrong-here : wrong ≡ 0 → right ≡ false → line ≡ wrongAfter wrong line right
   wrong-here e t = rw (eq-eqb wrong 0 e, t)
 
 -- an entry more
@@ -54,6 +51,14 @@ module _ (list : List Entry) (entry : Entry) where
 
   new-at : (i : ℕ) → i ≡ length list → entryAt (list ++ (entry ∷ [])) i ≡ entry
   new-at i e = ap (entryAt (list ++ (entry ∷ []))) {y = length list + 0} (omega (arith, e)) ∙ getD-append-add list (entry ∷ []) 0 (record { before = 0; text = [] })
+
+  -- what is kept of each entry, f, with that of the new one set behind the others
+  set-behind : {A : Type 0} (d : A) (f : Entry → A) (l : List A) (n : ℕ) (v : A) → n ≡ length list → n < 64 → length l ≡ 64 → v ≡ f entry
+      → ((i : ℕ) → i < length list → getD l i d ≡ f (entryAt list i)) → (i : ℕ) → i < length (list ++ (entry ∷ [])) → getD (set l n v) i d ≡ f (entryAt (list ++ (entry ∷ [])) i)
+  set-behind {A} d f l n v all h room new old i within =
+      upto-more {d = d} {f = λ k. f (entryAt (list ++ (entry ∷ [])) k)} {n = 64} {i = n} {l = l} {v = v} h (new ∙ sym (ap f (new-at n all)))
+      (record { within = omega (arith, h); size = room; below = λ k lt. old k (omega (arith, lt, all)) ∙ sym (ap f (old-at k (omega (arith, lt, all)))) })
+      .below i (omega (arith, within, longer, all))
 
   module _ {held : SheetEntries} {psn line wrong : ℕ} {right : Bool} (holds : HoldsEntries list held) (is : IsEntry entry psn right line) (hw : wrong ≡ wrongAfter (held .wrong) line right) where
     is-wrong : wrong ≡ wrongLine (list ++ (entry ∷ []))
@@ -83,29 +88,11 @@ module _ (list : List Entry) (entry : Entry) where
           lines-room = length-set (held .lines) (held .count) line ∙ holds .lines-room;
           count = omega (arith, all, longer, h);
           psns = λ i lt within.
-              elim (decLt i (length list)) [
-                | yes old ↦
-                    ap (λ (q : Psn). q .0) (getD-set-other (held .psns) (held .count) i p (record { 0 = 0 }) (λ e. omega (arith, e, old, all)))
-                    ∙ holds .psns i lt old
-                    ∙ sym (ap (λ (e : Entry). numberIn (psnOf (e .text))) (old-at i old))
-                | no new ↦
-                    let last : i ≡ held .count = omega (arith, new, within, longer, all) in
-                    ap (λ (j : ℕ). getD (set (held .psns) (held .count) p) j (record { 0 = 0 }) .0) last
-                    ∙ ap (λ (q : Psn). q .0) (getD-set-same (held .psns) (held .count) p (record { 0 = 0 }) (omega (arith, h, holds .psns-room)))
-                    ∙ hp
-                    ∙ is .own-psn
-                    ∙ sym (ap (λ (e : Entry). numberIn (psnOf (e .text))) (new-at i (omega (arith, last, all))))
-              ];
+              ap (λ (q : Psn). q .0)
+              (set-behind (record { 0 = 0 }) (λ e. record { 0 = numberIn (psnOf (e .text)) }) (held .psns) (held .count) p all h (holds .psns-room) (λ j. record { 0 = (hp ∙ is .own-psn) j })
+              (λ k old j. record { 0 = holds .psns k (omega (arith, old, all, h)) old j }) i within);
           lines = λ i lt within.
-              elim (decLt i (length list)) [
-                | yes old ↦ getD-set-other (held .lines) (held .count) i line 0 (λ e. omega (arith, e, old, all)) ∙ holds .lines i lt old ∙ sym (ap lineOf (old-at i old))
-                | no new ↦
-                    let last : i ≡ held .count = omega (arith, new, within, longer, all) in
-                    ap (λ (j : ℕ). getD (set (held .lines) (held .count) line) j 0) last
-                    ∙ getD-set-same (held .lines) (held .count) line 0 (omega (arith, h, holds .lines-room))
-                    ∙ is .own-line
-                    ∙ sym (ap lineOf (new-at i (omega (arith, last, all))))
-              ];
+              set-behind 0 lineOf (held .lines) (held .count) line all h (holds .lines-room) (is .own-line) (λ k old. holds .lines k (omega (arith, old, all, h)) old) i within;
           wrong = is-wrong;
         }
       where

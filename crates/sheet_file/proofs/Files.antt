@@ -99,14 +99,14 @@ module _ (file : SheetFile) (b : ℕ) where
 -- ---- many bytes
 
 -- in a loop: the first i of l are read
-pub record Reads (file₀ : SheetFile) (l : List ℕ) (file : SheetFile) (i : ℕ) : Type 0 where
+pub record PartRead (file₀ : SheetFile) (l : List ℕ) (file : SheetFile) (i : ℕ) : Type 0 where
   pub within : i ≤ length l
   pub so-far : (front : List ℕ) → length front + length l ≤ 2 ^ 63 → HasRead front file₀ → HasRead (front ++ take i l) file
 
-pub reads-none : (file : SheetFile) (l : List ℕ) → Reads file l file 0
+pub reads-none : (file : SheetFile) (l : List ℕ) → PartRead file l file 0
 reads-none file l = record { within = omega arith; so-far = λ front h read. subst (λ (bytes : List ℕ). HasRead bytes file) (sym (append-nil front)) read }
 
-pub reads-more : {file₀ file next : SheetFile} {l : List ℕ} {i : ℕ} → Reads file₀ l file i → i < length l → Steps file (getD l i 0) next → Reads file₀ l next (i + 1)
+pub reads-more : {file₀ file next : SheetFile} {l : List ℕ} {i : ℕ} → PartRead file₀ l file i → i < length l → Steps file (getD l i 0) next → PartRead file₀ l next (i + 1)
 reads-more {file₀} {file} {next} {l} {i} reads h step =
     record {
       within = omega arith;
@@ -117,7 +117,7 @@ reads-more {file₀} {file} {next} {l} {i} reads h step =
           subst (λ (m : List ℕ). HasRead m next) bytes (step (front ++ take i l) size (reads .so-far front short read));
     }
 
-pub reads-all : {file₀ file : SheetFile} {l : List ℕ} {i : ℕ} → Reads file₀ l file i → length l ≤ i
+pub reads-all : {file₀ file : SheetFile} {l : List ℕ} {i : ℕ} → PartRead file₀ l file i → length l ≤ i
     → (front : List ℕ) → length front + length l ≤ 2 ^ 63 → HasRead front file₀ → HasRead (front ++ l) file
 reads-all {file₀} {file} {l} {i} reads h front short read = subst (λ (m : List ℕ). HasRead (front ++ m) file) (take-all i l h) (reads .so-far front short read)
 

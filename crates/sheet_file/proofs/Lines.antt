@@ -4,12 +4,12 @@ use mathlib.Core.Bool.{Bool, true, false, cond}
 use mathlib.Core.List.{List, [], _∷_, _++_}
 use Prim.Native.Nat.{ℕ, zero, suc, _+_, _<_, _≤_, min}
 use native.Mathlib.Nat.{not-suc-le-zero, le-of-suc-le-suc}
-use native.Mathlib.Decide.{decLt}
 use native.Mathlib.Omega.{arith}
 use borrow.Author.Tests.{eq-eqb, ne-eqb, eqb-true, eqb-false}
 use lib.Dec.{eqb}
 use lib.ListN.{length, getD, set, length-set, length-append, List·getD-append}
-use lib.Seq.{getD-set-same, getD-set-other, getD-append-add}
+use lib.Seq.{getD-append-add}
+use Rattle.laws.proofs.Fill.{upto-more}
 use Rattle.laws.proofs.Tabulate.{is-tabulate}
 use Rattle.notation.specs.declared.PsnText.the-variants.{NoNumber}
 use Rattle.notation.specs.Psn.{psnOf}
@@ -33,7 +33,7 @@ module _ (b : ℕ) where
 -- ---- what stands on a line
 
 -- a byte more
-pub trimmed-more : (l : List ℕ) (b : ℕ) → trimmed (l ++ (b ∷ [])) ≡ cond (isWhite b) (trimmed l) (l ++ (b ∷ []))
+trimmed-more : (l : List ℕ) (b : ℕ) → trimmed (l ++ (b ∷ [])) ≡ cond (isWhite b) (trimmed l) (l ++ (b ∷ []))
 unfolding trimmed
 trimmed-more [] b = refl
 trimmed-more (c ∷ l) b = ap (trimmedTo c) (trimmed-more l b) ∙ by (isWhite b)
@@ -47,7 +47,7 @@ trimmed-more (c ∷ l) b = ap (trimmedTo c) (trimmed-more l b) ∙ by (isWhite b
     by false = front l
 
 -- it is the front of the line
-pub trimmed-at : (l : List ℕ) (k : ℕ) → k < length (trimmed l) → getD (trimmed l) k 0 ≡ getD l k 0
+trimmed-at : (l : List ℕ) (k : ℕ) → k < length (trimmed l) → getD (trimmed l) k 0 ≡ getD l k 0
 unfolding trimmed
 trimmed-at [] k h = absurd (not-suc-le-zero h)
 trimmed-at (b ∷ l) k h = by (trimmed l) (trimmed-at l) k h
@@ -62,7 +62,7 @@ trimmed-at (b ∷ l) k h = by (trimmed l) (trimmed-at l) k h
     by (c ∷ t) rest zero h = refl
     by (c ∷ t) rest (suc k) h = rest k (le-of-suc-le-suc h)
 
-pub trimmed-short : (l : List ℕ) → length (trimmed l) ≤ length l
+trimmed-short : (l : List ℕ) → length (trimmed l) ≤ length l
 unfolding trimmed
 trimmed-short [] = omega arith
 trimmed-short (b ∷ l) = by (trimmed l) (trimmed-short l)
@@ -123,19 +123,18 @@ module _ (line : Line) (b r : ℕ) (begun : List ℕ) (holds : HoldsLine begun l
       all : line .held ≡ length begun
       all = omega (arith, holds .held, h)
 
+      last : b ≡ getD (begun ++ (b ∷ [])) (line .held) 0
+      last = sym (ap (λ (j : ℕ). getD (begun ++ (b ∷ [])) j 0) {y = length begun + 0} (omega (arith, all)) ∙ getD-append-add begun (b ∷ []) 0 0)
+
       at : (k : ℕ) → k < 8 → k < length (begun ++ (b ∷ [])) → getD (set (line .text) (line .held) b) k 0 ≡ getD (begun ++ (b ∷ [])) k 0
       at k lt within =
-          elim (decLt k (length begun)) [
-            | yes old ↦
-                getD-set-other (line .text) (line .held) k b 0 (λ e. omega (arith, e, old, all))
-                ∙ holds .bytes k lt old
-                ∙ sym (List·getD-append begun (b ∷ []) 0 k old)
-            | no new ↦
-                let last : k ≡ line .held = omega (arith, new, within, longer, all) in
-                ap (λ (j : ℕ). getD (set (line .text) (line .held) b) j 0) last
-                ∙ getD-set-same (line .text) (line .held) b 0 (omega (arith, holds .room, h))
-                ∙ sym (ap (λ (j : ℕ). getD (begun ++ (b ∷ [])) j 0) (omega (arith, last, all)) ∙ getD-append-add begun (b ∷ []) 0 0)
-          ]
+          upto-more {f = λ k. getD (begun ++ (b ∷ [])) k 0} {n = 8} {i = line .held} {l = line .text} {v = b} h last
+          (record {
+            within = omega (arith, h);
+            size = holds .room;
+            below = λ k old. holds .bytes k (omega (arith, old, h)) (omega (arith, old, all)) ∙ sym (List·getD-append begun (b ∷ []) 0 k (omega (arith, old, all)));
+          })
+          .below k (omega (arith, within, longer, all))
 
 -- the PSN that is shown is that of what stands on the line
 pub line-psn : {begun : List ℕ} {line : Line} → HoldsLine begun line → shownPsn (line .text) (line .size) ≡ psnOf (trimmed begun)

@@ -5,7 +5,7 @@ use mathlib.Core.List.{List, _++_}
 use Prim.Native.Nat.{ℕ, _≤_, _<_, min}
 use lib.Dec.{eqb}
 use lib.ListN.{length, getD}
-use Rattle.address_sheet.specs.Sheet.{entries}
+use Rattle.address_sheet.specs.Sheet.{entryPsn}
 use Rattle.notation.specs.declared.PsnText.{PsnText}
 use Rattle.notation.specs.declared.PsnText.the-variants.{NoNumber}
 use Rattle.notation.specs.Psn.{psnOf}
@@ -30,9 +30,13 @@ pub record HoldsEntries (list : List Entry) (held : SheetEntries) : Type 0 where
   pub psns-room : length (held .psns) ≡ 64
   pub lines-room : length (held .lines) ≡ 64
   pub count : held .count ≡ min 65 (length list)
-  pub psns : (i : ℕ) → i < 64 → i < length list → entries (held .psns) i ≡ psnAt list i
+  pub psns : (i : ℕ) → i < 64 → i < length list → entryPsn (held .psns) i ≡ psnAt list i
   pub lines : (i : ℕ) → i < 64 → i < length list → getD (held .lines) i 0 ≡ lineAt list i
   pub wrong : held .wrong ≡ wrongLine list
+
+-- the first line that is no PSN, 0 where there is none, behind one more
+abbrev pub wrongAfter : ℕ → ℕ → Bool → ℕ
+wrongAfter wrong line right = cond (eqb wrong 0) (cond right 0 line) wrong
 
 -- what is known of an entry: its PSN, 0 where it is none; whether it is one; its line
 pub record IsEntry (entry : Entry) (psn : ℕ) (right : Bool) (line : ℕ) : Type 0 where

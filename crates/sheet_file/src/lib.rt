@@ -5,10 +5,9 @@ ghost use mathlib.Core.Path.{_≡_};
 ghost use mathlib.Core.Bool.{cond};
 ghost use mathlib.Core.List.{List, [], _∷_, _++_};
 ghost use Prim.Native.Nat.{ℕ, _+_, _^_, _<_, _≤_};
-ghost use lib.Dec.{eqb};
 ghost use lib.ListN.{length};
 ghost use Rattle.sheet_file.specs.File.{isWhite, trimmed, Entry, entryOn, fileEntries};
-ghost use Rattle.sheet_file.specs.Reading.{shownPsn, HoldsLine, HoldsEntries, IsEntry, HasRead};
+ghost use Rattle.sheet_file.specs.Reading.{shownPsn, wrongAfter, HoldsLine, HoldsEntries, IsEntry, HasRead};
 
 // A line that is being read: its first eight bytes, how many there are, and the length of what stands on it, 9 where it is longer.
 pub struct Line {
@@ -17,10 +16,10 @@ pub struct Line {
     pub size: usize,
 }
 
-// The entries before it. count is 65 where there are more than 64; wrong is the first line that is no PSN, 0 where there is none.
+// Entries. count is 65 where there are more than 64; wrong is the first line that is no PSN, 0 where there is none.
 pub struct SheetEntries {
-    pub psns: [Psn; address_sheet::MOST],
-    pub lines: [usize; address_sheet::MOST],
+    pub psns: [Psn; address_sheet::SHEET],
+    pub lines: [usize; address_sheet::SHEET],
     pub count: usize,
     pub wrong: usize,
 }
@@ -102,15 +101,15 @@ fn no_entries() -> SheetEntries
     ensures { λ r. ⌜ HoldsEntries [] r ⌝ }
 {
     SheetEntries {
-        psns: [Psn(0); address_sheet::MOST],
-        lines: [0usize; address_sheet::MOST],
+        psns: [Psn(0); address_sheet::SHEET],
+        lines: [0usize; address_sheet::SHEET],
         count: 0,
         wrong: 0,
     }
 }
 
 // One more, where there is room.
-fn next(n: usize) -> usize
+fn one_more(n: usize) -> usize
     ensures { λ r. ⌜ (n < 2 ^ 63 → r ≡ n + 1) ⌝ }
 {
     if n < 0x8000_0000_0000_0000 {
@@ -121,7 +120,7 @@ fn next(n: usize) -> usize
 
 // The first line that is no PSN, where this one may be.
 fn wrong_after(wrong: usize, right: bool, line: usize) -> usize
-    ensures { λ r. ⌜ r ≡ cond (eqb wrong 0) (cond right 0 line) wrong ⌝ }
+    ensures { λ r. ⌜ r ≡ wrongAfter wrong line right ⌝ }
 {
     if wrong != 0 {
         return wrong;
@@ -140,7 +139,7 @@ fn add_entry(entries: SheetEntries, psn: Psn, right: bool, line: usize) -> Sheet
     let mut lines = entries.lines;
     let count = entries.count;
     let wrong = wrong_after(entries.wrong, right, line);
-    if address_sheet::MOST <= count {
+    if address_sheet::SHEET <= count {
         return SheetEntries {
             psns,
             lines,
@@ -169,7 +168,7 @@ fn end_line(entries: SheetEntries, line: Line, before: usize) -> SheetEntries
         return entries;
     }
     let shown = psn_on(text, size);
-    let number = next(before);
+    let number = one_more(before);
     match shown {
         PsnText::Number(psn) => add_entry(entries, psn, true, number),
         PsnText::NoNumber => add_entry(entries, Psn(0), false, number),
@@ -178,7 +177,7 @@ fn end_line(entries: SheetEntries, line: Line, before: usize) -> SheetEntries
 
 // ---- a file
 
-// Of which nothing is read.
+// A file of which nothing is read.
 pub fn start() -> SheetFile
     ensures { λ r. ⌜ HasRead [] r ⌝ }
 {
@@ -198,7 +197,7 @@ fn step(file: SheetFile, byte: u8) -> SheetFile
     if byte == b'\n' {
         return SheetFile {
             line: no_line(),
-            before: next(before),
+            before: one_more(before),
             entries: end_line(entries, line, before),
         };
     }

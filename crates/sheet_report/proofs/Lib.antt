@@ -1,2 +1,3 @@
 -- Laws of what is printed for a sheet's file.
 pub mod Words
+pub mod Statements

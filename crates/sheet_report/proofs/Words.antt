@@ -11,7 +11,7 @@ use lib.ListN.{length, getD, length-append}
 use Rattle.answer.specs.declared.Answer.{Answer}
 use Rattle.answer.specs.Answer.{numberOf, placeOf, isDone}
 use Rattle.answer.proofs.Tests.{done-is}
-use Rattle.address_sheet.specs.Sheet.{sheetAnswer, entries}
+use Rattle.address_sheet.specs.Sheet.{sheetAnswer, entryPsn}
 use Rattle.address_sheet.specs.Promise.{RightCount}
 use Rattle.address_sheet.proofs.Statements.{refused-count, same-sheet, place-within, count-else}
 use Rattle.texts.specs.declared.Text.{Text}
@@ -91,15 +91,15 @@ module _ {list : List Entry} {held : SheetEntries} (holds : HoldsEntries list he
   abbrev own : Answer
   own = sheetAnswer (length list) (psnAt list)
 
-  kept-answer : sheetAnswer (held .count) (entries (held .psns)) ≡ own
+  kept-answer : sheetAnswer (held .count) (entryPsn (held .psns)) ≡ own
   kept-answer =
       elim (decLt 64 (length list)) [
         | yes many ↦
-            refused-count (held .count) (entries (held .psns)) (λ right. omega (arith, right .most, holds .count, many))
+            refused-count (held .count) (entryPsn (held .psns)) (λ right. omega (arith, right .most, holds .count, many))
             ∙ sym (refused-count (length list) (psnAt list) (λ right. omega (arith, right .most, many)))
         | no few ↦
-            ap (λ (n : ℕ). sheetAnswer n (entries (held .psns))) {y = length list} (omega (arith, holds .count, few))
-            ∙ same-sheet (length list) (entries (held .psns)) (psnAt list) (λ i h most. holds .psns i most h)
+            ap (λ (n : ℕ). sheetAnswer n (entryPsn (held .psns))) {y = length list} (omega (arith, holds .count, few))
+            ∙ same-sheet (length list) (entryPsn (held .psns)) (psnAt list) (λ i h most. holds .psns i most h)
       ]
 
   kept-line : namesEntry own ≡ true → getD (held .lines) (placeOf own) 0 ≡ lineAt list (placeOf own)
@@ -132,7 +132,7 @@ module _ (bytes : List ℕ) {held : SheetEntries} (holds : HoldsEntries (fileEnt
       ∙ sym (ap (λ (t : Bool). cond t all other) (ne-eqb (wrongLine (fileEntries bytes)) 0 (λ e. h (holds .wrong ∙ e))))
 
   -- a is what is answered, line that of its place
-  pub right-said : {a : Answer} {place line : ℕ} {text : Text} → held .wrong ≡ 0 → a ≡ sheetAnswer (held .count) (entries (held .psns)) → place ≡ placeOf a
+  pub right-said : {a : Answer} {place line : ℕ} {text : Text} → held .wrong ≡ 0 → a ≡ sheetAnswer (held .count) (entryPsn (held .psns)) → place ≡ placeOf a
       → line ≡ getD (held .lines) place 0 → text ≡ textOf (sheetText a line) → record { wrong = held .wrong; text = text } ≡ saidOf bytes
   unfolding saidOf
   right-said {a} {place} {line} {text} none ha hp hl ht =

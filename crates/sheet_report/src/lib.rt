@@ -54,10 +54,10 @@ fn sheet_text(answer: Answer, line: usize) -> Text
 }
 
 // The line of entry i, 0 past the last.
-fn line_at(lines: [usize; address_sheet::MOST], i: usize) -> usize
+fn line_at(lines: [usize; address_sheet::SHEET], i: usize) -> usize
     ensures { λ r. ⌜ r ≡ getD lines i 0 ⌝ }
 {
-    if i < address_sheet::MOST {
+    if i < address_sheet::SHEET {
         return lines[i];
     }
     0

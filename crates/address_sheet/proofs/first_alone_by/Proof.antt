@@ -1,14 +1,14 @@
 -- `first_alone_by` meets its contract: a search from the front (Tests; laws, First).
 use Prim.Native.Nat.{_-_}
 use Rattle.laws.proofs.First.{Passed, passed-none, first-past}
-use Rattle.address_sheet.specs.Sheet.{aloneBy, entries}
+use Rattle.address_sheet.specs.Sheet.{aloneBy, entryPsn}
 use Rattle.address_sheet.proofs.Tests.{alone-here, alone-on}
 use borrow.Author.Needs.{needs}
 use Rattle.address_sheet.proofs.first_alone_by.Statement.{statement}
 use Rattle.address_sheet.proofs.first_alone_by.Tie as tie
 
 abbrev Inv-loop : tie.InvT-loop
-Inv-loop count number psns i₀ i = Passed (aloneBy number (entries psns)) i
+Inv-loop count number psns i₀ i = Passed (aloneBy number (entryPsn psns)) i
 
 abbrev μ-loop : tie.MeasureT-loop
 μ-loop count number psns i₀ i = count - i

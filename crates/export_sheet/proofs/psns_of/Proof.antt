@@ -2,14 +2,14 @@
 use mathlib.Core.Path.{ap}
 use Prim.Native.Nat.{ℕ, _-_}
 use Rattle.laws.proofs.Fill.{upto-none, upto-more, upto-all}
-use Rattle.export_sheet.specs.Exported.{psnsOf}
-use Rattle.export_sheet.proofs.Exported.{Taken}
+use Rattle.export_sheet.specs.Exported.{givenPsns}
+use Rattle.export_sheet.proofs.Exported.{NumbersTaken}
 use borrow.Author.Needs.{needs}
 use Rattle.export_sheet.proofs.psns_of.Statement.{statement}
 use Rattle.export_sheet.proofs.psns_of.Tie as tie
 
 abbrev Inv-loop : tie.InvT-loop
-Inv-loop given psns₀ i₀ psns i = Taken given i psns
+Inv-loop given psns₀ i₀ psns i = NumbersTaken given i psns
 
 abbrev μ-loop : tie.MeasureT-loop
 μ-loop given psns₀ i₀ psns i = 64 - i
@@ -38,7 +38,7 @@ loop-again c =
     upto-more {n = 64} (search needs) (ap (λ (n : ℕ). record { 0 = n }) (c .number-at .ensures)) (turn .loop .inv)
 
 returns : tie.Need-returns Inv-loop μ-loop
-unfolding psnsOf
+unfolding givenPsns
 returns c = upto-all (search needs) (c .before .loop .inv)
 
 pub psns-of-spec : {M : Type 1} → statement M

@@ -1,5 +1,6 @@
 -- `end_line` meets its contract: a blank line, a PSN, and another text (Files).
 use mathlib.Core.Path.{sym, ap}
+use native.Mathlib.Omega.{arith}
 use Rattle.sheet_file.specs.File.{isNumber, numberIn}
 use Rattle.sheet_file.proofs.Files.{ends-blank, ends-entry}
 use borrow.Author.Needs.{needs}
@@ -7,13 +8,13 @@ use Rattle.sheet_file.proofs.end_line.Statement.{statement}
 use Rattle.sheet_file.proofs.end_line.Tie as tie
 
 returns : tie.Need-returns
-returns c = ends-blank (c .if1 .taken)
+returns c = ends-blank (omega (arith, c .if1 .taken))
 
 psn-on-requires : tie.Need-psn-on-requires
 psn-on-requires c κs = search needs
 
-next-requires : tie.Need-next-requires
-next-requires c κs = search needs
+one-more-requires : tie.Need-one-more-requires
+one-more-requires c κs = search needs
 
 enum-known-shown : tie.Need-enum-known-shown
 enum-known-shown c = search needs
@@ -32,14 +33,14 @@ returns-2 c =
     let told = c .before .before in
     let numbered = told .before .before in
     let on = numbered .before in
-    ends-entry (on .before .if1 .left) (on .psn-on .ensures) (numbered .next .ensures) (sym (ap numberIn (told .shown .given .1))) (sym (ap isNumber (told .shown .given .1))) (c .add-entry .ensures)
+    ends-entry (λ e. omega (arith, on .before .if1 .left, e)) (on .psn-on .ensures) (numbered .one-more .ensures) (sym (ap numberIn (told .shown .given .1))) (sym (ap isNumber (told .shown .given .1))) (c .add-entry .ensures)
 
 returns-3 : tie.Need-returns-3
 returns-3 c =
     let told = c .before in
     let numbered = told .before .before in
     let on = numbered .before in
-    ends-entry (on .before .if1 .left) (on .psn-on .ensures) (numbered .next .ensures) (sym (ap numberIn (told .enum-told .given .1))) (sym (ap isNumber (told .enum-told .given .1))) (c .add-entry2 .ensures)
+    ends-entry (λ e. omega (arith, on .before .if1 .left, e)) (on .psn-on .ensures) (numbered .one-more .ensures) (sym (ap numberIn (told .enum-told .given .1))) (sym (ap isNumber (told .enum-told .given .1))) (c .add-entry2 .ensures)
 
 pub end-line-spec : {M : Type 1} → statement M
 end-line-spec =
@@ -47,7 +48,7 @@ end-line-spec =
     (tie.spec
     returns
     psn-on-requires
-    next-requires
+    one-more-requires
     enum-known-shown
     add-entry-requires
     enum-told

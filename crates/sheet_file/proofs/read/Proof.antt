@@ -1,13 +1,13 @@
 -- `read` meets its contract: a byte a turn (Files).
 use Prim.Native.Nat.{_-_}
 use lib.ListN.{length}
-use Rattle.sheet_file.proofs.Files.{Reads, reads-none, reads-more, reads-all}
+use Rattle.sheet_file.proofs.Files.{PartRead, reads-none, reads-more, reads-all}
 use borrow.Author.Needs.{needs}
 use Rattle.sheet_file.proofs.read.Statement.{statement}
 use Rattle.sheet_file.proofs.read.Tie as tie
 
 abbrev Inv-loop : tie.InvT-loop
-Inv-loop bytes done₀ i₀ done i = Reads done₀ bytes done i
+Inv-loop bytes done₀ i₀ done i = PartRead done₀ bytes done i
 
 abbrev μ-loop : tie.MeasureT-loop
 μ-loop bytes done₀ i₀ done i = length bytes - i

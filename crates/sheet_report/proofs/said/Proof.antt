@@ -1,4 +1,5 @@
 -- `said` meets its contract: a line that is no PSN, and an answer (Words).
+use native.Mathlib.Omega.{arith}
 use Rattle.sheet_report.proofs.Words.{wrong-said, right-said}
 use borrow.Author.Needs.{needs}
 use Rattle.sheet_report.proofs.said.Statement.{statement}
@@ -13,7 +14,7 @@ blank-requires c κs = search needs
 returns : tie.Need-returns
 returns c = λ bytes short read.
     let call = c .before .before .before .before in
-    wrong-said bytes (call .finish .ensures bytes short read) (c .before .if1 .taken) (c .blank .ensures)
+    wrong-said bytes (call .finish .ensures bytes short read) (λ e. omega (arith, c .before .if1 .taken, e)) (c .blank .ensures)
 
 judge-requires : tie.Need-judge-requires
 judge-requires c κs = search needs
@@ -34,7 +35,7 @@ returns-2 c = λ bytes short read.
     let judged = placed .before in
     let none = judged .before in
     let call = none .before .before .before in
-    right-said bytes (call .finish .ensures bytes short read) (none .if1 .left) (judged .judge .ensures .0) (placed .place .ensures) (lined .line-at .ensures) (c .sheet-text .ensures)
+    right-said bytes (call .finish .ensures bytes short read) (omega (arith, none .if1 .left)) (judged .judge .ensures .0) (placed .place .ensures) (lined .line-at .ensures) (c .sheet-text .ensures)
 
 pub said-spec : {M : Type 1} → statement M
 said-spec =
