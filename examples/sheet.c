@@ -1,4 +1,4 @@
-/* A sheet that is accepted, and three that are refused: for a repetition, for a PSN, and for their number. */
+/* A sheet that is accepted, and three that are refused: one with too many PSNs, one with a repetition, one with a PSN that none may have. */
 #include "bdre.h"
 
 #include <stdio.h>

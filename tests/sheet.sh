@@ -80,8 +80,8 @@ judged 'a line of 200008 bytes' 6 1 2
 
 # The ends of parts of 65,536 bytes fall within lines, and on them: blank lines in front move them by a byte each.
 for blank in 0 1 2 3 4 5 6 7 8; do
-    { awk -v n="$blank" 'BEGIN { for (i = 0; i < n; i++) print "" }' && awk 'BEGIN { for (i = 0; i < 65529; i++) printf "\n" }' && printf '00100020\n00100000\n00100020\n'; } >"$room/file"
-    judged "a part ends beside a PSN, $blank" 24 2 $((65529 + blank + 3))
+    { awk -v n="$blank" 'BEGIN { for (i = 0; i < n; i++) print "" }' && awk 'BEGIN { for (i = 0; i < 65528; i++) printf "\n" }' && printf '00100020\n00100000\n00100020\n'; } >"$room/file"
+    judged "a part ends beside a PSN, $blank" 24 2 $((65528 + blank + 3))
 done
 
 begin 'sheet: a file in two reads'
@@ -108,7 +108,7 @@ no_psn 'white bytes in front' 1 ' 00100000\n'
 no_psn 'white bytes within' 1 '0010 0000\n'
 no_psn 'two on a line' 3 '\n00100020\n00100000 00100040\n'
 no_psn 'a carriage return within' 1 '0010000\r0\n'
-no_psn 'a zero byte' 1 '0010000\0000\n'
+no_psn 'a zero byte' 1 '001000\0000\n'
 no_psn 'a byte above 127' 1 '\3740100000\n'
 no_psn 'a form feed' 2 '00100000\n\f\n'
 no_psn 'the last line, without its end' 4 '00100000\n\n00100020\n0010004'
@@ -131,6 +131,9 @@ printf '00100000\n' >"$room/file"
 given file "$room/file"
 ends 2 'usage: sheet FILE' '' sheet
 ends 2 'usage: sheet FILE' '' sheet file file
+begin 'sheet: a file whose name is -'
+given - "$room/file"
+ends 0 '0 0' '' sheet -
 begin 'sheet: no such file'
 ends 1 '' 'file: No such file or directory' sheet file
 begin 'sheet: a folder'
@@ -138,3 +141,9 @@ given_folder file
 ends 1 '' 'file: Is a directory' sheet file
 begin 'sheet: an empty name'
 ends 1 '' 'a file name is missing, empty or too long' sheet ''
+ends 1 '' 'a file name is missing, empty or too long' sheet "$(printf '%05000d' 0)"
+begin 'sheet: from standard input'
+printf '00100000\n00100000\n' >"$room/input"
+ends 1 '24 1
+line 2: an earlier entry has the same PSN' '' sheet /dev/stdin
+: >"$room/input"

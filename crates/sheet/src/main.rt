@@ -2,31 +2,31 @@
 use sheet_file::SheetFile;
 
 // What was read so far, and what the last read gave: 0 at the end of the file, below 0 where it cannot be read.
-struct Part {
+struct Turn {
     file: SheetFile,
     got: isize,
 }
 
-fn read_part(fd: i32, file: SheetFile) -> Part {
+fn read_once(fd: i32, file: SheetFile) -> Turn {
     let mut bytes = io::large_buffer();
     let got = libc::read(fd, &mut bytes);
     let n = io::count(got, &bytes);
     let file = sheet_file::read(file, &bytes[..n]);
-    Part { file, got }
+    Turn { file, got }
 }
 
-// A file has fewer than 2^63 bytes, so it ends before the turns do.
-fn read_all(fd: i32) -> Part {
+// Each turn but the last takes a byte or more, and a file has fewer than 2^63.
+fn read_all(fd: i32) -> Turn {
     let mut file = sheet_file::start();
-    for _ in 0..0x8000_0000_0000u64 {
-        let part = read_part(fd, file);
-        if part.got <= 0 {
-            return part;
+    for _ in 0..0x8000_0000_0000_0000u64 {
+        let turn = read_once(fd, file);
+        if turn.got <= 0 {
+            return turn;
         }
-        let next = part.file;
+        let next = turn.file;
         file = next;
     }
-    Part { file, got: 0 }
+    Turn { file, got: 0 }
 }
 
 fn no_psn(path: &[u8], line: usize) {
@@ -52,9 +52,9 @@ fn judge(path: &[u8]) {
         os::fail(path);
         return;
     }
-    let part = read_all(fd);
-    let file = part.file;
-    if part.got < 0 {
+    let last = read_all(fd);
+    let file = last.file;
+    if last.got < 0 {
         os::fail(path);
     } else {
         say(path, file);

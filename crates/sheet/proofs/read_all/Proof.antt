@@ -5,10 +5,10 @@ use Rattle.sheet.proofs.read_all.Statement.{statement}
 use Rattle.sheet.proofs.read_all.Tie as tie
 
 abbrev Inv-loop : tie.InvT-loop
-Inv-loop fd file₀ turn₀ file turn = turn ≤ 2 ^ 47
+Inv-loop fd file₀ turn₀ file turn = turn ≤ 2 ^ 63
 
 abbrev μ-loop : tie.MeasureT-loop
-μ-loop fd file₀ turn₀ file turn = 2 ^ 47 - turn
+μ-loop fd file₀ turn₀ file turn = 2 ^ 63 - turn
 
 start-requires : tie.Need-start-requires Inv-loop μ-loop
 start-requires c κs = search needs
@@ -16,8 +16,8 @@ start-requires c κs = search needs
 loop-holds : tie.Need-loop-holds Inv-loop μ-loop
 loop-holds c = search needs
 
-read-part-requires : tie.Need-read-part-requires Inv-loop μ-loop
-read-part-requires c κs = search needs
+read-once-requires : tie.Need-read-once-requires Inv-loop μ-loop
+read-once-requires c κs = search needs
 
 returns : tie.Need-returns Inv-loop μ-loop
 returns c = search needs
@@ -42,7 +42,7 @@ read-all-spec =
     μ-loop
     start-requires
     loop-holds
-    read-part-requires
+    read-once-requires
     returns
     add-counter
     loop-less
