@@ -1,6 +1,6 @@
 -- What is promised of a sheet: which are accepted, and what is answered of every other. Assumes nothing.
 use mathlib.Core.Path.{_≡_, refl, sym, ap, ap₂, subst, _∙_}
-use mathlib.Core.Bool.{Bool, true, false, cond}
+use mathlib.Core.Bool.{Bool, true, false}
 use mathlib.Core.Logic.{_↔_}
 use Prim.Native.Nat.{ℕ, _<_, _≤_}
 use native.Mathlib.Decide.{decLt}
@@ -16,11 +16,11 @@ use Rattle.address.proofs.Judging.{accepted-else}
 use Rattle.laws.specs.First.{first}
 use Rattle.laws.proofs.First.{first-at, first-all, first-none, first-holds, first-ext}
 use Rattle.address_sheet.specs.Sheet.{countAnswer, aloneBy, sameAs, repeats, overAll, entriesAnswer, sheetAnswer}
-use Rattle.address_sheet.specs.Promise.{RightCount, RightSheet, AloneBy, RepeatsEarlier, Lowest, Says, accepted, wrong-count, no-multiple, no-zone, repeated}
+use Rattle.address_sheet.specs.Promise.{RightCount, RightSheet, AloneBy, RepeatsEarlier, Lowest, Says, at-0, at-6, at-7, at-23, at-24}
 use Rattle.address_sheet.proofs.Tests.{count-right, count-done, count-refused, repeats-not, repeats-is, repeats-earlier, over-done, laterTests, fails-6, fails-7, fails-24, fails-none}
 
 module _ (count : ℕ) (psn : ℕ → ℕ) where
-  -- no entry is answered by this number alone
+  -- no entry, alone, is answered by this number
   none-by : (number : ℕ) → ((i : ℕ) → i < count → AloneBy number psn i → ⊥) → count ≡ first count (aloneBy number psn)
   none-by number h = sym (first-none count (aloneBy number psn) (record { fails = λ i lt. ne-eqb (numberOf (judged (psn i))) number (h i lt) }))
 
@@ -51,9 +51,9 @@ module _ (count : ℕ) (psn : ℕ → ℕ) where
 
   -- ---- accepted
 
-  accepts : RightSheet count psn → sheetAnswer count psn ≡ Done
+  right-accepted : RightSheet count psn → sheetAnswer count psn ≡ Done
   unfolding sheetAnswer
-  accepts right =
+  right-accepted right =
       then-next (countAnswer count) (entriesAnswer count psn) (count-right count (right .size))
       ∙ sym (fails-none count psn (none-refused (right .alone) 6 (omega arith)) (omega arith) (none-refused (right .alone) 7 (omega arith)) (omega arith) none-again (omega arith))
     where
@@ -63,9 +63,9 @@ module _ (count : ℕ) (psn : ℕ → ℕ) where
       none-again : count ≡ first count (repeats psn)
       none-again = sym (first-none count (repeats psn) (record { fails = λ i h. repeats-false i (apart i h) }))
 
-  rightly : sheetAnswer count psn ≡ Done → RightSheet count psn
+  accepted-right : sheetAnswer count psn ≡ Done → RightSheet count psn
   unfolding sheetAnswer
-  rightly e =
+  accepted-right e =
       let two = then-done (countAnswer count) (entriesAnswer count psn) e in
       let more = then-done (overAll NoMultiple count (aloneBy 6 psn)) (laterTests count psn) (two .1) in
       let last = then-done (overAll NoZone count (aloneBy 7 psn)) (overAll Repeated count (repeats psn)) (more .1) in
@@ -83,8 +83,8 @@ module _ (count : ℕ) (psn : ℕ → ℕ) where
       }
 
   -- ACCEPTED EXACTLY WHERE THE COUNT IS RIGHT, EVERY ENTRY IS ACCEPTED ALONE AND NO TWO ARE EQUAL
-  pub accepted-iff : (sheetAnswer count psn ≡ Done) ↔ RightSheet count psn
-  accepted-iff = (rightly, accepts)
+  pub sheet-iff : (sheetAnswer count psn ≡ Done) ↔ RightSheet count psn
+  sheet-iff = (accepted-right, right-accepted)
 
   -- ---- refused: of every other sheet one of these tells the answer
 
@@ -136,20 +136,20 @@ module _ (count : ℕ) (psn : ℕ → ℕ) where
         elim (decLt (first count (repeats psn)) count) [
           | yes h ↦
               subst (Says count psn) (fails-24 count psn refl past6 refl past7 refl h)
-              (repeated (first count (repeats psn)) size all-alone (found (repeats psn) (RepeatsEarlier psn) (repeats-earlier psn) (repeats-not psn) h))
+              (at-24 (first count (repeats psn)) size all-alone (found (repeats psn) (RepeatsEarlier psn) (repeats-earlier psn) (repeats-not psn) h))
           | no past ↦
               let e = fails-none count psn refl past6 refl past7 refl (omega (arith, past)) in
-              subst (Says count psn) e (accepted (accepted-iff count psn .0 (counted count psn size ∙ sym e)))
+              subst (Says count psn) e (at-0 (sheet-iff count psn .0 (counted count psn size ∙ sym e)))
         ]
 
   says-entries : RightCount count → Says count psn (entriesAnswer count psn)
   says-entries size =
       elim (decLt (first count (aloneBy 6 psn)) count) [
-        | yes h6 ↦ subst (Says count psn) (fails-6 count psn refl h6) (no-multiple (first count (aloneBy 6 psn)) size (found-by 6 h6))
+        | yes h6 ↦ subst (Says count psn) (fails-6 count psn refl h6) (at-6 (first count (aloneBy 6 psn)) size (found-by 6 h6))
         | no p6 ↦
             let past6 : count ≤ first count (aloneBy 6 psn) = omega (arith, p6) in
             elim (decLt (first count (aloneBy 7 psn)) count) [
-              | yes h7 ↦ subst (Says count psn) (fails-7 count psn refl past6 refl h7) (no-zone (first count (aloneBy 7 psn)) size (none-found 6 past6) (found-by 7 h7))
+              | yes h7 ↦ subst (Says count psn) (fails-7 count psn refl past6 refl h7) (at-7 (first count (aloneBy 7 psn)) size (none-found 6 past6) (found-by 7 h7))
               | no p7 ↦ says-last size past6 (omega (arith, p7))
             ]
       ]
@@ -164,7 +164,7 @@ module _ (count : ℕ) (psn : ℕ → ℕ) where
           subst (Says count psn) (sym (counted count psn size)) (says-entries size)
       by false t =
           let wrong : RightCount count → ⊥ = λ right. done-not (countAnswer count) t (count-right count right) in
-          subst (Says count psn) (sym (refused-count count psn wrong)) (wrong-count wrong)
+          subst (Says count psn) (sym (refused-count count psn wrong)) (at-23 wrong)
 
 -- ---- as the code has it: a is what is answered of the count, d whether it is `Done`
 
@@ -173,7 +173,7 @@ module _ (count : ℕ) (psn : ℕ → ℕ) {a : Answer} {d : Bool} (ha : a ≡ c
   may-judge e = count-done count (done-told ha hd e) .most
 
   judges : {r : Answer} → r ≡ sheetAnswer count psn → (r ≡ sheetAnswer count psn) × ((r ≡ Done) ↔ RightSheet count psn)
-  judges e = (e, subst (λ (a : Answer). (a ≡ Done) ↔ RightSheet count psn) (sym e) (accepted-iff count psn))
+  judges e = (e, subst (λ (a : Answer). (a ≡ Done) ↔ RightSheet count psn) (sym e) (sheet-iff count psn))
 
   pub judged-whole : {r : Answer} → d ≡ true → r ≡ entriesAnswer count psn → (r ≡ sheetAnswer count psn) × ((r ≡ Done) ↔ RightSheet count psn)
   unfolding sheetAnswer

@@ -4,7 +4,7 @@ use mathlib.Core.Bool.{Bool, true, false, cond, _&&_}
 use Prim.Native.Nat.{ℕ, _+_, _-_, _<_, _≤_}
 use native.Mathlib.Decide.{decLt}
 use native.Mathlib.Omega.{arith}
-use borrow.Author.Tests.{eq-eqb, ne-eqb, eqb-true, eqb-false, lt-ltb, le-ltb, ltb-true, ltb-false, le-leb, lt-leb, leb-true}
+use borrow.Author.Tests.{eq-eqb, ne-eqb, eqb-true, eqb-false, lt-ltb, le-ltb, ltb-true, ltb-false, le-leb, leb-true}
 use lib.Dec.{leb, ltb}
 use Rattle.answer.specs.declared.Answer.{Answer}
 use Rattle.answer.specs.declared.Answer.the-variants.{Done, NoMultiple, NoZone, WrongCount, Repeated}
@@ -37,7 +37,7 @@ module _ (count : ℕ) where
       by true h = absurd (wrong (count-done (ap (λ (t : Bool). cond t Done WrongCount) h)))
       by false h = refl
 
--- ---- the lowest entry that is answered by a number alone; as the code has it, a is what is answered of entry i and n that answer's number
+-- ---- the lowest entry that, alone, is answered by a number; as the code has it, a is what is answered of entry i and n that answer's number
 
 module _ (psn : ℕ → ℕ) (i number : ℕ) {n : ℕ} {a : Answer} (passed : Passed (aloneBy number psn) i) (ha : a ≡ judged (psn i)) (hn : n ≡ numberOf a) where
   alone : numberOf (judged (psn i)) ≡ n
@@ -96,7 +96,7 @@ module _ (psn : ℕ → ℕ) {i j : ℕ} (none : NoneSince psn i j) where
       let past = first-none i (sameAs psn i) (record { fails = λ k h. none .differ k (omega (arith, all)) h }) in
       (omega arith, ap (λ (n : ℕ). ltb n i) (sym past))
 
--- in a loop over all entries: earlier is the nearest that has the PSN of entry i
+-- in a loop over all entries: earlier is below i exactly where an earlier entry has the PSN of entry i
 module _ (psn : ℕ → ℕ) {i earlier : ℕ} (passed : Passed (repeats psn) i) (h : (earlier ≤ i) × (ltb earlier i ≡ repeats psn i)) where
   pub repeated-here : {count : ℕ} → i < count → (i - earlier ≡ 0 → ⊥) → i ≡ first count (repeats psn)
   repeated-here within far = first-here within passed (sym (h .1) ∙ lt-ltb earlier i (omega (arith, h .0, far)))

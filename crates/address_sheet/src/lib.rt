@@ -25,7 +25,7 @@ fn judge_count(count: usize) -> Answer
     Answer::Done
 }
 
-// The lowest entry that is answered by this number alone, count where there is none.
+// The lowest entry whose PSN, alone, is answered by this number; count where there is none.
 fn first_alone_by(psns: [Psn; SHEET], count: usize, number: u32) -> usize
     requires { ⌜ count ≤ 64 ⌝ }
     ensures { λ r. ⌜ r ≡ first count (aloneBy number (entryPsn psns)) ⌝ }

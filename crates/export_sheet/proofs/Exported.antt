@@ -12,7 +12,7 @@ use Rattle.answer.proofs.Tests.{number-zero}
 use Rattle.address.specs.declared.Psn.{Psn}
 use Rattle.address_sheet.specs.Sheet.{sheetAnswer, entryPsn}
 use Rattle.address_sheet.specs.Promise.{RightSheet}
-use Rattle.address_sheet.proofs.Statements.{accepted-iff, same-sheet}
+use Rattle.address_sheet.proofs.Statements.{sheet-iff, same-sheet}
 use Rattle.answer_numbers.specs.declared.Answered.{Answered}
 use Rattle.answer_numbers.specs.Numbers.{answered}
 use Rattle.export_sheet.specs.Exported.{givenPsn, givenPsns}
@@ -33,6 +33,6 @@ pub judges-numbers : (given : List ℕ) {psns : List Psn} {a : Answer} {r : Answ
     → (r ≡ answered (sheetAnswer (length given) (givenPsn given))) × ((r .number ≡ 0) ↔ RightSheet (length given) (givenPsn given))
 judges-numbers given {psns} {a} {r} hp ha hr =
     let is = ha ∙ ap (λ (l : List Psn). sheetAnswer (length given) (entryPsn l)) hp ∙ as-numbers given in
-    let iff = accepted-iff (length given) (givenPsn given) in
+    let iff = sheet-iff (length given) (givenPsn given) in
     let number : r .number ≡ numberOf (sheetAnswer (length given) (givenPsn given)) = ap (λ (x : Answered). x .number) hr ∙ ap numberOf is in
     (hr ∙ ap answered is, (λ e. iff .0 (number-zero (sheetAnswer (length given) (givenPsn given)) (sym number ∙ e)), λ right. number ∙ ap numberOf (iff .1 right)))

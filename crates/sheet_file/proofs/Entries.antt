@@ -5,15 +5,13 @@ use mathlib.Core.List.{List, [], _∷_, _++_}
 use Prim.Native.Nat.{ℕ, suc, _+_, _<_, _≤_}
 use native.Mathlib.Omega.{arith}
 use borrow.Author.Tests.{eq-eqb, ne-eqb}
-use lib.Dec.{eqb}
 use lib.ListN.{length, getD, set, length-set, length-append, List·getD-append}
 use lib.Seq.{getD-append-add}
 use Rattle.laws.proofs.Fill.{upto-more}
 use Rattle.address.specs.declared.Psn.{Psn}
-use Rattle.address_sheet.specs.Sheet.{entryPsn}
 use Rattle.notation.specs.Psn.{psnOf}
 use Rattle.sheet_file.specs.declared.SheetEntries.{SheetEntries}
-use Rattle.sheet_file.specs.File.{Entry, lineOf, isNumber, numberIn, wrongLine, entryAt}
+use Rattle.sheet_file.specs.File.{Entry, lineOf, isNumber, numberIn, wrongLine, fileEntry}
 use Rattle.sheet_file.specs.Reading.{wrongAfter, HoldsEntries, IsEntry}
 
 -- ---- the first line that is no PSN
@@ -46,17 +44,17 @@ module _ (list : List Entry) (entry : Entry) where
   longer : length (list ++ (entry ∷ [])) ≡ suc (length list)
   longer = omega (arith, length-append list (entry ∷ []))
 
-  old-at : (i : ℕ) → i < length list → entryAt (list ++ (entry ∷ [])) i ≡ entryAt list i
+  old-at : (i : ℕ) → i < length list → fileEntry (list ++ (entry ∷ [])) i ≡ fileEntry list i
   old-at i h = List·getD-append list (entry ∷ []) (record { before = 0; text = [] }) i h
 
-  new-at : (i : ℕ) → i ≡ length list → entryAt (list ++ (entry ∷ [])) i ≡ entry
-  new-at i e = ap (entryAt (list ++ (entry ∷ []))) {y = length list + 0} (omega (arith, e)) ∙ getD-append-add list (entry ∷ []) 0 (record { before = 0; text = [] })
+  new-at : (i : ℕ) → i ≡ length list → fileEntry (list ++ (entry ∷ [])) i ≡ entry
+  new-at i e = ap (fileEntry (list ++ (entry ∷ []))) {y = length list + 0} (omega (arith, e)) ∙ getD-append-add list (entry ∷ []) 0 (record { before = 0; text = [] })
 
   -- what is kept of each entry, f, with that of the new one set behind the others
-  set-behind : {A : Type 0} (d : A) (f : Entry → A) (l : List A) (n : ℕ) (v : A) → n ≡ length list → n < 64 → length l ≡ 64 → v ≡ f entry
-      → ((i : ℕ) → i < length list → getD l i d ≡ f (entryAt list i)) → (i : ℕ) → i < length (list ++ (entry ∷ [])) → getD (set l n v) i d ≡ f (entryAt (list ++ (entry ∷ [])) i)
-  set-behind {A} d f l n v all h room new old i within =
-      upto-more {d = d} {f = λ k. f (entryAt (list ++ (entry ∷ [])) k)} {n = 64} {i = n} {l = l} {v = v} h (new ∙ sym (ap f (new-at n all)))
+  kept-behind : {A : Type 0} (d : A) (f : Entry → A) (l : List A) (n : ℕ) (v : A) → n ≡ length list → n < 64 → length l ≡ 64 → v ≡ f entry
+      → ((i : ℕ) → i < length list → getD l i d ≡ f (fileEntry list i)) → (i : ℕ) → i < length (list ++ (entry ∷ [])) → getD (set l n v) i d ≡ f (fileEntry (list ++ (entry ∷ [])) i)
+  kept-behind {A} d f l n v all h room new old i within =
+      upto-more {d = d} {f = λ k. f (fileEntry (list ++ (entry ∷ [])) k)} {n = 64} {i = n} {l = l} {v = v} h (new ∙ sym (ap f (new-at n all)))
       (record { within = omega (arith, h); size = room; below = λ k lt. old k (omega (arith, lt, all)) ∙ sym (ap f (old-at k (omega (arith, lt, all)))) })
       .below i (omega (arith, within, longer, all))
 
@@ -89,10 +87,10 @@ module _ (list : List Entry) (entry : Entry) where
           count = omega (arith, all, longer, h);
           psns = λ i lt within.
               ap (λ (q : Psn). q .0)
-              (set-behind (record { 0 = 0 }) (λ e. record { 0 = numberIn (psnOf (e .text)) }) (held .psns) (held .count) p all h (holds .psns-room) (λ j. record { 0 = (hp ∙ is .own-psn) j })
+              (kept-behind (record { 0 = 0 }) (λ e. record { 0 = numberIn (psnOf (e .text)) }) (held .psns) (held .count) p all h (holds .psns-room) (λ j. record { 0 = (hp ∙ is .own-psn) j })
               (λ k old j. record { 0 = holds .psns k (omega (arith, old, all, h)) old j }) i within);
           lines = λ i lt within.
-              set-behind 0 lineOf (held .lines) (held .count) line all h (holds .lines-room) (is .own-line) (λ k old. holds .lines k (omega (arith, old, all, h)) old) i within;
+              kept-behind 0 lineOf (held .lines) (held .count) line all h (holds .lines-room) (is .own-line) (λ k old. holds .lines k (omega (arith, old, all, h)) old) i within;
           wrong = is-wrong;
         }
       where

@@ -27,7 +27,7 @@ entry-one n [] h = absurd (h refl)
 entry-one n (b ∷ text) h = refl
 
 -- what the end of a line promises: held are the entries and the line before it, r the entries behind it
-abbrev pub Ends : SheetEntries → Line → ℕ → SheetEntries → Type 0
+abbrev Ends : SheetEntries → Line → ℕ → SheetEntries → Type 0
 Ends held line before r =
     (list : List Entry) (begun : List ℕ) → before < 2 ^ 63 → HoldsEntries list held → HoldsLine begun line → HoldsEntries (list ++ entryOn before (trimmed begun)) r
 

@@ -66,15 +66,15 @@ unfoldable pub wrongLine : List Entry → ℕ
 wrongLine [] = 0
 wrongLine (entry ∷ rest) = cond (isNumber (psnOf (entry .text))) (wrongLine rest) (lineOf entry)
 
-abbrev pub entryAt : List Entry → ℕ → Entry
-entryAt list i = getD list i (record { before = 0; text = [] })
+abbrev pub fileEntry : List Entry → ℕ → Entry
+fileEntry list i = getD list i (record { before = 0; text = [] })
 
 -- PSN and line of entry i
 abbrev pub psnAt : List Entry → ℕ → ℕ
-psnAt list i = numberIn (psnOf (entryAt list i .text))
+psnAt list i = numberIn (psnOf (fileEntry list i .text))
 
 abbrev pub lineAt : List Entry → ℕ → ℕ
-lineAt list i = lineOf (entryAt list i)
+lineAt list i = lineOf (fileEntry list i)
 
 -- what is answered of the sheet, where every entry is a PSN
 abbrev pub fileAnswer : List ℕ → Answer

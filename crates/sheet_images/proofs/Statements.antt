@@ -5,7 +5,7 @@ use Prim.Native.Nat.{ℕ, _<_}
 use Rattle.answer.specs.declared.Answer.the-variants.{Done}
 use Rattle.address_sheet.specs.Sheet.{sheetAnswer}
 use Rattle.address_sheet.specs.Promise.{RightSheet}
-use Rattle.address_sheet.proofs.Statements.{accepted-iff}
+use Rattle.address_sheet.proofs.Statements.{sheet-iff}
 use Rattle.image.specs.Image.{Input}
 use Rattle.image.proofs.Demand3.{Same, images-equal, equal-images}
 use Rattle.image.proofs.Statements.{zeros, zeros-accepted}
@@ -13,7 +13,7 @@ use Rattle.sheet_images.specs.Images.{ClusterOf, ImagesApart}
 
 module _ (count : ℕ) (psn : ℕ → ℕ) (accepted : sheetAnswer count psn ≡ Done) where
   right : RightSheet count psn
-  right = accepted-iff count psn .0 accepted
+  right = sheet-iff count psn .0 accepted
 
   -- two inputs of which all parts are equal have one PSN
   no-same : (i j : ℕ) → i < count → j < count → (i ≡ j → ⊥) → (a b : Input) → ClusterOf psn i a → ClusterOf psn j b → Same a b → ⊥

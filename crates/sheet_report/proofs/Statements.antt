@@ -12,8 +12,7 @@ use Rattle.answer.specs.declared.Answer.{Answer}
 use Rattle.answer.specs.declared.Answer.the-variants.{Done}
 use Rattle.answer.specs.Answer.{numberOf, placeOf}
 use Rattle.answer.proofs.Tests.{number-zero}
-use Rattle.address_sheet.specs.Promise.{RightSheet}
-use Rattle.address_sheet.proofs.Statements.{accepted-iff}
+use Rattle.address_sheet.proofs.Statements.{sheet-iff}
 use Rattle.texts.specs.declared.Text.{Text}
 use Rattle.texts.specs.Text.{the, textOf, blankText}
 use Rattle.texts.specs.Numbers.{decimalTo, decimal}
@@ -22,7 +21,7 @@ use Rattle.report.specs.Words.{meaning}
 use Rattle.report.proofs.Statements.{number-small}
 use Rattle.sheet_file.specs.File.{fileEntries, wrongLine, psnAt, lineAt, fileAnswer}
 use Rattle.sheet_report.specs.declared.SheetSaid.{SheetSaid}
-use Rattle.sheet_report.specs.Said.{lineWords, sheetText, saidOf}
+use Rattle.sheet_report.specs.Said.{lineWords, sheetText, fileSaid, RightFile}
 
 -- the number stands before the first space
 zero-text : (a : Answer) (line : ℕ) → sheetText a line ≡ the "0 0\n" → a ≡ Done
@@ -38,10 +37,6 @@ unfolding sheetText decimalTo
 text-zero a line e = ap (λ (x : Answer). sheetText x line) e
 
 module _ (bytes : List ℕ) where
-  -- every line is a PSN or blank, and the sheet is right
-  abbrev pub RightFile : Type 0
-  RightFile = (wrongLine (fileEntries bytes) ≡ 0) × RightSheet (length (fileEntries bytes)) (psnAt (fileEntries bytes))
-
   line : ℕ
   line = lineAt (fileEntries bytes) (placeOf (fileAnswer bytes))
 
@@ -49,27 +44,27 @@ module _ (bytes : List ℕ) where
   abbrev printed : Bool → Text
   printed t = cond t (textOf (sheetText (fileAnswer bytes) line)) blankText
 
-  is-printed : saidOf bytes .text ≡ printed (eqb (wrongLine (fileEntries bytes)) 0)
-  unfolding saidOf line
+  is-printed : fileSaid bytes .text ≡ printed (eqb (wrongLine (fileEntries bytes)) 0)
+  unfolding fileSaid line
   is-printed = by (eqb (wrongLine (fileEntries bytes)) 0)
     where
       by : (t : Bool) → cond {A = SheetSaid} t (record { wrong = 0; text = printed true }) (record { wrong = wrongLine (fileEntries bytes); text = blankText }) .text ≡ printed t
       by true = refl
       by false = refl
 
-  only : (t : Bool) → eqb (wrongLine (fileEntries bytes)) 0 ≡ t → printed t ≡ textOf (the "0 0\n") → RightFile
+  only : (t : Bool) → eqb (wrongLine (fileEntries bytes)) 0 ≡ t → printed t ≡ textOf (the "0 0\n") → RightFile bytes
   unfolding textOf blankText
   only true t e =
       let done = zero-text (fileAnswer bytes) line (text-same (sheetText (fileAnswer bytes) line) (the "0 0\n") e) in
-      (eqb-true (wrongLine (fileEntries bytes)) 0 t, accepted-iff (length (fileEntries bytes)) (psnAt (fileEntries bytes)) .0 done)
+      (eqb-true (wrongLine (fileEntries bytes)) 0 t, sheet-iff (length (fileEntries bytes)) (psnAt (fileEntries bytes)) .0 done)
   only false t e = let none : _≡_ {A = ℕ} 0 4 = ap (λ (x : Text). x .size) e in absurd (omega arith)
 
   -- `0 0` IS PRINTED FOR AN ACCEPTED SHEET ALONE
-  pub zero-only : (saidOf bytes .text ≡ textOf (the "0 0\n")) ↔ RightFile
+  pub zero-only : (fileSaid bytes .text ≡ textOf (the "0 0\n")) ↔ RightFile bytes
   zero-only = (
     λ e. only (eqb (wrongLine (fileEntries bytes)) 0) refl (sym is-printed ∙ e),
     λ right.
         is-printed
         ∙ ap printed (eq-eqb (wrongLine (fileEntries bytes)) 0 (right .0))
-        ∙ ap textOf (text-zero (fileAnswer bytes) line (accepted-iff (length (fileEntries bytes)) (psnAt (fileEntries bytes)) .1 (right .1))),
+        ∙ ap textOf (text-zero (fileAnswer bytes) line (sheet-iff (length (fileEntries bytes)) (psnAt (fileEntries bytes)) .1 (right .1))),
   )

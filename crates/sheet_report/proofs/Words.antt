@@ -25,7 +25,7 @@ use Rattle.sheet_file.specs.declared.SheetEntries.{SheetEntries}
 use Rattle.sheet_file.specs.File.{Entry, fileEntries, wrongLine, psnAt, lineAt, fileAnswer}
 use Rattle.sheet_file.specs.Reading.{HoldsEntries}
 use Rattle.sheet_report.specs.declared.SheetSaid.{SheetSaid}
-use Rattle.sheet_report.specs.Said.{namesEntry, lineWords, sheetText, saidOf}
+use Rattle.sheet_report.specs.Said.{namesEntry, lineWords, sheetText, fileSaid}
 
 -- ---- whether an entry is named; n is the answer's number
 
@@ -125,16 +125,16 @@ module _ (bytes : List ℕ) {held : SheetEntries} (holds : HoldsEntries (fileEnt
   abbrev other : SheetSaid
   other = record { wrong = wrongLine (fileEntries bytes); text = blankText }
 
-  pub wrong-said : {b : Text} → (held .wrong ≡ 0 → ⊥) → b ≡ blankText → record { wrong = held .wrong; text = b } ≡ saidOf bytes
-  unfolding saidOf
+  pub wrong-said : {b : Text} → (held .wrong ≡ 0 → ⊥) → b ≡ blankText → record { wrong = held .wrong; text = b } ≡ fileSaid bytes
+  unfolding fileSaid
   wrong-said {b} h hb =
       (λ i. record { wrong = holds .wrong i; text = hb i })
       ∙ sym (ap (λ (t : Bool). cond t all other) (ne-eqb (wrongLine (fileEntries bytes)) 0 (λ e. h (holds .wrong ∙ e))))
 
   -- a is what is answered, line that of its place
   pub right-said : {a : Answer} {place line : ℕ} {text : Text} → held .wrong ≡ 0 → a ≡ sheetAnswer (held .count) (entryPsn (held .psns)) → place ≡ placeOf a
-      → line ≡ getD (held .lines) place 0 → text ≡ textOf (sheetText a line) → record { wrong = held .wrong; text = text } ≡ saidOf bytes
-  unfolding saidOf
+      → line ≡ getD (held .lines) place 0 → text ≡ textOf (sheetText a line) → record { wrong = held .wrong; text = text } ≡ fileSaid bytes
+  unfolding fileSaid
   right-said {a} {place} {line} {text} none ha hp hl ht =
       let is : a ≡ fileAnswer bytes = ha ∙ kept-answer holds in
       let at : line ≡ getD (held .lines) (placeOf (fileAnswer bytes)) 0 = hl ∙ ap (λ (n : ℕ). getD (held .lines) n 0) (hp ∙ ap placeOf is) in

@@ -12,7 +12,7 @@ ghost use Prim.Native.Nat.{ℕ, _^_, _<_};
 ghost use lib.ListN.{length, getD};
 ghost use Rattle.texts.specs.Text.{added, textOf};
 ghost use Rattle.sheet_file.specs.Reading.{HasRead};
-ghost use Rattle.sheet_report.specs.Said.{namesEntry, lineWords, sheetText, saidOf};
+ghost use Rattle.sheet_report.specs.Said.{namesEntry, lineWords, sheetText, fileSaid};
 
 // The first line that is no PSN, or 0 and what is printed.
 pub struct SheetSaid {
@@ -65,7 +65,7 @@ fn line_at(lines: [usize; address_sheet::SHEET], i: usize) -> usize
 
 // What is said of a file that was read to its end.
 pub fn said(file: SheetFile) -> SheetSaid
-    ensures { λ r. ⌜ ((bytes : List ℕ) → length bytes < 2 ^ 63 → HasRead bytes file → r ≡ saidOf bytes) ⌝ }
+    ensures { λ r. ⌜ ((bytes : List ℕ) → length bytes < 2 ^ 63 → HasRead bytes file → r ≡ fileSaid bytes) ⌝ }
 {
     let entries = sheet_file::finish(file);
     let psns = entries.psns;

@@ -6,7 +6,7 @@ use Rattle.address_sheet.proofs.judge_count.Statement.{statement}
 use Rattle.address_sheet.proofs.judge_count.Tie as tie
 
 returns : tie.Need-returns
-returns c = sym (count-refused (c .before .args .count) (λ right. omega (arith, right .some, c .if1 .taken)))
+returns c = sym (count-refused (c .before .args .count) (λ right. omega (arith, right .some, right .most, c .if1 .taken)))
 
 returns-2 : tie.Need-returns-2
 returns-2 c = sym (count-refused (c .before .before .args .count) (λ right. omega (arith, right .most, c .if2 .taken)))
