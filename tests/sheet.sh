@@ -79,9 +79,9 @@ judged 'a repetition behind 200000 blank lines' 24 1 200002
 judged 'a line of 200008 bytes' 6 1 2
 
 # The ends of parts of 65,536 bytes fall within lines, and on them: blank lines in front move them by a byte each.
-for blank in 0 1 2 3 4 5 6 7 8; do
-    { awk -v n="$blank" 'BEGIN { for (i = 0; i < n; i++) print "" }' && awk 'BEGIN { for (i = 0; i < 65528; i++) printf "\n" }' && printf '00100020\n00100000\n00100020\n'; } >"$room/file"
-    judged "a part ends beside a PSN, $blank" 24 2 $((65528 + blank + 3))
+for blank in 0 1 2 3 4 5 6 7 8 9; do
+    { awk -v n="$blank" 'BEGIN { for (i = 0; i < n; i++) print "" }' && awk 'BEGIN { for (i = 0; i < 65527; i++) printf "\n" }' && printf '00100020\n00100000\n00100020\n'; } >"$room/file"
+    judged "a part ends behind a PSN's line, beside the PSN or within it, $blank" 24 2 $((65527 + blank + 3))
 done
 
 begin 'sheet: a file in two reads'
@@ -110,6 +110,7 @@ no_psn 'two on a line' 3 '\n00100020\n00100000 00100040\n'
 no_psn 'a carriage return within' 1 '0010000\r0\n'
 no_psn 'a zero byte' 1 '001000\0000\n'
 no_psn 'a byte above 127' 1 '\3740100000\n'
+no_psn 'a byte-order mark' 1 '\357\273\27700100000\n'
 no_psn 'a form feed' 2 '00100000\n\f\n'
 no_psn 'the last line, without its end' 4 '00100000\n\n00100020\n0010004'
 no_psn 'the first of several' 2 '00100000\nx\ny\n'
@@ -141,6 +142,7 @@ given_folder file
 ends 1 '' 'file: Is a directory' sheet file
 begin 'sheet: an empty name'
 ends 1 '' 'a file name is missing, empty or too long' sheet ''
+begin 'sheet: a name too long'
 ends 1 '' 'a file name is missing, empty or too long' sheet "$(printf '%05000d' 0)"
 begin 'sheet: from standard input'
 printf '00100000\n00100000\n' >"$room/input"
