@@ -11,13 +11,13 @@ fn read_once(fd: i32, file: SheetFile) -> Turn {
     let mut bytes = io::large_buffer();
     let got = libc::read(fd, &mut bytes);
     let n = io::count(got, &bytes);
-    let file = sheet_file::read(file, &bytes[..n]);
+    let file = sheet_file::steps::read(file, &bytes[..n]);
     Turn { file, got }
 }
 
 // Each turn but the last takes a byte or more, and a file has fewer than 2^63.
 fn read_all(fd: i32) -> Turn {
-    let mut file = sheet_file::start();
+    let mut file = sheet_file::steps::start();
     for _ in 0..0x8000_0000_0000_0000u64 {
         let turn = read_once(fd, file);
         if turn.got <= 0 {
@@ -37,7 +37,7 @@ fn no_psn(path: &[u8], line: usize) {
 }
 
 fn say(path: &[u8], file: SheetFile) {
-    let said = sheet_report::said(file);
+    let said = sheet_report::steps::said(file);
     let text = said.text;
     if said.wrong != 0 {
         no_psn(path, said.wrong);

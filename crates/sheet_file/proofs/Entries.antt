@@ -12,7 +12,7 @@ use Rattle.address.specs.declared.Psn.{Psn}
 use Rattle.notation.specs.Psn.{psnOf}
 use Rattle.sheet_file.specs.declared.SheetEntries.{SheetEntries}
 use Rattle.sheet_file.specs.File.{Entry, lineOf, isNumber, numberIn, wrongLine, fileEntry}
-use Rattle.sheet_file.specs.Reading.{wrongAfter, HoldsEntries, IsEntry}
+use Rattle.sheet_file.specs.steps.Reading.{wrongAfter, HoldsEntries, IsEntry}
 
 -- ---- the first line that is no PSN
 

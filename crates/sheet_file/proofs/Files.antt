@@ -13,7 +13,7 @@ use Rattle.sheet_file.specs.declared.Line.{Line}
 use Rattle.sheet_file.specs.declared.SheetEntries.{SheetEntries}
 use Rattle.sheet_file.specs.declared.SheetFile.{SheetFile}
 use Rattle.sheet_file.specs.File.{linesFrom, trimmed, Entry, entryOn, entriesFrom, fileEntries, isNumber, numberIn}
-use Rattle.sheet_file.specs.Reading.{shownPsn, HoldsLine, HoldsEntries, IsEntry, HasRead}
+use Rattle.sheet_file.specs.steps.Reading.{shownPsn, HoldsLine, HoldsEntries, IsEntry, HasRead}
 use Rattle.sheet_file.proofs.Lines.{line-psn}
 
 -- ---- a line ends

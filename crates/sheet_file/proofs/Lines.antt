@@ -16,7 +16,7 @@ use Rattle.notation.specs.Psn.{psnOf}
 use Rattle.notation.proofs.Digits.{another-length}
 use Rattle.sheet_file.specs.declared.Line.{Line}
 use Rattle.sheet_file.specs.File.{isWhite, trimmedTo, trimmed}
-use Rattle.sheet_file.specs.Reading.{shownPsn, HoldsLine}
+use Rattle.sheet_file.specs.steps.Reading.{shownPsn, HoldsLine}
 
 -- ---- white bytes
 

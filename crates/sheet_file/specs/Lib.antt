@@ -1,3 +1,3 @@
--- A sheet as a file, and what is kept of it while it is read.
+-- A sheet as a file, and for the steps what is kept of it while it is read.
 pub mod File
-pub mod Reading
+pub mod steps

@@ -23,7 +23,7 @@ use Rattle.report.specs.Words.{meaning}
 use Rattle.report.proofs.Words.{meaning-short}
 use Rattle.sheet_file.specs.declared.SheetEntries.{SheetEntries}
 use Rattle.sheet_file.specs.File.{Entry, fileEntries, wrongLine, psnAt, lineAt, fileAnswer}
-use Rattle.sheet_file.specs.Reading.{HoldsEntries}
+use Rattle.sheet_file.specs.steps.Reading.{HoldsEntries}
 use Rattle.sheet_report.specs.declared.SheetSaid.{SheetSaid}
 use Rattle.sheet_report.specs.Said.{namesEntry, lineWords, sheetText, fileSaid}
 
