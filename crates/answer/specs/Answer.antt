@@ -3,7 +3,7 @@ use mathlib.Core.Bool.{Bool, cond}
 use Prim.Native.Nat.{ℕ}
 use lib.Dec.{eqb, ltb}
 use Rattle.answer.specs.declared.Answer.{Answer}
-use Rattle.answer.specs.declared.Answer.the-variants.{Done, WrongUser, WrongSide, WrongDc, WrongImage, WrongWork, NoMultiple, NoZone, DcWord, LastBits, Sync, Frame, BisColumn, AddressUnit, NoPsn, LdcColumn, Sector, WrongColumn, WrongCount, Repeated}
+use Rattle.answer.specs.declared.Answer.the-variants.{Done, WrongUser, WrongSide, WrongDc, WrongImage, WrongWork, NoMultiple, NoZone, DcWord, LastBits, Sync, Frame, BisColumn, AddressUnit, NoPsn, LdcColumn, Sector, WrongColumn, WrongCount, Repeated, WrongRecord, NoBench, BenchWaiting}
 
 abbrev pub numberOf : Answer → ℕ
 numberOf Done = 0
@@ -26,6 +26,9 @@ numberOf (Sector n) = 16
 numberOf WrongColumn = 22
 numberOf WrongCount = 23
 numberOf (Repeated n) = 24
+numberOf WrongRecord = 26
+numberOf NoBench = 27
+numberOf BenchWaiting = 28
 
 abbrev pub placeOf : Answer → ℕ
 placeOf Done = 0
@@ -48,6 +51,9 @@ placeOf (Sector n) = n
 placeOf WrongColumn = 0
 placeOf WrongCount = 0
 placeOf (Repeated n) = n
+placeOf WrongRecord = 0
+placeOf NoBench = 0
+placeOf BenchWaiting = 0
 
 abbrev pub isDone : Answer → Bool
 isDone a = eqb (numberOf a) 0

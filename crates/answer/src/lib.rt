@@ -31,6 +31,12 @@ pub enum Answer {
     WrongCount,
     // The lowest entry of a sheet whose PSN an earlier one has.
     Repeated(usize),
+    // A record of the queue that is short, long or unknown (document 02).
+    WrongRecord,
+    // A bench above 3.
+    NoBench,
+    // A bench that has a waiting order already.
+    BenchWaiting,
 }
 
 impl Answer {
@@ -59,6 +65,9 @@ impl Answer {
             Answer::WrongColumn => 22,
             Answer::WrongCount => 23,
             Answer::Repeated(_) => 24,
+            Answer::WrongRecord => 26,
+            Answer::NoBench => 27,
+            Answer::BenchWaiting => 28,
         }
     }
 
@@ -87,6 +96,9 @@ impl Answer {
             Answer::WrongColumn => 0,
             Answer::WrongCount => 0,
             Answer::Repeated(n) => n,
+            Answer::WrongRecord => 0,
+            Answer::NoBench => 0,
+            Answer::BenchWaiting => 0,
         }
     }
 

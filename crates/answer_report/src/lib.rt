@@ -12,7 +12,7 @@ ghost use Rattle.report.specs.Words.{meaning, answerText};
 pub fn put_meaning(text: Text, answer: Answer) -> Text
     ensures { λ r. ⌜ r ≡ added text (meaning answer) ⌝ }
 {
-    // The piece of the answer's number, with its place. No answer has 17 to 21.
+    // The piece of the answer's number, with its place. No answer has 17 to 21 or 25.
     let pieces = b"\
         |the user data are not 65536 bytes\n\
         |the side data are not 592 bytes\n\
@@ -33,7 +33,11 @@ pub fn put_meaning(text: Text, answer: Answer) -> Text
         |||||\
         |the data are not 1 to 223 bytes, or the parity is not 32\n\
         |the sheet has not 1 to 64 PSNs\n\
-        |an earlier entry has the same PSN\n";
+        |an earlier entry has the same PSN\n\
+        |\
+        |the record is no submit and no serve\n\
+        |the bench is above 3\n\
+        |the bench has a waiting order\n";
     put_piece(text, pieces, answer.number() as usize, answer.place())
 }
 

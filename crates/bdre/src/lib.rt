@@ -3,6 +3,8 @@ use answer_numbers::Answered;
 use answer_numbers::Converted;
 use answer_numbers::Marking;
 use answer_numbers::ReadAnswered;
+use export_queue::HandledNumbers;
+use order_queue::Queue;
 ghost use mathlib.Core.Path.{_≡_};
 ghost use mathlib.Core.Logic.{_↔_};
 ghost use Rattle.writer.specs.Outcome as writer;
@@ -23,6 +25,8 @@ ghost use Rattle.answer_numbers.specs.Numbers.{answered};
 ghost use Rattle.address_sheet.specs.Sheet.{sheetAnswer};
 ghost use Rattle.address_sheet.specs.Promise.{RightSheet};
 ghost use Rattle.export_sheet.specs.Exported.{givenPsn};
+ghost use Rattle.order_queue.specs.Queue.{handled};
+ghost use Rattle.export_queue.specs.Exported.{handledNumbers};
 
 // Writes the image of a cluster.
 #[no_mangle]
@@ -129,4 +133,12 @@ pub extern "C" fn bdre_sheet(psns: &[u32]) -> Answered
     ensures { λ r. ⌜ ((r .number ≡ 0) ↔ RightSheet (length (now (psns .entry))) (givenPsn (now (psns .entry)))) ⌝ }
 {
     export_sheet::judge_sheet(psns)
+}
+
+// Handles a record of the queue of four benches.
+#[no_mangle]
+pub extern "C" fn bdre_handle_record(queue: Queue, bytes: &[u8]) -> HandledNumbers
+    ensures { λ r. ⌜ r ≡ handledNumbers (handled queue (now (bytes .entry))) ⌝ }
+{
+    export_queue::handle_record(queue, bytes)
 }

@@ -3,7 +3,7 @@ use mathlib.Core.Bool.{Bool, cond}
 use mathlib.Core.List.{List, [], _++_}
 use Prim.Native.Nat.{ℕ}
 use Rattle.answer.specs.declared.Answer.{Answer}
-use Rattle.answer.specs.declared.Answer.the-variants.{Done, WrongUser, WrongSide, WrongDc, WrongImage, WrongWork, NoMultiple, NoZone, DcWord, LastBits, Sync, Frame, BisColumn, AddressUnit, NoPsn, LdcColumn, Sector, WrongColumn, WrongCount, Repeated}
+use Rattle.answer.specs.declared.Answer.the-variants.{Done, WrongUser, WrongSide, WrongDc, WrongImage, WrongWork, NoMultiple, NoZone, DcWord, LastBits, Sync, Frame, BisColumn, AddressUnit, NoPsn, LdcColumn, Sector, WrongColumn, WrongCount, Repeated, WrongRecord, NoBench, BenchWaiting}
 use Rattle.answer.specs.Answer.{numberOf, placeOf}
 use Rattle.verdict.specs.declared.Verdict.{Verdict}
 use Rattle.verdict.specs.declared.Verdict.the-variants.{Pass, Refused, OtherPsn, OtherUser, OtherSide}
@@ -34,6 +34,9 @@ meaning (Sector n) = the "sector " ++ decimal n ++ the " has a wrong error-detec
 meaning WrongColumn = the "the data are not 1 to 223 bytes, or the parity is not 32\n"
 meaning WrongCount = the "the sheet has not 1 to 64 PSNs\n"
 meaning (Repeated n) = the "an earlier entry has the same PSN\n"
+meaning WrongRecord = the "the record is no submit and no serve\n"
+meaning NoBench = the "the bench is above 3\n"
+meaning BenchWaiting = the "the bench has a waiting order\n"
 
 -- number and place in a line, then what they mean
 unfoldable pub answerText : Answer → List ℕ

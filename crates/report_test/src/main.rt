@@ -42,6 +42,12 @@ fn sheets() {
     print_answer(Answer::Repeated(1));
 }
 
+fn queues() {
+    print_answer(Answer::WrongRecord);
+    print_answer(Answer::NoBench);
+    print_answer(Answer::BenchWaiting);
+}
+
 // The longest place.
 fn longest() {
     print_answer(Answer::AddressUnit(18446744073709551615));
@@ -77,6 +83,7 @@ fn main() {
     images();
     columns();
     sheets();
+    queues();
     longest();
     verdicts();
     reads();

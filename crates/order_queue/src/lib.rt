@@ -1,0 +1,254 @@
+// A queue that shares one marking machine among four benches (document 02, W-214).
+use address::Psn;
+use answer::Answer;
+use big_endian::steps::word_at;
+ghost use mathlib.Core.Path.{_≡_};
+ghost use Prim.Native.Nat.{_<_};
+ghost use lib.ListN.{getD};
+ghost use Rattle.laws.specs.First.{first};
+ghost use Rattle.order_queue.specs.Records.{requestOf};
+ghost use Rattle.order_queue.specs.Queue.{emptyQueue, beginsAt, benchAt, waitsAt, quiet, benchAnswer, waitingAnswer, submitAnswer, withOrder, submitted, taken, served, handled};
+
+// How many benches there are.
+pub const BENCHES: usize = 4;
+
+// The bench that a serve reports where none is waiting.
+pub const NO_BENCH: u8 = 255;
+
+// The order of a bench. The PSN counts where it is waiting. Order and queue are what callers in other languages hand over, too.
+#[repr(C)]
+pub struct Order {
+    pub waiting: bool,
+    pub psn: Psn,
+}
+
+// The orders of benches 0 to 3, and the bench at which the next serve begins; a turn above 3 stands for 0.
+#[repr(C)]
+pub struct Queue {
+    pub orders: [Order; BENCHES],
+    pub turn: u8,
+}
+
+// What a record asks for.
+pub enum Request {
+    Submit(u8, Psn),
+    Serve,
+    // Short, long or unknown.
+    Unknown,
+}
+
+// The queue behind a record, what is answered, and for a serve the bench and the PSN of its order.
+pub struct Handled {
+    pub queue: Queue,
+    pub answer: Answer,
+    pub bench: u8,
+    pub psn: Psn,
+}
+
+impl Queue {
+    // No bench is waiting, and the turn is bench 0's.
+    pub fn empty() -> Queue
+        ensures { λ r. ⌜ r ≡ emptyQueue ⌝ }
+    {
+        Queue {
+            orders: [Order {
+                waiting: false,
+                psn: Psn(0),
+            }; BENCHES],
+            turn: 0,
+        }
+    }
+}
+
+// ---- records
+
+// The byte of kind, 0 for a record without any.
+fn kind_of(bytes: &[u8]) -> u8
+    ensures { λ r. ⌜ r ≡ getD (now (bytes .entry)) 0 0 ⌝ }
+{
+    if 0 < bytes.len() {
+        return bytes[0];
+    }
+    0
+}
+
+// What a record asks for.
+fn request_of(bytes: &[u8]) -> Request
+    ensures { λ r. ⌜ r ≡ requestOf (now (bytes .entry)) ⌝ }
+{
+    let kind = kind_of(bytes);
+    if kind == 1 {
+        if bytes.len() == 6 {
+            return Request::Submit(bytes[1], Psn(word_at(bytes, 2)));
+        }
+        return Request::Unknown;
+    }
+    if kind == 2 {
+        if bytes.len() == 1 {
+            return Request::Serve;
+        }
+    }
+    Request::Unknown
+}
+
+// ---- a submit
+
+// Bench 0 and PSN 0 are reported.
+fn quiet(queue: Queue, answer: Answer) -> Handled
+    ensures { λ r. ⌜ r ≡ quiet queue answer ⌝ }
+{
+    Handled {
+        queue,
+        answer,
+        bench: 0,
+        psn: Psn(0),
+    }
+}
+
+fn judge_bench(bench: u8) -> Answer
+    ensures { λ r. ⌜ r ≡ benchAnswer bench ⌝ }
+{
+    if bench < 4 {
+        return Answer::Done;
+    }
+    Answer::NoBench
+}
+
+fn judge_waiting(queue: Queue, bench: u8) -> Answer
+    ensures { λ r. ⌜ r ≡ waitingAnswer queue bench ⌝ }
+{
+    let orders = queue.orders;
+    let at = bench as usize;
+    if BENCHES <= at {
+        return Answer::Done;
+    }
+    let order = orders[at];
+    if order.waiting {
+        return Answer::BenchWaiting;
+    }
+    Answer::Done
+}
+
+// 27, then 28, then 6 and 7.
+fn judge_submit(queue: Queue, bench: u8, psn: Psn) -> Answer
+    ensures { λ r. ⌜ r ≡ submitAnswer queue bench (psn .0) ⌝ }
+{
+    let number = judge_bench(bench);
+    let waiting = judge_waiting(queue, bench);
+    let accepted = psn.judge();
+    number.and_then(waiting.and_then(accepted))
+}
+
+// The queue with an order of a bench.
+fn with_order(queue: Queue, bench: u8, psn: Psn) -> Queue
+    ensures { λ r. ⌜ (bench < 4 → r ≡ withOrder queue bench psn) ⌝ }
+{
+    let mut orders = queue.orders;
+    let at = bench as usize;
+    if BENCHES <= at {
+        return queue;
+    }
+    orders[at] = Order { waiting: true, psn };
+    Queue {
+        orders,
+        turn: queue.turn,
+    }
+}
+
+fn submit(queue: Queue, bench: u8, psn: Psn) -> Handled
+    ensures { λ r. ⌜ r ≡ submitted queue bench psn ⌝ }
+{
+    let answer = judge_submit(queue, bench, psn);
+    let longer = with_order(queue, bench, psn);
+    if answer.is_done() {
+        return quiet(longer, answer);
+    }
+    quiet(queue, answer)
+}
+
+// ---- a serve
+
+// The bench at which a serve begins.
+fn begins_at(turn: u8) -> usize
+    ensures { λ r. ⌜ (r < 4) × (r ≡ beginsAt turn) ⌝ }
+{
+    if turn < 4 {
+        return turn as usize;
+    }
+    0
+}
+
+// The bench k places on from there, going round.
+fn bench_at(turn: u8, k: usize) -> usize
+    requires { ⌜ k < 4 ⌝ }
+    ensures { λ r. ⌜ (r < 4) × (r ≡ benchAt turn k) ⌝ }
+{
+    (begins_at(turn) + k) % BENCHES
+}
+
+// How many benches without an order are passed; 4 where none is waiting.
+fn benches_passed(queue: Queue) -> usize
+    ensures { λ r. ⌜ r ≡ first 4 (waitsAt queue) ⌝ }
+{
+    let orders = queue.orders;
+    let turn = queue.turn;
+    let mut k = 0;
+    while k < BENCHES {
+        let order = orders[bench_at(turn, k)];
+        if order.waiting {
+            return k;
+        }
+        k += 1;
+    }
+    BENCHES
+}
+
+// The order of a bench is reported and gone.
+fn take(queue: Queue, bench: usize) -> Handled
+    requires { ⌜ bench < 4 ⌝ }
+    ensures { λ r. ⌜ r ≡ taken queue bench ⌝ }
+{
+    let mut orders = queue.orders;
+    let order = orders[bench];
+    orders[bench] = Order {
+        waiting: false,
+        psn: Psn(0),
+    };
+    let turn = ((bench + 1) % BENCHES) as u8;
+    Handled {
+        queue: Queue { orders, turn },
+        answer: Answer::Done,
+        bench: bench as u8,
+        psn: order.psn,
+    }
+}
+
+fn serve(queue: Queue) -> Handled
+    ensures { λ r. ⌜ r ≡ served queue ⌝ }
+{
+    let turn = queue.turn;
+    let passed = benches_passed(queue);
+    if passed < BENCHES {
+        return take(queue, bench_at(turn, passed));
+    }
+    Handled {
+        queue,
+        answer: Answer::Done,
+        bench: NO_BENCH,
+        psn: Psn(0),
+    }
+}
+
+// ---- a record
+
+// Handles a record: 0, or 26, 27, 28, 6 and 7, tested in this order, which leave the queue as it was.
+pub fn handle(queue: Queue, bytes: &[u8]) -> Handled
+    ensures { λ r. ⌜ r ≡ handled queue (now (bytes .entry)) ⌝ }
+{
+    let request = request_of(bytes);
+    match request {
+        Request::Submit(bench, psn) => submit(queue, bench, psn),
+        Request::Serve => serve(queue),
+        Request::Unknown => quiet(queue, Answer::WrongRecord),
+    }
+}
