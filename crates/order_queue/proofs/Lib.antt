@@ -3,3 +3,4 @@ pub mod Records
 pub mod Submits
 pub mod Serves
 pub mod Handling
+pub mod Requests

@@ -1,0 +1,2 @@
+-- Runs of records.
+pub mod Steps
