@@ -1,2 +1,3 @@
 -- Runs of records.
 pub mod Steps
+pub mod Turns
