@@ -1,3 +1,5 @@
 -- Runs of records.
 pub mod Steps
 pub mod Turns
+pub mod Origins
+pub mod Statements
