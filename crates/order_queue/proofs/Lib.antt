@@ -4,3 +4,4 @@ pub mod Submits
 pub mod Serves
 pub mod Handling
 pub mod Requests
+pub mod Statements

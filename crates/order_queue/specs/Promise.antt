@@ -9,6 +9,7 @@ use Rattle.address.specs.declared.Psn.{Psn}
 use Rattle.address.specs.Judged.{judged}
 use Rattle.order_queue.specs.declared.Queue.{Queue}
 use Rattle.order_queue.specs.declared.Request.the-variants.{Submit, Serve, Unknown}
+use Rattle.order_queue.specs.declared.Handled.{Handled}
 use Rattle.order_queue.specs.Records.{requestOf}
 use Rattle.order_queue.specs.Queue.{waits}
 
@@ -27,3 +28,9 @@ pub data Says (queue : Queue) (bytes : List ℕ) : Answer → Type 0 where
   at-7 : (bench : ℕ) (psn : Psn) → requestOf bytes ≡ Submit bench psn → bench < 4 → waits queue bench ≡ false → judged (psn .0) ≡ NoZone 0 → Says queue bytes (NoZone 0)
   at-0-submit : (bench : ℕ) (psn : Psn) → requestOf bytes ≡ Submit bench psn → RightSubmit queue bench (psn .0) → Says queue bytes Done
   at-0-serve : requestOf bytes ≡ Serve → Says queue bytes Done
+
+-- two serves report the same, and leave the same queue where an order was taken
+pub record ServesAs (a b : Handled) : Type 0 where
+  pub same-bench : a .bench ≡ b .bench
+  pub same-psn : a .psn ≡ b .psn
+  pub same-queue : (a .bench ≡ 255 → ⊥) → a .queue ≡ b .queue

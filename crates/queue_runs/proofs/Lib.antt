@@ -3,3 +3,4 @@ pub mod Steps
 pub mod Turns
 pub mod Origins
 pub mod Statements
+pub mod Counterexamples
