@@ -22,6 +22,11 @@ pub struct Order {
     pub psn: Psn,
 }
 
+const NO_ORDER: Order = Order {
+    waiting: false,
+    psn: Psn(0),
+};
+
 // The orders of benches 0 to 3, and the bench at which the next serve begins; a turn above 3 stands for 0.
 #[repr(C)]
 pub struct Queue {
@@ -51,10 +56,7 @@ impl Queue {
         ensures { λ r. ⌜ r ≡ emptyQueue ⌝ }
     {
         Queue {
-            orders: [Order {
-                waiting: false,
-                psn: Psn(0),
-            }; BENCHES],
+            orders: [NO_ORDER; BENCHES],
             turn: 0,
         }
     }
@@ -100,10 +102,7 @@ fn order_of(orders: [Order; BENCHES], bench: usize) -> Order
     if bench < BENCHES {
         return orders[bench];
     }
-    Order {
-        waiting: false,
-        psn: Psn(0),
-    }
+    NO_ORDER
 }
 
 // Bench 0 and PSN 0 are reported.
@@ -220,10 +219,7 @@ fn take(queue: Queue, bench: usize) -> Handled
     let mut orders = queue.orders;
     let order = order_of(orders, bench);
     let psn = order.psn;
-    orders[bench] = Order {
-        waiting: false,
-        psn: Psn(0),
-    };
+    orders[bench] = NO_ORDER;
     let turn = ((bench + 1) % BENCHES) as u8;
     Handled {
         queue: Queue { orders, turn },

@@ -1,0 +1,2 @@
+-- What is returned of a record that was handled.
+mod Exported
