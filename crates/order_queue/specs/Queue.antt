@@ -1,11 +1,10 @@
 -- The queue of four benches (document 02, W-214): what each record leaves of it, answers and reports.
 use mathlib.Core.Bool.{Bool, true, false, cond}
-use mathlib.Core.List.{List}
+use mathlib.Core.List.{List, [], _∷_}
 use Prim.Native.Nat.{ℕ, _+_, _%_}
 use lib.Dec.{ltb}
 use lib.ListN.{getD, set}
 use Rattle.laws.specs.First.{first}
-use Rattle.laws.specs.Tabulate.{tabulate}
 use Rattle.answer.specs.declared.Answer.{Answer}
 use Rattle.answer.specs.declared.Answer.the-variants.{Done, WrongRecord, NoBench, BenchWaiting}
 use Rattle.answer.specs.Answer.{isDone, andThen}
@@ -24,7 +23,7 @@ abbrev pub noOrder : Order
 noOrder = record { waiting = false; psn = record { 0 = 0 } }
 
 unfoldable pub emptyQueue : Queue
-emptyQueue = record { orders = tabulate 4 (λ _. noOrder); turn = 0 }
+emptyQueue = record { orders = noOrder ∷ noOrder ∷ noOrder ∷ noOrder ∷ []; turn = 0 }
 
 abbrev pub orderOf : Queue → ℕ → Order
 orderOf queue bench = getD (queue .orders) bench noOrder

@@ -7,7 +7,7 @@ ghost use Prim.Native.Nat.{_<_};
 ghost use lib.ListN.{getD};
 ghost use Rattle.laws.specs.First.{first};
 ghost use Rattle.order_queue.specs.Records.{requestOf};
-ghost use Rattle.order_queue.specs.Queue.{emptyQueue, beginsAt, benchAt, waitsAt, quiet, benchAnswer, waitingAnswer, submitAnswer, withOrder, submitted, taken, served, handled};
+ghost use Rattle.order_queue.specs.Queue.{noOrder, emptyQueue, beginsAt, benchAt, waitsAt, quiet, benchAnswer, waitingAnswer, submitAnswer, withOrder, submitted, taken, served, handled};
 
 // How many benches there are.
 pub const BENCHES: usize = 4;
@@ -93,6 +93,19 @@ fn request_of(bytes: &[u8]) -> Request
 
 // ---- a submit
 
+// The order of a bench; none for a bench above 3.
+fn order_of(orders: [Order; BENCHES], bench: usize) -> Order
+    ensures { λ r. ⌜ r ≡ getD orders bench noOrder ⌝ }
+{
+    if bench < BENCHES {
+        return orders[bench];
+    }
+    Order {
+        waiting: false,
+        psn: Psn(0),
+    }
+}
+
 // Bench 0 and PSN 0 are reported.
 fn quiet(queue: Queue, answer: Answer) -> Handled
     ensures { λ r. ⌜ r ≡ quiet queue answer ⌝ }
@@ -118,11 +131,7 @@ fn judge_waiting(queue: Queue, bench: u8) -> Answer
     ensures { λ r. ⌜ r ≡ waitingAnswer queue bench ⌝ }
 {
     let orders = queue.orders;
-    let at = bench as usize;
-    if BENCHES <= at {
-        return Answer::Done;
-    }
-    let order = orders[at];
+    let order = order_of(orders, bench as usize);
     if order.waiting {
         return Answer::BenchWaiting;
     }
@@ -194,7 +203,7 @@ fn benches_passed(queue: Queue) -> usize
     let turn = queue.turn;
     let mut k = 0;
     while k < BENCHES {
-        let order = orders[bench_at(turn, k)];
+        let order = order_of(orders, bench_at(turn, k));
         if order.waiting {
             return k;
         }
@@ -209,7 +218,8 @@ fn take(queue: Queue, bench: usize) -> Handled
     ensures { λ r. ⌜ r ≡ taken queue bench ⌝ }
 {
     let mut orders = queue.orders;
-    let order = orders[bench];
+    let order = order_of(orders, bench);
+    let psn = order.psn;
     orders[bench] = Order {
         waiting: false,
         psn: Psn(0),
@@ -219,7 +229,7 @@ fn take(queue: Queue, bench: usize) -> Handled
         queue: Queue { orders, turn },
         answer: Answer::Done,
         bench: bench as u8,
-        psn: order.psn,
+        psn,
     }
 }
 

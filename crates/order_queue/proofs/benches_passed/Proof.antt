@@ -1,50 +1,43 @@
+-- `benches_passed` meets its contract: a search from the bench at which a serve begins (Serves; laws, First).
+use Prim.Native.Nat.{_-_}
+use borrow.Author.Needs.{needs}
+use Rattle.laws.proofs.First.{Passed, passed-none, first-past}
+use Rattle.order_queue.specs.Queue.{waitsAt}
+use Rattle.order_queue.proofs.Serves.{waits-first, passes}
 use Rattle.order_queue.proofs.benches_passed.Statement.{statement}
 use Rattle.order_queue.proofs.benches_passed.Tie as tie
-use Rattle.order_queue.proofs.benches_passed.Reads as reads
-use Rattle.order_queue.proofs.benches_passed.Lts as lts
-use Rattle.order_queue.proofs.bench_at.Reads as bench-at-reads
 
 abbrev Inv-loop : tie.InvT-loop
-Inv-loop orders turn k₀ k = ?
+Inv-loop orders turn k₀ k = Passed (waitsAt (record { orders = orders; turn = turn })) k
 
 abbrev μ-loop : tie.MeasureT-loop
-μ-loop orders turn k₀ k = ?
+μ-loop orders turn k₀ k = 4 - k
 
--- src/lib.rt:194:5
 loop-holds : tie.Need-loop-holds Inv-loop μ-loop
-loop-holds c = ?
+loop-holds c = passed-none
 
--- src/lib.rt:195:28
 bench-at-requires : tie.Need-bench-at-requires Inv-loop μ-loop
-bench-at-requires c κs = ?
+bench-at-requires c κs = search needs
 
--- src/lib.rt:195:21
-mul-order : tie.Need-mul-order Inv-loop μ-loop
-mul-order c = ?
+order-of-requires : tie.Need-order-of-requires Inv-loop μ-loop
+order-of-requires c κs = search needs
 
--- src/lib.rt:195:21
-array-copy-out-order : tie.Need-array-copy-out-order Inv-loop μ-loop
-array-copy-out-order c = ?
-
--- src/lib.rt:197:13
 returns : tie.Need-returns Inv-loop μ-loop
-returns c = ?
+returns c = let order = c .before in let bench = order .before in let turn = bench .before in
+    waits-first (turn .before .before .before .args .queue) (bench .bench-at .ensures .1) (order .order-of .ensures) (turn .before .loop .inv) (c .if1 .taken) (search needs)
 
--- src/lib.rt:199:9
 add-k : tie.Need-add-k Inv-loop μ-loop
-add-k c = ?
+add-k c = search needs
 
--- src/lib.rt:194:5
 loop-less : tie.Need-loop-less Inv-loop μ-loop
-loop-less c = ?
+loop-less c = search needs
 
--- src/lib.rt:194:5
 loop-again : tie.Need-loop-again Inv-loop μ-loop
-loop-again c = ?
+loop-again c = let order = c .before in let bench = order .before in let turn = bench .before in
+    passes (turn .before .before .before .args .queue) (bench .bench-at .ensures .1) (order .order-of .ensures) (turn .before .loop .inv) (c .if1 .left)
 
--- src/lib.rt:188:1
 returns-2 : tie.Need-returns-2 Inv-loop μ-loop
-returns-2 c = ?
+returns-2 c = first-past (search needs) (c .before .loop .inv)
 
 pub benches-passed-spec : {M : Type 1} → statement M
 benches-passed-spec =
@@ -54,8 +47,7 @@ benches-passed-spec =
     μ-loop
     loop-holds
     bench-at-requires
-    mul-order
-    array-copy-out-order
+    order-of-requires
     returns
     add-k
     loop-less

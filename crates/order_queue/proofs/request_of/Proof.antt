@@ -1,42 +1,32 @@
+-- `request_of` meets its contract, case by case (Records).
+use Rattle.order_queue.proofs.Records.{is-submit, no-submit, is-serve, no-serve, no-kind}
 use borrow.Author.Needs.{needs}
 use Rattle.order_queue.proofs.request_of.Statement.{statement}
 use Rattle.order_queue.proofs.request_of.Tie as tie
-use Rattle.order_queue.proofs.request_of.Reads as reads
-use Rattle.order_queue.proofs.request_of.Lts as lts
-use Rattle.big_endian.proofs.steps.word_at.Reads as word-at-reads
-use Rattle.order_queue.proofs.kind_of.Reads as kind-of-reads
 
--- src/lib.rt:77:9
 kind-of-requires : tie.Need-kind-of-requires
 kind-of-requires c κs = search needs
 
--- src/lib.rt:80:36
 shared-slice-read-t7 : tie.Need-shared-slice-read-t7
 shared-slice-read-t7 c = search needs
 
--- src/lib.rt:80:50
 word-at-requires : tie.Need-word-at-requires
 word-at-requires c κs = search needs
 
--- src/lib.rt:80:13
 returns : tie.Need-returns
-returns c = ?
+returns c = let six = c .before .before in let one = six .before in is-submit _ (one .before .kind-of .ensures) (one .if1 .taken) (six .if2 .taken) (c .word-at .ensures)
 
--- src/lib.rt:82:9
 returns-2 : tie.Need-returns-2
-returns-2 c = ?
+returns-2 c = let one = c .before in no-submit _ (one .before .kind-of .ensures) (one .if1 .taken) (c .if2 .left)
 
--- src/lib.rt:86:13
 returns-3 : tie.Need-returns-3
-returns-3 c = ?
+returns-3 c = let two = c .before in is-serve _ (two .before .before .kind-of .ensures) (two .if3 .taken) (c .if4 .taken)
 
--- src/lib.rt:74:1
 returns-4 : tie.Need-returns-4
-returns-4 c = ?
+returns-4 c = let two = c .before in no-serve _ (two .before .before .kind-of .ensures) (two .if3 .taken) (c .if4 .left)
 
--- src/lib.rt:74:1
 returns-5 : tie.Need-returns-5
-returns-5 c = ?
+returns-5 c = let other = c .before in no-kind _ (other .before .kind-of .ensures) (other .if1 .left) (c .if3 .left)
 
 pub request-of-spec : {M : Type 1} → statement M
 request-of-spec =

@@ -1,31 +1,24 @@
+-- `serve` meets its contract: an order is taken, and none is waiting (Serves).
+use Rattle.order_queue.proofs.Serves.{serves-one, serves-none}
 use borrow.Author.Needs.{needs}
 use Rattle.order_queue.proofs.serve.Statement.{statement}
 use Rattle.order_queue.proofs.serve.Tie as tie
-use Rattle.order_queue.proofs.serve.Reads as reads
-use Rattle.order_queue.proofs.serve.Lts as lts
-use Rattle.order_queue.proofs.bench_at.Reads as bench-at-reads
-use Rattle.order_queue.proofs.benches_passed.Reads as benches-passed-reads
-use Rattle.order_queue.proofs.take.Reads as take-reads
 
--- src/lib.rt:228:9
 benches-passed-requires : tie.Need-benches-passed-requires
 benches-passed-requires c κs = search needs
 
--- src/lib.rt:230:28
 bench-at-requires : tie.Need-bench-at-requires
 bench-at-requires c κs = search needs
 
--- src/lib.rt:230:9
 take-requires : tie.Need-take-requires
 take-requires c κs = search needs
 
--- src/lib.rt:230:9
 returns : tie.Need-returns
-returns c = ?
+returns c = let bench = c .before in let passed = bench .before .before in
+    serves-one _ (passed .benches-passed .ensures) (bench .before .if1 .taken) (bench .bench-at .ensures .1) (c .take .ensures)
 
--- src/lib.rt:224:1
 returns-2 : tie.Need-returns-2
-returns-2 c = ?
+returns-2 c = serves-none _ (c .before .benches-passed .ensures) (c .if1 .left)
 
 pub serve-spec : {M : Type 1} → statement M
 serve-spec =
