@@ -46,7 +46,7 @@ module _ (line : List ℕ) where
   unfolding recordOn
   text-record e = ap (λ (t : Bool). cond t (pairBytes line) []) e
 
-  pub other-record : isRecordText line ≡ false → recordOn line ≡ []
+  other-record : isRecordText line ≡ false → recordOn line ≡ []
   unfolding recordOn
   other-record e = ap (λ (t : Bool). cond t (pairBytes line) []) e
 
@@ -197,7 +197,7 @@ other-length queue bytes h i = ap (answeredTo queue) unknown
     unknown : requestOf bytes ≡ Unknown
     unknown = rw (and-false (eqb (getD bytes 0 0) 1) (eqb (length bytes) 6) (ne-eqb (length bytes) 6 i), and-false (eqb (getD bytes 0 0) 2) (eqb (length bytes) 1) (ne-eqb (length bytes) 1 h))
 
-pub no-bytes : (queue : Queue) → handled queue [] ≡ quiet queue WrongRecord
+no-bytes : (queue : Queue) → handled queue [] ≡ quiet queue WrongRecord
 no-bytes queue = other-length queue [] (λ e. omega (arith, e)) (λ e. omega (arith, e))
 
 pair-count : (line : List ℕ) → isRecordText line ≡ true → 2 * length (pairBytes line) ≡ length line
@@ -208,16 +208,17 @@ pair-count (high ∷ (low ∷ line)) e =
     omega (arith, pair-count line (and-right (isDigit low) (isRecordText line) (and-right (isDigit high) (isDigit low && isRecordText line) e)))
 
 module _ (queue : Queue) (line : List ℕ) where
-  -- of an even number of digits only 2 and 12 are a record
+  -- OTHER TEXT THAN AN EVEN NUMBER OF DIGITS GETS 26
+  pub other-26 : isRecordText line ≡ false → handled queue (recordOn line) ≡ quiet queue WrongRecord
+  other-26 e = ap (handled queue) (other-record line e) ∙ no-bytes queue
+
+  -- AND SO DO DIGITS THAT ARE NOT 2 OR 12
   pub text-26 : isRecordText line ≡ true → (length line ≡ 2 → ⊥) → (length line ≡ 12 → ⊥) → handled queue (recordOn line) ≡ quiet queue WrongRecord
   text-26 e h i =
       let count = pair-count line e in
       ap (handled queue) (text-record line e) ∙ other-length queue (pairBytes line) (λ z. h (omega (arith, z, count))) (λ z. i (omega (arith, z, count)))
 
-  pub other-26 : isRecordText line ≡ false → handled queue (recordOn line) ≡ quiet queue WrongRecord
-  other-26 e = ap (handled queue) (other-record line e) ∙ no-bytes queue
-
-  pub long-26 : 12 < length line → handled queue (recordOn line) ≡ quiet queue WrongRecord
+  long-26 : 12 < length line → handled queue (recordOn line) ≡ quiet queue WrongRecord
   long-26 h = by (isRecordText line) refl
     where
       by : (t : Bool) → isRecordText line ≡ t → handled queue (recordOn line) ≡ quiet queue WrongRecord

@@ -1,4 +1,4 @@
--- Records as a text (document 02, W-214, for people at a bench): a line a record, hexadecimal digits, two a byte; each line gets one.
+-- Records of the queue as a text (document 02, W-214): a record a line, hexadecimal digits, two a byte; what is printed for each.
 use mathlib.Core.Bool.{Bool, true, false, cond, _&&_}
 use mathlib.Core.List.{List, [], _∷_, _++_, map}
 use Prim.Native.Nat.{ℕ, _+_, _*_}

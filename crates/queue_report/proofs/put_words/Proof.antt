@@ -16,7 +16,8 @@ put-requires c κs = search needs
 returns : tie.Need-returns
 returns c =
     let told = c .before .before in
-    words-done (told .before .before .args .answer) _ (told .before .is-done .ensures) (told .if1 .taken) (c .put .ensures)
+    let args = told .before .before .args in
+    words-done (args .answer) (args .text) (told .before .is-done .ensures) (told .if1 .taken) (c .put .ensures)
 
 slice-aggregate-put-2 : tie.Need-slice-aggregate-put-2
 slice-aggregate-put-2 c = search needs
@@ -29,9 +30,10 @@ put-meaning-requires c κs = search needs
 
 returns-2 : tie.Need-returns-2
 returns-2 c =
-    let put = c .before in
-    let told = put .before .before in
-    words-refused (told .before .before .args .answer) _ (told .before .is-done .ensures) (told .if1 .left) (put .put2 .ensures) (c .put-meaning .ensures)
+    let spaced = c .before in
+    let told = spaced .before .before in
+    let args = told .before .before .args in
+    words-refused (args .answer) (args .text) (told .before .is-done .ensures) (told .if1 .left) (spaced .put2 .ensures) (c .put-meaning .ensures)
 
 pub put-words-spec : {M : Type 1} → statement M
 put-words-spec =

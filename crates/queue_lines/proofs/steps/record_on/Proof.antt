@@ -54,8 +54,9 @@ no-record-requires-3 c κs = search needs
 returns-3 : tie.Need-returns-3 Inv-loop μ-loop
 returns-3 c =
     let other = c .before in
-    let turn = other .before .before .before in
-    pairs-other (turn .loop .inv) (search needs) (other .before .pair .ensures .1) (other .if3 .taken) (c .no-record3 .ensures)
+    let paired = other .before in
+    let turn = paired .before .before in
+    pairs-other (turn .loop .inv) (search needs) (paired .pair .ensures .1) (other .if3 .taken) (c .no-record3 .ensures)
 
 cast-bytes : tie.Need-cast-bytes Inv-loop μ-loop
 cast-bytes c = search needs
@@ -71,8 +72,9 @@ loop-less c = search needs
 
 loop-again : tie.Need-loop-again Inv-loop μ-loop
 loop-again c =
-    let turn = c .before .before .before in
-    pairs-more (turn .loop .inv) (search needs) (c .before .pair .ensures .1) (c .if3 .left)
+    let paired = c .before in
+    let turn = paired .before .before in
+    pairs-more (turn .loop .inv) (search needs) (paired .pair .ensures .1) (c .if3 .left)
 
 returns-4 : tie.Need-returns-4 Inv-loop μ-loop
 returns-4 c = pairs-all (c .before .loop .inv) (search needs)
