@@ -3,3 +3,5 @@ pub mod Records
 pub mod Submits
 pub mod Serves
 pub mod Handling
+pub mod Requests
+pub mod Statements

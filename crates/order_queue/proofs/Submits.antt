@@ -15,6 +15,7 @@ use Rattle.order_queue.specs.declared.Order.{Order}
 use Rattle.order_queue.specs.declared.Queue.{Queue}
 use Rattle.order_queue.specs.declared.Handled.{Handled}
 use Rattle.order_queue.specs.Queue.{orderOf, waits, quiet, benchAnswer, waitingAnswer, submitAnswer, withOrder, submitted}
+use Rattle.order_queue.specs.Promise.{RightSubmit}
 
 -- ---- 27 and 28
 
@@ -48,12 +49,6 @@ module _ (queue : Queue) (bench : ℕ) where
       by false t e = refl
 
 -- ---- all tests
-
--- what is asked of a submit that is accepted
-pub record RightSubmit (queue : Queue) (bench psn : ℕ) : Type 0 where
-  pub bench-is : bench < 4
-  pub free : waits queue bench ≡ false
-  pub psn-is : judged psn ≡ Done
 
 module _ (queue : Queue) (bench psn : ℕ) where
   pub submit-right : submitAnswer queue bench psn ≡ Done → RightSubmit queue bench psn

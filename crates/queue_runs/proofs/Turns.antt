@@ -1,0 +1,177 @@
+-- A waiting order is taken in its turn: d benches on from the turn, after at most d other serves. Assumes nothing.
+use mathlib.Core.Path.{_≡_, refl, sym, ap, subst, _∙_}
+use mathlib.Core.Bool.{Bool, true, false, cond, false≢true}
+use mathlib.Core.List.{List, [], _∷_, _++_}
+use Prim.Native.Nat.{ℕ, suc, _+_, _-_, _%_, _<_, _≤_}
+use native.Mathlib.Decide.{ℕ-discrete, decLt}
+use native.Mathlib.Omega.{arith}
+use borrow.Author.Tests.{lt-ltb, ltb-true}
+use lib.Dec.{ltb}
+use lib.ListN.{length}
+use Rattle.laws.proofs.First.{Passed}
+use Rattle.answer.specs.declared.Answer.the-variants.{Done}
+use Rattle.address.specs.declared.Psn.{Psn}
+use Rattle.order_queue.specs.declared.Order.{Order}
+use Rattle.order_queue.specs.declared.Queue.{Queue}
+use Rattle.order_queue.specs.declared.Request.{Request}
+use Rattle.order_queue.specs.declared.Request.the-variants.{Submit, Serve, Unknown}
+use Rattle.order_queue.specs.declared.Handled.{Handled}
+use Rattle.order_queue.specs.Records.{requestOf}
+use Rattle.order_queue.specs.Queue.{noOrder, orderOf, waits, beginsAt, benchAt, waitsAt, quiet, withOrder, taken, answeredTo, handled}
+use Rattle.order_queue.proofs.Requests.{Does, refuses, stores, takes-one, finds-none, does}
+use Rattle.queue_runs.specs.Runs.{behind, servesOf, serves}
+use Rattle.queue_runs.specs.Promise.{IsQueue, Waits, TakenWithin}
+use Rattle.queue_runs.proofs.Steps.{set-here, set-other, still-queue}
+
+-- ---- going round
+
+-- the bench at which a serve begins is one of the four
+pub begins-within : (turn : ℕ) → beginsAt turn < 4
+begins-within turn = by (ltb turn 4) refl
+  where
+    by : (t : Bool) → ltb turn 4 ≡ t → cond t turn 0 < 4
+    by true t = ltb-true turn 4 t
+    by false t = omega arith
+
+-- from s on: benches k and d places on are two, and behind the first of them the other is d - k - 1 places on
+other-bench : (s k d : ℕ) → k < d → d < 4 → (s + d) % 4 ≡ (s + k) % 4 → ⊥
+other-bench s k d h i e = omega (arith, h, i, e)
+
+nearer : (s k d : ℕ) → k < d → (((s + k) % 4 + 1) % 4 + (d - suc k)) % 4 ≡ (s + d) % 4
+nearer s k d h = round ((s + k) % 4 + 1) (d - suc k) ∙ ap (λ (n : ℕ). n % 4) (omega arith) ∙ round (s + k) (1 + (d - suc k)) ∙ ap (λ (n : ℕ). n % 4) (omega (arith, h))
+  where
+    round : (x y : ℕ) → (x % 4 + y) % 4 ≡ (x + y) % 4
+    round x y = omega arith
+
+-- ---- an order that stays
+
+stays : (queue : Queue) (next : Queue) (bench psn : ℕ) → orderOf next bench ≡ orderOf queue bench → Waits queue bench psn → Waits next bench psn
+stays queue next bench psn e w = record { waiting = ap (λ (o : Order). o .waiting) e ∙ w .waiting; own-psn = ap (λ (o : Order). o .psn .0) e ∙ w .own-psn }
+
+-- ---- records later in a run
+
+module _ (queue : Queue) (bytes : List ℕ) {m bench psn : ℕ} {run : List (List ℕ)} where
+  pub later : TakenWithin m (handled queue bytes .queue) bench psn run → TakenWithin (servesOf (requestOf bytes) + m) queue bench psn (bytes ∷ run)
+  unfolding behind serves
+  later t =
+      record {
+        before = bytes ∷ t .before;
+        here = t .here;
+        rest = t .rest;
+        whole = ap (λ (l : List (List ℕ)). bytes ∷ l) (t .whole);
+        few = omega (arith, t .few);
+        a-serve = t .a-serve;
+        own-bench = t .own-bench;
+        own-psn = t .own-psn;
+      }
+
+pub sooner : {m n bench psn : ℕ} {queue : Queue} {run : List (List ℕ)} → m ≤ n → TakenWithin m queue bench psn run → TakenWithin n queue bench psn run
+sooner h t =
+    record {
+      before = t .before;
+      here = t .here;
+      rest = t .rest;
+      whole = t .whole;
+      few = omega (arith, h, t .few);
+      a-serve = t .a-serve;
+      own-bench = t .own-bench;
+      own-psn = t .own-psn;
+    }
+
+no-serve : (request : Request) → (request ≡ Serve → ⊥) → servesOf request ≡ 0
+no-serve (Submit bench psn) other = refl
+no-serve Serve other = absurd (other refl)
+no-serve Unknown other = refl
+
+-- ---- in its turn
+
+-- the queue behind a request, the bench still waiting, and as many places on as a serve leaves
+module _ (queue : Queue) (whole : IsQueue queue) (bench psn d : ℕ) (near : d < 4) (on : benchAt (queue .turn) d ≡ bench) (w : Waits queue bench psn) where
+  waits-there : waitsAt queue d ≡ true
+  waits-there = ap (waits queue) on ∙ w .waiting
+
+  -- an order of another bench is stored
+  beside : (from : ℕ) (own : Psn) → waits queue from ≡ false → Waits (withOrder queue from own) bench psn
+  beside from own free =
+      stays queue (withOrder queue from own) bench psn
+      (set-other queue whole from (record { waiting = true; psn = own }) bench (λ e. false≢true (sym free ∙ sym (ap (waits queue) e) ∙ w .waiting))) w
+
+  -- the order of a nearer bench is taken
+  passed-by : (k : ℕ) → k < d → Waits (taken queue (benchAt (queue .turn) k) .queue) bench psn
+  passed-by k h =
+      stays queue (taken queue (benchAt (queue .turn) k) .queue) bench psn
+      (set-other queue whole (benchAt (queue .turn) k) noOrder bench (λ e. other-bench (beginsAt (queue .turn)) k d h near (on ∙ e))) w
+
+  then-on : (k : ℕ) → k < d → benchAt (taken queue (benchAt (queue .turn) k) .queue .turn) (d - suc k) ≡ bench
+  then-on k h =
+      let at = benchAt (queue .turn) k in
+      ap (λ (b : ℕ). (b + (d - suc k)) % 4) (ap (λ (t : Bool). cond t ((at + 1) % 4) 0) (lt-ltb ((at + 1) % 4) 4 (omega arith))) ∙ nearer (beginsAt (queue .turn)) k d h ∙ on
+
+  -- what is known of the rest of a run
+  abbrev Later : List (List ℕ) → Type 0
+  Later run = (next : Queue) → IsQueue next → (e : ℕ) → e < 4 → benchAt (next .turn) e ≡ bench → Waits next bench psn → suc e ≤ serves run → TakenWithin (suc e) next bench psn run
+
+  module _ (bytes : List ℕ) (run : List (List ℕ)) (rest : Later run) (many : suc d ≤ serves (bytes ∷ run)) where
+    -- at this record, whose request leaves `next`
+    on-with : (next : Queue) (e : ℕ) → answeredTo queue (requestOf bytes) .queue ≡ next → servesOf (requestOf bytes) + e ≤ d → suc e ≤ serves run → benchAt (next .turn) e ≡ bench
+        → Waits next bench psn → TakenWithin (suc d) queue bench psn (bytes ∷ run)
+    unfolding handled
+    on-with next e is h more there waiting =
+        let found = rest next (ap (λ (q : Queue). length (q .orders)) (sym is) ∙ still-queue queue whole (requestOf bytes)) e (omega (arith, h, near)) there waiting more in
+        sooner (omega (arith, h)) (later queue bytes (subst (λ (q : Queue). TakenWithin (suc e) q bench psn run) (sym is) found))
+
+    -- it is no serve, and the turn stays
+    on-past : (next : Queue) → (requestOf bytes ≡ Serve → ⊥) → answeredTo queue (requestOf bytes) .queue ≡ next → next .turn ≡ queue .turn → Waits next bench psn
+        → TakenWithin (suc d) queue bench psn (bytes ∷ run)
+    unfolding serves
+    on-past next other is same waiting =
+        let none = no-serve (requestOf bytes) other in
+        on-with next d is (omega (arith, none)) (omega (arith, none, many)) (ap (λ (t : ℕ). benchAt t d) same ∙ on) waiting
+
+    -- it is a serve of the bench k places on
+    serves-here : (k : ℕ) → k ≡ d → requestOf bytes ≡ Serve → answeredTo queue (requestOf bytes) ≡ taken queue (benchAt (queue .turn) k) → TakenWithin (suc d) queue bench psn (bytes ∷ run)
+    unfolding handled behind serves
+    serves-here k e a is =
+        let at : benchAt (queue .turn) k ≡ bench = ap (benchAt (queue .turn)) e ∙ on in
+        record {
+          before = [];
+          here = bytes;
+          rest = run;
+          whole = refl;
+          few = omega arith;
+          a-serve = a;
+          own-bench = ap (λ (x : Handled). x .bench) is ∙ at;
+          own-psn = ap (λ (x : Handled). x .psn .0) is ∙ ap (λ (b : ℕ). orderOf queue b .psn .0) at ∙ w .own-psn;
+        }
+
+    serves-nearer : (k : ℕ) → k < d → requestOf bytes ≡ Serve → answeredTo queue (requestOf bytes) ≡ taken queue (benchAt (queue .turn) k) → TakenWithin (suc d) queue bench psn (bytes ∷ run)
+    unfolding serves
+    serves-nearer k h a is =
+        let one = ap servesOf a in
+        on-with (taken queue (benchAt (queue .turn) k) .queue) (d - suc k) (ap (λ (x : Handled). x .queue) is) (omega (arith, one, h)) (omega (arith, one, h, many)) (then-on k h) (passed-by k h)
+
+    one-record : TakenWithin (suc d) queue bench psn (bytes ∷ run)
+    one-record = by (does queue (requestOf bytes))
+      where
+        by : Does queue (requestOf bytes) → TakenWithin (suc d) queue bench psn (bytes ∷ run)
+        by (refuses answer e other is) = on-past queue other (ap (λ (x : Handled). x .queue) is) refl w
+        by (stores from own e right is) =
+            on-past (withOrder queue from own) (λ serve. omega (arith, ap servesOf (sym serve ∙ e))) (ap (λ (x : Handled). x .queue) is) refl (beside from own (right .free))
+        by (takes-one k e h waiting passed is) =
+            elim (ℕ-discrete k d) [
+              | yes same ↦ serves-here k same e is
+              | no other ↦
+                  elim (decLt k d) [
+                    | yes less ↦ serves-nearer k less e is
+                    | no past ↦ absurd (false≢true (sym (passed .fails d (omega (arith, other, past))) ∙ waits-there))
+                  ]
+            ]
+        by (finds-none e idle is) = absurd (false≢true (sym (idle d near) ∙ waits-there))
+
+-- WHO STANDS d BENCHES ON FROM THE TURN WAITS FOR AT MOST d OTHER SERVES
+pub in-turn : (run : List (List ℕ)) (queue : Queue) → IsQueue queue → (bench psn d : ℕ) → d < 4 → benchAt (queue .turn) d ≡ bench → Waits queue bench psn → suc d ≤ serves run
+    → TakenWithin (suc d) queue bench psn run
+unfolding serves
+in-turn [] queue whole bench psn d near on w many = absurd (omega (arith, many))
+in-turn (bytes ∷ run) queue whole bench psn d near on w many =
+    one-record queue whole bench psn d near on w bytes run (λ next four e small there waiting more. in-turn run next four bench psn e small there waiting more) many
