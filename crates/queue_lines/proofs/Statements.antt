@@ -65,10 +65,9 @@ written-bytes (b ∷ bytes) small =
     let low = digit-back (b % 16) (omega arith) in
     let rest = written-bytes bytes (λ i. small (suc i)) in
     let digits : (isDigit (glyph (b / 16)) ≡ true) × (isDigit (glyph (b % 16)) ≡ true) =
-    (lt-ltb (digitOf (glyph (b / 16))) 16 (omega (arith, high, byte)), lt-ltb (digitOf (glyph (b % 16))) 16 (omega (arith, low))) in
-    (
+    (lt-ltb (digitOf (glyph (b / 16))) 16 (omega (arith, high, byte)), lt-ltb (digitOf (glyph (b % 16))) 16 (omega (arith, low))) in (
       and-true (isDigit (glyph (b / 16))) (isDigit (glyph (b % 16)) && isRecordText (written bytes)) (digits .0)
-      (and-true (isDigit (glyph (b % 16))) (isRecordText (written bytes)) (digits .1) (rest .0)),
+          (and-true (isDigit (glyph (b % 16))) (isRecordText (written bytes)) (digits .1) (rest .0)),
       ap₂ (λ (n : ℕ) (l : List ℕ). n ∷ l) (omega (arith, high, low)) (rest .1),
     )
 
