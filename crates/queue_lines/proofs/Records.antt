@@ -7,7 +7,7 @@ use native.Mathlib.Numerals.{add-one}
 use native.Mathlib.Decide.{decLt}
 use native.Mathlib.Omega.{arith}
 use borrow.Author.Tests.{ne-eqb, lt-ltb, le-ltb, ltb-true, le-leb, lt-leb}
-use lib.Dec.{eqb, ltb, leb}
+use lib.Dec.{eqb}
 use lib.ListN.{length, getD, take, drop, set, length-set, drop-of-length-le}
 use lib.Seq.{drop-cons, getD-take, length-take-le, take-suc-set}
 use Rattle.laws.proofs.Booleans.{and-left, and-right, and-false}
@@ -29,15 +29,16 @@ module _ (high low h l : ℕ) (hh : h ≡ digitOf high) (hl : l ≡ digitOf low)
   both : {t u : Bool} → isDigit high ≡ t → isDigit low ≡ u → cond (t && u) (digitOf high * 16 + digitOf low) 256 ≡ pairOf high low
   both e f = sym (ap₂ (λ (t u : Bool). cond (t && u) (digitOf high * 16 + digitOf low) 256) e f)
 
-  pub pair-digits : h < 16 → l < 16 → (h * 16 + l ≤ 256) × (h * 16 + l ≡ pairOf high low)
+  pub pair-digits : h < 16 → l < 16 → h * 16 + l ≡ pairOf high low
   pair-digits p q =
-      (omega arith, ap₂ (λ (m n : ℕ). m * 16 + n) hh hl ∙ both (lt-ltb (digitOf high) 16 (omega (arith, p, hh))) (lt-ltb (digitOf low) 16 (omega (arith, q, hl))))
+      ap₂ (λ (m n : ℕ). m * 16 + n) hh hl
+      ∙ both (lt-ltb (digitOf high) 16 (omega (arith, p, hh))) (lt-ltb (digitOf low) 16 (omega (arith, q, hl)))
 
-  pub pair-not-high : 16 ≤ h → (256 ≤ 256) × (256 ≡ pairOf high low)
-  pair-not-high p = (omega arith, both {u = isDigit low} (le-ltb (digitOf high) 16 (omega (arith, p, hh))) refl)
+  pub pair-not-high : 16 ≤ h → 256 ≡ pairOf high low
+  pair-not-high p = both {u = isDigit low} (le-ltb (digitOf high) 16 (omega (arith, p, hh))) refl
 
-  pub pair-not-low : h < 16 → 16 ≤ l → (256 ≤ 256) × (256 ≡ pairOf high low)
-  pair-not-low p q = (omega arith, both (lt-ltb (digitOf high) 16 (omega (arith, p, hh))) (le-ltb (digitOf low) 16 (omega (arith, q, hl))))
+  pub pair-not-low : h < 16 → 16 ≤ l → 256 ≡ pairOf high low
+  pair-not-low p q = both (lt-ltb (digitOf high) 16 (omega (arith, p, hh))) (le-ltb (digitOf low) 16 (omega (arith, q, hl)))
 
 -- ---- a text of them
 

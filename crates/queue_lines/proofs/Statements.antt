@@ -1,5 +1,5 @@
 -- What is promised of a text: which lines it has, which records stand on them, and that each gets one line. Assumes nothing.
-use mathlib.Core.Path.{_≡_, refl, sym, ap, ap₂, _∙_}
+use mathlib.Core.Path.{_≡_, refl, ap, ap₂, _∙_}
 use mathlib.Core.Bool.{Bool, true, false, cond, _&&_, false≢true}
 use mathlib.Core.List.{List, [], _∷_, _++_, map, append-assoc}
 use Prim.Native.Nat.{ℕ, suc, _/_, _%_, _<_}
@@ -9,9 +9,9 @@ use lib.Dec.{eqb}
 use lib.ListN.{length}
 use Rattle.laws.specs.Bytes.{Bytes}
 use Rattle.laws.proofs.Booleans.{and-true}
-use Rattle.laws.proofs.Finite.{all, equal-below}
 use Rattle.io.specs.Digits.{glyph}
 use Rattle.notation.specs.Psn.{digitOf}
+use Rattle.notation.proofs.Statements.{digit-back}
 use Rattle.texts.specs.Text.{the}
 use Rattle.order_queue.specs.declared.Queue.{Queue}
 use Rattle.order_queue.specs.Queue.{emptyQueue, handled}
@@ -28,17 +28,18 @@ abbrev joined : List (List ℕ) → List ℕ
 joined [] = []
 joined (line ∷ lines) = line ++ (10 ∷ joined lines)
 
-pub data Unbroken : List (List ℕ) → Type 0 where
-  no-lines : Unbroken []
-  a-line : {line : List ℕ} {lines : List (List ℕ)} → unbroken line ≡ true → Unbroken lines → Unbroken (line ∷ lines)
+-- no line feed stands in any of them
+pub data EachUnbroken : List (List ℕ) → Type 0 where
+  no-lines : EachUnbroken []
+  a-line : {line : List ℕ} {lines : List (List ℕ)} → unbroken line ≡ true → EachUnbroken lines → EachUnbroken (line ∷ lines)
 
 -- LINES THAT ARE WRITTEN ARE READ, AND ONE THAT HAS NO LINE FEED BEHIND THEM
-pub lines-back : {lines : List (List ℕ)} → Unbroken lines → linesOf (joined lines) ≡ lines
+pub lines-back : {lines : List (List ℕ)} → EachUnbroken lines → linesOf (joined lines) ≡ lines
 unfolding linesOf
 lines-back no-lines = refl
 lines-back (a-line {line} {lines} e rest) = line-ended line (joined lines) 10 refl e ∙ ap (λ (l : List (List ℕ)). line ∷ l) (lines-back rest)
 
-pub last-line-back : {lines : List (List ℕ)} (last : List ℕ) → Unbroken lines → unbroken last ≡ true → (length last ≡ 0 → ⊥) → linesOf (joined lines ++ last) ≡ lines ++ (last ∷ [])
+pub last-line-back : {lines : List (List ℕ)} (last : List ℕ) → EachUnbroken lines → unbroken last ≡ true → (length last ≡ 0 → ⊥) → linesOf (joined lines ++ last) ≡ lines ++ (last ∷ [])
 last-line-back last no-lines e some = line-last last e some
 last-line-back last (a-line {line} {lines} f rest) e some =
     ap linesOf (append-assoc line (10 ∷ joined lines) last)
@@ -51,10 +52,6 @@ last-line-back last (a-line {line} {lines} f rest) e some =
 abbrev written : List ℕ → List ℕ
 written [] = []
 written (b ∷ bytes) = glyph (b / 16) ∷ (glyph (b % 16) ∷ written bytes)
-
-digit-back : (d : ℕ) → d < 16 → digitOf (glyph d) ≡ d
-unfolding all digitOf
-digit-back d h = equal-below 16 (λ d. digitOf (glyph d)) (λ d. d) tt d h
 
 written-bytes : (bytes : List ℕ) → Bytes bytes → (isRecordText (written bytes) ≡ true) × (pairBytes (written bytes) ≡ bytes)
 unfolding isRecordText pairBytes

@@ -10,7 +10,7 @@ use texts::Text;
 use texts::blank;
 ghost use mathlib.Core.Path.{_≡_};
 ghost use mathlib.Core.List.{List, [], _∷_, _++_};
-ghost use Prim.Native.Nat.{ℕ, _≤_};
+ghost use Prim.Native.Nat.{ℕ};
 ghost use Rattle.order_queue.specs.Queue.{handled};
 ghost use Rattle.queue_lines.specs.Lines.{recordOn, textSaid};
 ghost use Rattle.queue_lines.specs.steps.Reading.{pairOf, shownRecord, shownBytes, HoldsRecordLine, HoldsRecord, HasRead};
@@ -60,7 +60,7 @@ fn no_record() -> LineRecord
 
 // The byte of two digits, 256 for any other two.
 fn pair(high: u8, low: u8) -> u32
-    ensures { λ r. ⌜ (r ≤ 256) × (r ≡ pairOf high low) ⌝ }
+    ensures { λ r. ⌜ r ≡ pairOf high low ⌝ }
 {
     let h = digit(high);
     let l = digit(low);

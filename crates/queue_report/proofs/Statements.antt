@@ -76,18 +76,18 @@ handled-differ h k hh hk e =
 -- ---- one line
 
 -- behind a digit
-line-more : (d : ℕ) (m : List ℕ) → 48 ≤ d → isLine m ≡ true → isLine (d ∷ m) ≡ true
+digit-line : (d : ℕ) (m : List ℕ) → 48 ≤ d → isLine m ≡ true → isLine (d ∷ m) ≡ true
 unfolding isLine
-line-more d m h e = ap (λ (t : Bool). cond t (eqb (length m) 0) (isLine m)) (ne-eqb d 10 (λ z. omega (arith, z))) ∙ e
+digit-line d m h e = ap (λ (t : Bool). cond t (eqb (length m) 0) (isLine m)) (ne-eqb d 10 (λ z. omega (arith, z))) ∙ e
 
 line-behind : {l : List ℕ} (m : List ℕ) → Digits l → isLine m ≡ true → isLine (l ++ m) ≡ true
 line-behind m no-digit e = e
-line-behind m (a-digit {d} {l} h ds) e = line-more d (l ++ m) h (line-behind m ds e)
+line-behind m (a-digit {d} {l} h ds) e = digit-line d (l ++ m) h (line-behind m ds e)
 
 line-behind-psn : (k n : ℕ) (m : List ℕ) → isLine m ≡ true → isLine (digits 16 k n ++ m) ≡ true
 line-behind-psn zero n m e = e
 line-behind-psn (suc k) n m e =
-    ap isLine (append-assoc (digits 16 k (n / 16)) (glyph (n % 16) ∷ []) m) ∙ line-behind-psn k (n / 16) (glyph (n % 16) ∷ m) (line-more (glyph (n % 16)) m (by (ltb (n % 16) 10)) e)
+    ap isLine (append-assoc (digits 16 k (n / 16)) (glyph (n % 16) ∷ []) m) ∙ line-behind-psn k (n / 16) (glyph (n % 16) ∷ m) (digit-line (glyph (n % 16)) m (by (ltb (n % 16) 10)) e)
   where
     by : (t : Bool) → 48 ≤ cond t (48 + n % 16) (87 + n % 16)
     by true = omega arith

@@ -1,5 +1,5 @@
 -- What is printed for a record of the queue (document 02, W-214): a line with answer, place, bench and PSN, and behind them a refusal's words.
-use mathlib.Core.Bool.{Bool, true, false, cond}
+use mathlib.Core.Bool.{Bool, false, cond}
 use mathlib.Core.List.{List, [], _∷_, _++_}
 use Prim.Native.Nat.{ℕ}
 use lib.Dec.{eqb}

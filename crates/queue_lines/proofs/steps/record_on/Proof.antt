@@ -56,7 +56,7 @@ returns-3 c =
     let other = c .before in
     let paired = other .before in
     let turn = paired .before .before in
-    pairs-other (turn .loop .inv) (search needs) (paired .pair .ensures .1) (other .if3 .taken) (c .no-record3 .ensures)
+    pairs-other (turn .loop .inv) (search needs) (paired .pair .ensures) (other .if3 .taken) (c .no-record3 .ensures)
 
 cast-bytes : tie.Need-cast-bytes Inv-loop μ-loop
 cast-bytes c = search needs
@@ -74,7 +74,7 @@ loop-again : tie.Need-loop-again Inv-loop μ-loop
 loop-again c =
     let paired = c .before in
     let turn = paired .before .before in
-    pairs-more (turn .loop .inv) (search needs) (paired .pair .ensures .1) (c .if3 .left)
+    pairs-more (turn .loop .inv) (search needs) (paired .pair .ensures) (c .if3 .left)
 
 returns-4 : tie.Need-returns-4 Inv-loop μ-loop
 returns-4 c = pairs-all (c .before .loop .inv) (search needs)
