@@ -66,7 +66,7 @@ unfolding valueTo
 value-prefix l m zero h = refl
 value-prefix l m (suc k) h = ap₂ (λ (v d : ℕ). v * 16 + digitOf d) (value-prefix l m k (omega arith)) (List·getD-append l m 0 k (omega arith))
 
-digit-back : (d : ℕ) → d < 16 → digitOf (glyph d) ≡ d
+pub digit-back : (d : ℕ) → d < 16 → digitOf (glyph d) ≡ d
 unfolding all digitOf
 digit-back d h = equal-below 16 (λ d. digitOf (glyph d)) (λ d. d) tt d h
 

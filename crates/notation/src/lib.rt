@@ -22,7 +22,7 @@ pub enum FirstText {
 }
 
 // The value of a hexadecimal digit, 16 for any other byte.
-fn digit(byte: u8) -> u32
+pub fn digit(byte: u8) -> u32
     ensures { λ r. ⌜ r ≡ digitOf byte ⌝ }
 {
     match byte {

@@ -63,7 +63,7 @@ told BenchWaiting = (refl, omega arith)
 pub number-small : (a : Answer) → numberOf a < 10 ^ 20
 number-small a = told a .1
 
-same-answer : (a b : Answer) → numberOf a ≡ numberOf b → placeOf a ≡ placeOf b → a ≡ b
+pub same-answer : (a b : Answer) → numberOf a ≡ numberOf b → placeOf a ≡ placeOf b → a ≡ b
 same-answer a b hn hp = sym (told a .0) ∙ ap₂ (λ (n p : ℕ). getD (answers p) n Done) hn hp ∙ told b .0
 
 -- the first line is number and place

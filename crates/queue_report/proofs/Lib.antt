@@ -1,0 +1,3 @@
+-- Laws of what is printed for a record.
+pub mod Words
+pub mod Statements

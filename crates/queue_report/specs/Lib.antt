@@ -1,0 +1,2 @@
+-- What is printed for a record of the queue.
+pub mod Said
