@@ -1,11 +1,12 @@
-/* BD-RE clusters (ISO/IEC 30193:2021, clause 13) written, strictly read and marked, parity of columns, sheets of PSNs: the functions of libbdre.a.
+/* BD-RE clusters (ISO/IEC 30193:2021, clause 13) written, strictly read and marked, parity of columns, sheets of PSNs, a queue of four
+ * benches: the functions of libbdre.a.
  *
  * A slice is a pointer and the number of its elements. Two things are asked of a caller, here and nowhere else: each pointer is valid
  * (not null, even for 0 elements) for that many elements, and a slice that a call writes overlaps no other slice of that call. Every
  * length, number and content gets an answer. Nothing is kept from call to call, so threads may call at the same time.
  *
  * Stack that a call takes, in bytes (measured by bench/stack; 128 KiB are the limit): write 86,368, read 90,016, mark 90,112,
- * a conversion 40, parity 66,240, sheet 584. No memory is allocated.
+ * a conversion 40, parity 66,240, sheet 584, record 344. No memory is allocated.
  *
  * `number` is 0 where it is done, else it says what was refused; the place is 0 unless one is named; at 6 and 7 of a sheet it is the entry.
  *
@@ -20,6 +21,9 @@
  *   22  the data are not 1 to 223 bytes, or the parity slice is not 32 bytes long
  *   23  the sheet has not 1 to 64 PSNs
  *   24  entry `place` of the sheet has the PSN of an earlier one
+ *   26  the record is no submit and no serve
+ *   27  the bench is above 3
+ *   28  the bench has a waiting order
  */
 #ifndef BDRE_H
 #define BDRE_H
@@ -33,7 +37,7 @@ extern "C" {
 #endif
 
 /* The version of this interface, for a libbdre.a of the same version; README.md, 'Versions'. */
-#define BDRE_VERSION "2.1.0"
+#define BDRE_VERSION "2.2.0"
 
 #define BDRE_USER 65536      /* user data: 32 sectors of 2,048 bytes */
 #define BDRE_SIDE 592        /* side data: 16 flag bytes, then 32 x 18 bytes of user control data */
@@ -43,6 +47,7 @@ extern "C" {
 #define BDRE_COLUMN_DATA 223 /* the most data bytes of a column */
 #define BDRE_PARITY 32       /* the parity bytes of a column */
 #define BDRE_SHEET 64        /* the most PSNs of a sheet */
+#define BDRE_BENCHES 4       /* the benches that share a queue */
 
 struct bdre_answer {
     uint32_t number;
@@ -66,6 +71,25 @@ struct bdre_marking {
 struct bdre_conversion {
     uint32_t number;
     uint32_t value; /* 0 unless number is 0 */
+};
+
+struct bdre_order {
+    bool waiting;
+    uint32_t psn; /* counts where it is waiting */
+};
+
+/* Any queue gets an answer. With every field 0 it is the empty one, bench 0's turn. */
+struct bdre_queue {
+    struct bdre_order orders[BDRE_BENCHES]; /* of benches 0 to 3 */
+    uint8_t turn;                           /* the bench at which the next serve begins; above 3 it stands for 0 */
+};
+
+struct bdre_handled {
+    struct bdre_queue queue; /* as it is behind the record */
+    uint32_t number;
+    size_t place;  /* 0 */
+    uint8_t bench; /* the bench served, 255 where none is waiting; 0 for a submit and on refusal */
+    uint32_t psn;  /* of the order served; else 0 */
 };
 
 /* Writes the image of a cluster, from its user data, the PSN of its first sector, its side data, its dc words and # of its first frame
@@ -107,6 +131,12 @@ struct bdre_answer bdre_parity(const uint8_t *data, size_t data_length, uint8_t 
 /* Judges a sheet of PSNs as a whole. 0: each would pass alone and none occurs twice; no two of its clusters have equal images. Else the first that
  * fits: 23, not 1 to 64 PSNs; 6, no multiple of 32; 7, in no data zone; 24, the PSN of an earlier entry. Place of 6, 7, 24: the lowest entry, from 0. */
 struct bdre_answer bdre_sheet(const uint32_t *psns, size_t count);
+
+/* Handles a record of the queue in which four benches wait for one marking machine, an order each. 01h, a bench and four PSN bytes, high byte first,
+ * submit an order; 02h serves the first waiting bench from the turn on, going round: its place is free again, and the turn is that of the bench after
+ * it. Where none is waiting nothing changes. Else the first that fits, and the queue is as it was: 26, a short, long or unknown record; 27, the bench
+ * is above 3; 28, it has a waiting order; 6 or 7 for the PSN. */
+struct bdre_handled bdre_handle_record(struct bdre_queue queue, const uint8_t *record, size_t record_length);
 
 #ifdef __cplusplus
 }

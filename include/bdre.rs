@@ -1,8 +1,8 @@
-//! BD-RE clusters (ISO/IEC 30193:2021, clause 13) written, strictly read and marked, parity of columns, sheets of PSNs: safe calls of the functions
-//! of libbdre.a. Nothing is asked of the caller. bdre.h lists the numbers that are answered.
+//! BD-RE clusters (ISO/IEC 30193:2021, clause 13) written, strictly read and marked, parity of columns, sheets of PSNs, a queue of four
+//! benches: safe calls of the functions of libbdre.a. Nothing is asked of the caller. bdre.h lists the numbers that are answered.
 
 /// The version of this interface, for a libbdre.a of the same version; README.md, 'Versions'.
-pub const VERSION: &str = "2.1.0";
+pub const VERSION: &str = "2.2.0";
 /// User data: 32 sectors of 2,048 bytes.
 pub const USER: usize = 65_536;
 /// Side data: 16 flag bytes, then 32 x 18 bytes of user control data.
@@ -19,6 +19,8 @@ pub const COLUMN_DATA: usize = 223;
 pub const PARITY: usize = 32;
 /// The most PSNs of a sheet.
 pub const SHEET: usize = 64;
+/// The benches that share a queue.
+pub const BENCHES: usize = 4;
 
 #[repr(C)]
 #[derive(Clone, Copy, Debug, PartialEq, Eq)]
@@ -59,8 +61,40 @@ pub struct Conversion {
     pub value: u32,
 }
 
+#[repr(C)]
+#[derive(Clone, Copy, Debug, Default, PartialEq, Eq)]
+pub struct Order {
+    pub waiting: bool,
+    /// Counts where it is waiting.
+    pub psn: u32,
+}
+
+/// Any queue gets an answer. The default is the empty one, bench 0's turn.
+#[repr(C)]
+#[derive(Clone, Copy, Debug, Default, PartialEq, Eq)]
+pub struct Queue {
+    /// Of benches 0 to 3.
+    pub orders: [Order; BENCHES],
+    /// The bench at which the next serve begins; above 3 it stands for 0.
+    pub turn: u8,
+}
+
+#[repr(C)]
+#[derive(Clone, Copy, Debug, PartialEq, Eq)]
+pub struct Handled {
+    /// As it is behind the record.
+    pub queue: Queue,
+    pub number: u32,
+    /// 0.
+    pub place: usize,
+    /// The bench served, 255 where none is waiting; 0 for a submit and on refusal.
+    pub bench: u8,
+    /// Of the order served; else 0.
+    pub psn: u32,
+}
+
 mod c {
-    use super::{Answer, Conversion, Marking, ReadAnswer};
+    use super::{Answer, Conversion, Handled, Marking, Queue, ReadAnswer};
 
     #[link(name = "bdre", kind = "static")]
     extern "C" {
@@ -113,6 +147,7 @@ mod c {
         pub fn bdre_aun_to_psn(aun: u32) -> Conversion;
         pub fn bdre_parity(data: *const u8, data_length: usize, parity: *mut u8, parity_length: usize) -> Answer;
         pub fn bdre_sheet(psns: *const u32, count: usize) -> Answer;
+        pub fn bdre_handle_record(queue: Queue, record: *const u8, record_length: usize) -> Handled;
     }
 }
 
@@ -232,4 +267,12 @@ pub fn parity(data: &[u8], parity: &mut [u8]) -> Answer {
 /// fits: 23, not 1 to 64 PSNs; 6, no multiple of 32; 7, in no data zone; 24, the PSN of an earlier entry. Place of 6, 7, 24: the lowest entry, from 0.
 pub fn sheet(psns: &[u32]) -> Answer {
     unsafe { c::bdre_sheet(psns.as_ptr(), psns.len()) }
+}
+
+/// Handles a record of the queue in which four benches wait for one marking machine, an order each. 01h, a bench and four PSN bytes, high byte first,
+/// submit an order; 02h serves the first waiting bench from the turn on, going round: its place is free again, and the turn is that of the bench after
+/// it. Where none is waiting nothing changes. Else the first that fits, and the queue is as it was: 26, a short, long or unknown record; 27, the bench
+/// is above 3; 28, it has a waiting order; 6 or 7 for the PSN.
+pub fn handle_record(queue: Queue, record: &[u8]) -> Handled {
+    unsafe { c::bdre_handle_record(queue, record.as_ptr(), record.len()) }
 }

@@ -3,6 +3,7 @@ use crate::bdre;
 use crate::clusters::{Cluster, Filled, Lent};
 use crate::reference::fast::Fast;
 use crate::reference::plain;
+use crate::reference::queue;
 
 fn differ(what: &str) -> ! {
     println!("DIFFERENT: {what}");
@@ -80,4 +81,26 @@ pub fn mark(given: &Cluster, image: &[u8], before: &Lent, fast: &mut Fast, what:
     agree((a.verdict, a.number, a.psn, a.place) == b, || format!("{what}: marked {a:?}, by the reference {b:?}"));
     agree(ours == theirs, || format!("{what}: slices of the marker, at {a:?}"));
     a.verdict
+}
+
+/// A record handled by the library and by the reference: the answer, what is reported, the turn and every order. An order that the reference leaves
+/// is to be just as it was, whatever its PSN.
+pub fn handle(before: &bdre::Queue, record: &[u8]) -> bdre::Handled {
+    let a = bdre::handle_record(*before, record);
+    let what = |part: &str| format!("record {record:02X?} on {before:?}: {part}, handled {a:?}");
+    let waiting = before.orders.map(|order| order.waiting.then_some(order.psn));
+    let mut theirs = queue::Queue { waiting, turn: before.turn };
+    let b = theirs.order(record);
+    agree((a.number, a.place, a.bench, a.psn) == b, || what(&format!("by the reference {b:?}")));
+    agree(a.queue.turn == theirs.turn, || what("turn"));
+    for bench in 0..bdre::BENCHES {
+        let order = match theirs.waiting[bench] {
+            same if same == waiting[bench] => before.orders[bench],
+            None => bdre::Order::default(),
+            Some(psn) => bdre::Order { waiting: true, psn },
+        };
+        agree(a.queue.orders[bench] == order, || what(&format!("order of bench {bench}")));
+    }
+    agree(a.number == 0 || a.queue == *before, || what("the queue"));
+    a
 }

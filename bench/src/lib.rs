@@ -4,6 +4,7 @@ pub mod bdre;
 pub mod both;
 pub mod clusters;
 pub mod damage;
+pub mod queues;
 pub mod random;
 pub mod reference;
 pub mod sheets;

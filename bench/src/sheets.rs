@@ -35,14 +35,14 @@ fn special(r: &Random, count: usize) -> Vec<u32> {
 }
 
 /// No multiple of 32, in a zone and elsewhere.
-fn no_multiple(r: &Random) -> u32 {
+pub fn no_multiple(r: &Random) -> u32 {
     let (first, last) = r.pick(&ZONES);
     let inside = psn(r, r.below(30)) + 1 + r.below(31) as u32;
     r.pick(&[inside, inside, first - 1, first + 1, last, last + 2, 1, r.word() | 1, u32::MAX])
 }
 
 /// A multiple of 32 next to a zone, at the ends of the numbers, or any; of these 1 in 90 lies in a zone.
-fn no_zone(r: &Random) -> u32 {
+pub fn no_zone(r: &Random) -> u32 {
     let (first, last) = r.pick(&ZONES);
     r.pick(&[first - 32, last + 1, 0, !31, r.word() & !31])
 }

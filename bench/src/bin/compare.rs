@@ -1,10 +1,11 @@
 //! Compares the library with the reference, and says how much was compared. Stops at the first difference, with status 1.
 //! Damaged images are read by both paths of the reference; bin/soak reads many more by the fast one alone.
 //! With the word `short`: fewer of each, and the reference's plain path, which is slow, on some clusters only.
-use bench::bdre::{self, COLUMN_DATA, DC, IMAGE, PARITY, SHEET, SIDE, USER, WORK};
+use bench::bdre::{self, Queue, BENCHES, COLUMN_DATA, DC, IMAGE, PARITY, SHEET, SIDE, USER, WORK};
 use bench::both::{self, agree};
 use bench::clusters::{Cluster, Filled, Lent, LARGEST, ZONES};
 use bench::damage::{damage, Written};
+use bench::queues::{self, each_record, random_queue, random_record, SERVE};
 use bench::random::Random;
 use bench::reference::columns;
 use bench::reference::fast::Fast;
@@ -172,6 +173,116 @@ fn sheets(r: &Random, count: usize) {
     agree(ANSWERS.iter().all(often), || "an answer was rare".into());
 }
 
+// ---- queues
+
+/// What the benches gave and got in a run of records, and how many serves each waiting order has seen.
+struct Watched {
+    queue: Queue,
+    came: [Vec<u32>; BENCHES],
+    went: [Vec<u32>; BENCHES],
+    passed: [usize; BENCHES],
+}
+
+impl Watched {
+    fn new(queue: Queue) -> Watched {
+        let came = queue.orders.map(|order| if order.waiting { vec![order.psn] } else { vec![] });
+        Watched { queue, came, went: Default::default(), passed: [0; BENCHES] }
+    }
+
+    /// A record more. A waiting order is taken by the fourth serve.
+    fn handle(&mut self, record: &[u8]) -> bdre::Handled {
+        let a = both::handle(&self.queue, record);
+        if a.number == 0 && record == SERVE {
+            for bench in 0..BENCHES {
+                self.passed[bench] = if self.queue.orders[bench].waiting { self.passed[bench] + 1 } else { 0 };
+            }
+            if a.bench != 255 {
+                self.went[a.bench as usize].push(a.psn);
+                self.passed[a.bench as usize] = 0;
+            }
+            agree(self.passed.iter().all(|&serves| serves < 4), || {
+                format!("an order waits too long: {:?}", self.queue)
+            });
+        } else if a.number == 0 {
+            self.came[record[1] as usize].push(u32::from_be_bytes(record[2..].try_into().unwrap()));
+        }
+        self.queue = a.queue;
+        a
+    }
+
+    /// Each order that came, and no other, went or waits, in their order.
+    fn end(self) {
+        for (bench, order) in self.queue.orders.iter().enumerate() {
+            let mut went = self.went[bench].clone();
+            went.extend(order.waiting.then_some(order.psn));
+            agree(went == self.came[bench], || format!("orders of bench {bench}: {:08X?}", self.came[bench]));
+        }
+    }
+}
+
+type Outcomes = BTreeMap<&'static str, usize>;
+
+/// The answers in words; those to a serve are two.
+const OUTCOMES: [&str; 8] = ["26", "27", "28", "6", "7", "none waiting", "served", "submitted"];
+
+fn count(outcomes: &mut Outcomes, record: &[u8], a: bdre::Handled) {
+    let name = match (a.number, a.bench) {
+        (0, _) if record != SERVE => "submitted",
+        (0, 255) => "none waiting",
+        (0, _) => "served",
+        (6, _) => "6",
+        (7, _) => "7",
+        (26, _) => "26",
+        (27, _) => "27",
+        _ => "28",
+    };
+    *outcomes.entry(name).or_insert(0) += 1;
+}
+
+/// Behind a record stand other bytes, which are not its own.
+fn each_queue(r: &Random) {
+    let mut outcomes = Outcomes::new();
+    for record in each_record(r) {
+        let room = [&record[..], &r.bytes(6)].concat();
+        let lent = &room[..record.len()];
+        count(&mut outcomes, &record, both::handle(&random_queue(r), lent));
+    }
+    for turn in 0..=255 {
+        for waiting in 0..16 {
+            let queue = queues::queue(r, waiting, turn);
+            for bench in 0..BENCHES as u8 {
+                let record = queues::submit(bench, queues::accepted(r));
+                count(&mut outcomes, &record, both::handle(&queue, &record));
+            }
+            let mut watched = Watched::new(queue);
+            for _ in 0..5 {
+                count(&mut outcomes, &SERVE, watched.handle(&SERVE));
+            }
+            watched.end();
+        }
+    }
+    println!("queues, each record, turn and set of benches: {outcomes:?}");
+    agree(outcomes.keys().eq(&OUTCOMES), || "an answer did not occur".into());
+}
+
+/// Runs of records from the empty queue and from any, with few serves and with many.
+fn queue_runs(r: &Random, runs: usize) {
+    let (mut outcomes, mut records) = (Outcomes::new(), 0);
+    for run in 0..runs {
+        let serves = [1, 3, 7][run % 3];
+        let mut watched = Watched::new(if run % 2 == 0 { Queue::default() } else { random_queue(r) });
+        for _ in 0..1 + r.below(1000) {
+            let record = random_record(r, serves);
+            count(&mut outcomes, &record, watched.handle(&record));
+            records += 1;
+        }
+        watched.end();
+    }
+    println!("queues, {runs} runs of {records} records: {outcomes:?}");
+    let often = |name| outcomes.get(name).map_or(false, |&calls| calls >= records / 50);
+    agree(OUTCOMES.iter().all(often), || "an answer was rare".into());
+}
+
 // ---- clusters and images
 
 fn clusters(r: &Random, fast: &mut Fast, count: usize, plain_every: usize) {
@@ -245,6 +356,8 @@ fn main() {
     conversions(r, 1_000_000);
     parities(r, if short { 1000 } else { 10_000 });
     sheets(r, if short { 2000 } else { 20_000 });
+    each_queue(r);
+    queue_runs(r, if short { 100 } else { 2000 });
     clusters(r, &mut fast, if short { 30 } else { 240 }, if short { 4 } else { 1 });
     damaged(r, &mut fast, if short { 200 } else { 2000 }, if short { 10 } else { 1 });
     marks(r, &mut fast, if short { 30 } else { 300 });

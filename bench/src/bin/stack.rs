@@ -4,6 +4,7 @@
 use bench::bdre::{self, DC, IMAGE, SIDE, USER, WORK};
 use bench::clusters::{Cluster, Filled, Lent, LARGEST, ZONES};
 use bench::damage::{damage, Written};
+use bench::queues::{self, random_queue, random_record};
 use bench::random::Random;
 use bench::reference::fast::Fast;
 use bench::sheets::{random_sheet, ANSWERS};
@@ -75,7 +76,7 @@ impl Operation {
         let occurred: Vec<u32> = self.taken.keys().copied().collect();
         assert_eq!(occurred, answers, "answers of {}", self.name);
         let others = self.taken.range(1..).map(|(_, &bytes)| bytes).max().unwrap();
-        println!("{:<12}{:>10}{others:>10}", self.name, self.taken[&0]);
+        println!("{:<14}{:>10}{others:>10}", self.name, self.taken[&0]);
         others.max(self.taken[&0])
     }
 }
@@ -175,13 +176,26 @@ fn sheets(stack: &mut Stack, r: &Random) -> usize {
     sheet.most(&ANSWERS)
 }
 
+fn queues(stack: &mut Stack, r: &Random) -> usize {
+    let mut handle = Operation::new("handle_record");
+    for _ in 0..400 {
+        let (queue, record) = (random_queue(r), random_record(r, 2));
+        handle.run(stack, || bdre::handle_record(queue, &record).number);
+    }
+    handle.most(&queues::ANSWERS)
+}
+
 fn main() {
     let r = &Random::new(0x57AC);
     let stack = &mut Stack(vec![0; ROOM]);
     println!("bytes of stack");
-    println!("{:<12}{:>10}{:>10}", "", "answer 0", "others");
-    let most =
-        writes(stack, r).max(reads(stack, r)).max(conversions(stack)).max(parities(stack, r)).max(sheets(stack, r));
+    println!("{:<14}{:>10}{:>10}", "", "answer 0", "others");
+    let most = writes(stack, r)
+        .max(reads(stack, r))
+        .max(conversions(stack))
+        .max(parities(stack, r))
+        .max(sheets(stack, r))
+        .max(queues(stack, r));
     println!("at most {most}; {LIMIT} are allowed");
     if most > LIMIT {
         std::process::exit(1);

@@ -4,4 +4,5 @@ pub mod code;
 pub mod columns;
 pub mod fast;
 pub mod plain;
+pub mod queue;
 pub mod sheet;
