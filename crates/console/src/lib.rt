@@ -3,16 +3,18 @@ use texts::Text;
 ghost use Rattle.io.specs.Counts.{Counts};
 
 // The first size of the bytes. A text has no more than fit (proofs/Words of `report` and `sheet_report`; `tallying`, proofs/Table).
-fn write(bytes: &[u8], size: usize) {
+fn write(bytes: &[u8], size: usize) -> bool {
     if size <= bytes.len() {
-        io::write_all(1, &bytes[..size]);
+        return io::write_all(1, &bytes[..size]);
     }
+    false
 }
 
-pub fn print(text: Text) {
+// Whether all of it could be printed.
+pub fn print(text: Text) -> bool {
     let size = text.size;
     let bytes = text.bytes;
-    write(&bytes, size);
+    write(&bytes, size)
 }
 
 // ---- files; what is wrong with one is said on standard error
