@@ -16,9 +16,10 @@ use Rattle.order_queue.specs.declared.Queue.{Queue}
 use Rattle.order_queue.specs.declared.Request.{Request}
 use Rattle.order_queue.specs.declared.Request.the-variants.{Submit, Serve, Unknown}
 use Rattle.order_queue.specs.declared.Handled.{Handled}
-use Rattle.order_queue.specs.Queue.{benchAt, waitsAt, quiet, submitAnswer, withOrder, submitted, taken, noneWaiting, served, answeredTo}
+use Rattle.order_queue.specs.Queue.{benchAt, waitsAt, quiet, submitAnswer, withOrder, submitted, taken, noneWaiting, answeredTo}
 use Rattle.order_queue.specs.Promise.{RightSubmit}
 use Rattle.order_queue.proofs.Submits.{submit-right}
+use Rattle.order_queue.proofs.Serves.{next-is, next-none, serves-one, serves-none}
 
 -- a serve is no submit, and no record that is unknown
 abbrev isServe : Request → ℕ
@@ -48,18 +49,17 @@ does-submit queue bench psn = by (isDone (submitAnswer queue bench (psn .0))) re
     by false t = refuses (submitAnswer queue bench (psn .0)) t (λ e. omega (arith, ap isServe e)) (is t)
 
 does-serve : (queue : Queue) → Does queue Serve
-unfolding served
 does-serve queue = by (ltb (first 4 (waitsAt queue)) 4) refl
   where
-    is : {t : Bool} → ltb (first 4 (waitsAt queue)) 4 ≡ t → answeredTo queue Serve ≡ cond t (taken queue (benchAt (queue .turn) (first 4 (waitsAt queue)))) (noneWaiting queue)
-    is e = ap (λ (t : Bool). cond t (taken queue (benchAt (queue .turn) (first 4 (waitsAt queue)))) (noneWaiting queue)) e
-
     by : (t : Bool) → ltb (first 4 (waitsAt queue)) 4 ≡ t → Does queue Serve
     by true t =
         let h = ltb-true (first 4 (waitsAt queue)) 4 t in
         let holds = first-holds 4 (waitsAt queue) h in
-        takes-one (first 4 (waitsAt queue)) refl h (holds .0) (holds .1) (is t)
-    by false t = finds-none refl (first-all 4 (waitsAt queue) (ltb-false (first 4 (waitsAt queue)) 4 t)) (is t)
+        let bench : benchAt (queue .turn) (first 4 (waitsAt queue)) < 4 = omega arith in
+        takes-one (first 4 (waitsAt queue)) refl h (holds .0) (holds .1) (sym (serves-one queue (sym (next-is queue h)) bench refl))
+    by false t =
+        let none = ltb-false (first 4 (waitsAt queue)) 4 t in
+        finds-none refl (first-all 4 (waitsAt queue) none) (sym (serves-none queue (sym (next-none queue none)) (omega arith)))
 
 pub does : (queue : Queue) (request : Request) → Does queue request
 does queue (Submit bench psn) = does-submit queue bench psn

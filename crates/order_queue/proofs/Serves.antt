@@ -7,12 +7,21 @@ use borrow.Author.Tests.{lt-ltb, le-ltb}
 use lib.Dec.{ltb}
 use lib.ListN.{set}
 use Rattle.laws.specs.First.{first}
-use Rattle.laws.proofs.First.{Passed, passed-more, first-here}
+use Rattle.laws.proofs.First.{Passed, passed-none, passed-more, first-here, first-past}
 use Rattle.answer.specs.declared.Answer.the-variants.{Done}
 use Rattle.order_queue.specs.declared.Order.{Order}
 use Rattle.order_queue.specs.declared.Queue.{Queue}
 use Rattle.order_queue.specs.declared.Handled.{Handled}
-use Rattle.order_queue.specs.Queue.{noOrder, orderOf, beginsAt, benchAt, waitsAt, taken, noneWaiting, served}
+use Rattle.order_queue.specs.Queue.{noOrder, orderOf, beginsAt, benchAt, waitsAt, nextBench, taken, noneWaiting, served}
+
+-- ---- the next bench
+
+module _ (queue : Queue) where
+  pub next-is : first 4 (waitsAt queue) < 4 → nextBench queue ≡ benchAt (queue .turn) (first 4 (waitsAt queue))
+  next-is h = ap (λ (t : Bool). cond t (benchAt (queue .turn) (first 4 (waitsAt queue))) 4) (lt-ltb (first 4 (waitsAt queue)) 4 h)
+
+  pub next-none : 4 ≤ first 4 (waitsAt queue) → nextBench queue ≡ 4
+  next-none h = ap (λ (t : Bool). cond t (benchAt (queue .turn) (first 4 (waitsAt queue))) 4) (le-ltb (first 4 (waitsAt queue)) 4 h)
 
 -- ---- where it begins
 
@@ -23,17 +32,35 @@ module _ {turn : ℕ} where
   pub begins-else : 4 ≤ turn → 0 ≡ beginsAt turn
   begins-else h = rw (le-ltb turn 4 h)
 
--- ---- which benches it passes; as the code has it, bench is the next one and o its order
+-- ---- which benches it passes
 
-module _ (queue : Queue) {k bench : ℕ} {o : Order} (hb : bench ≡ benchAt (queue .turn) k) (ho : o ≡ orderOf queue bench) (passed : Passed (waitsAt queue) k) where
+-- in a loop: k benches without an order are passed, and `bench` is the next one
+pub record Going (queue : Queue) (k bench : ℕ) : Type 0 where
+  pub small : bench < 4
+  pub here : bench ≡ benchAt (queue .turn) k
+  pub passed : Passed (waitsAt queue) k
+
+pub going-none : (queue : Queue) {bench : ℕ} → bench < 4 → bench ≡ beginsAt (queue .turn) → Going queue 0 bench
+going-none queue h e = record { small = h; here = omega (arith, h, e); passed = passed-none }
+
+-- as the code has it, o is the order of the next one
+module _ (queue : Queue) {k bench : ℕ} {o : Order} (going : Going queue k bench) (ho : o ≡ orderOf queue bench) where
   waits-here : {t : Bool} → o .waiting ≡ t → waitsAt queue k ≡ t
-  waits-here e = sym (ap (λ (x : Order). x .waiting) (ho ∙ ap (orderOf queue) hb)) ∙ e
+  waits-here e = sym (ap (λ (x : Order). x .waiting) (ho ∙ ap (orderOf queue) (going .here))) ∙ e
 
-  pub waits-first : o .waiting ≡ true → k < 4 → k ≡ first 4 (waitsAt queue)
-  waits-first e h = first-here h passed (waits-here e)
+  pub going-found : k < 4 → o .waiting ≡ true → bench ≡ nextBench queue
+  going-found h e =
+      let is : k ≡ first 4 (waitsAt queue) = first-here h (going .passed) (waits-here e) in
+      going .here ∙ ap (benchAt (queue .turn)) is ∙ sym (next-is queue (omega (arith, h, is)))
 
-  pub passes : o .waiting ≡ false → Passed (waitsAt queue) (k + 1)
-  passes e = passed-more passed (waits-here e)
+  pub going-on : o .waiting ≡ false → Going queue (k + 1) ((bench + 1) % 4)
+  going-on e = record { small = omega arith; here = ap (λ (b : ℕ). (b + 1) % 4) (going .here) ∙ round (beginsAt (queue .turn)) k; passed = passed-more (going .passed) (waits-here e) }
+    where
+      round : (s k : ℕ) → ((s + k) % 4 + 1) % 4 ≡ (s + (k + 1)) % 4
+      round s k = omega arith
+
+pub going-all : (queue : Queue) {k bench : ℕ} → Going queue k bench → 4 ≤ k → 4 ≡ nextBench queue
+going-all queue {k} going h = sym (next-none queue (omega (arith, first-past {n = 4} {i = k} h (going .passed))))
 
 -- ---- the order that is taken; as the code has it, o is that order
 
@@ -41,17 +68,14 @@ pub takes : (queue : Queue) (bench : ℕ) {o : Order} → o ≡ orderOf queue be
     → record { queue = record { orders = set (queue .orders) bench noOrder; turn = (bench + 1) % 4 }; answer = Done; bench = bench; psn = o .psn } ≡ taken queue bench
 takes queue bench ho = λ i. record { queue = record { orders = set (queue .orders) bench noOrder; turn = (bench + 1) % 4 }; answer = Done; bench = bench; psn = ho i .psn }
 
--- ---- what it leaves; as the code has it, passed is how many benches are passed
+-- ---- what it leaves; as the code has it, bench is the next one
 
-module _ (queue : Queue) {passed : ℕ} (hp : passed ≡ first 4 (waitsAt queue)) where
-  pub serves-one : {bench : ℕ} {r : Handled} → passed < 4 → bench ≡ benchAt (queue .turn) passed → r ≡ taken queue bench → r ≡ served queue
+module _ (queue : Queue) {bench : ℕ} (hb : bench ≡ nextBench queue) where
+  pub serves-one : {r : Handled} → bench < 4 → r ≡ taken queue bench → r ≡ served queue
   unfolding served
-  serves-one {bench} h hb hr =
-      let is : taken queue bench ≡ taken queue (benchAt (queue .turn) (first 4 (waitsAt queue))) = ap (taken queue) (hb ∙ ap (benchAt (queue .turn)) hp) in
-      let here = lt-ltb (first 4 (waitsAt queue)) 4 (omega (arith, h, hp)) in
-      hr ∙ is ∙ sym (ap (λ (t : Bool). cond t (taken queue (benchAt (queue .turn) (first 4 (waitsAt queue)))) (noneWaiting queue)) here)
+  serves-one h hr =
+      hr ∙ ap (taken queue) hb ∙ sym (ap (λ (t : Bool). cond t (taken queue (nextBench queue)) (noneWaiting queue)) (lt-ltb (nextBench queue) 4 (omega (arith, h, hb))))
 
-  pub serves-none : 4 ≤ passed → noneWaiting queue ≡ served queue
+  pub serves-none : 4 ≤ bench → noneWaiting queue ≡ served queue
   unfolding served
-  serves-none h =
-      sym (ap (λ (t : Bool). cond t (taken queue (benchAt (queue .turn) (first 4 (waitsAt queue)))) (noneWaiting queue)) (le-ltb (first 4 (waitsAt queue)) 4 (omega (arith, h, hp))))
+  serves-none h = sym (ap (λ (t : Bool). cond t (taken queue (nextBench queue)) (noneWaiting queue)) (le-ltb (nextBench queue) 4 (omega (arith, h, hb))))

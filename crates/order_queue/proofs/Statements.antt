@@ -26,7 +26,7 @@ use Rattle.order_queue.specs.declared.Request.{Request}
 use Rattle.order_queue.specs.declared.Request.the-variants.{Submit, Serve, Unknown}
 use Rattle.order_queue.specs.declared.Handled.{Handled}
 use Rattle.order_queue.specs.Records.{requestOf}
-use Rattle.order_queue.specs.Queue.{noOrder, waits, benchAt, waitsAt, quiet, submitAnswer, submitted, taken, noneWaiting, served, answeredTo, handled}
+use Rattle.order_queue.specs.Queue.{waits, nextBench, quiet, submitAnswer, submitted, taken, noneWaiting, served, answeredTo, handled}
 use Rattle.order_queue.specs.Promise.{RightSubmit, Says, at-26, at-27, at-28, at-6, at-7, at-0-submit, at-0-serve, ServesAs}
 use Rattle.order_queue.proofs.Submits.{submit-right, right-submit}
 use Rattle.order_queue.proofs.Serves.{begins-else}
@@ -134,9 +134,9 @@ module _ (queue : Queue) (bytes : List ℕ) where
 
   served-done : served queue .answer ≡ Done
   unfolding served
-  served-done = by (ltb (first 4 (waitsAt queue)) 4)
+  served-done = by (ltb (nextBench queue) 4)
     where
-      by : (t : Bool) → cond t (taken queue (benchAt (queue .turn) (first 4 (waitsAt queue)))) (noneWaiting queue) .answer ≡ Done
+      by : (t : Bool) → cond t (taken queue (nextBench queue)) (noneWaiting queue) .answer ≡ Done
       by true = refl
       by false = refl
 
@@ -180,24 +180,24 @@ module _ (queue : Queue) (bytes : List ℕ) where
 -- ---- a turn that names no bench
 
 -- from bench s on
+abbrev nextFrom : Queue → ℕ → ℕ
+nextFrom queue s =
+    let passed = first 4 (λ k. waits queue ((s + k) % 4)) in
+    cond (ltb passed 4) ((s + passed) % 4) 4
+
 abbrev servedFrom : Queue → ℕ → Handled
-servedFrom queue s =
-    let passed = first 4 (λ k. getD (queue .orders) ((s + k) % 4) noOrder .waiting) in
-    cond (ltb passed 4) (taken queue ((s + passed) % 4)) (noneWaiting queue)
+servedFrom queue s = cond (ltb (nextFrom queue s) 4) (taken queue (nextFrom queue s)) (noneWaiting queue)
 
 -- A SERVE REPORTS AS FROM BENCH 0, AND WHERE AN ORDER IS TAKEN LEAVES THE SAME QUEUE
 pub begins-at-0 : (queue : Queue) → 4 ≤ queue .turn → ServesAs (served queue) (served (record { orders = queue .orders; turn = 0 }))
 unfolding served
 begins-at-0 queue h =
     subst (λ (x : Handled). ServesAs x (servedFrom from-0 0)) (sym (ap (servedFrom queue) (sym (begins-else h))))
-    (by (ltb passed 4) ((0 + passed) % 4))
+    (by (ltb (nextFrom queue 0) 4) (nextFrom queue 0))
   where
     from-0 : Queue
     from-0 = record { orders = queue .orders; turn = 0 }
 
-    passed : ℕ
-    passed = first 4 (λ k. getD (queue .orders) ((0 + k) % 4) noOrder .waiting)
-
-    by : (t : Bool) (bench : ℕ) → ServesAs (cond t (taken queue bench) (noneWaiting queue)) (cond t (taken (record { orders = queue .orders; turn = 0 }) bench) (noneWaiting (record { orders = queue .orders; turn = 0 })))
+    by : (t : Bool) (bench : ℕ) → ServesAs (cond t (taken queue bench) (noneWaiting queue)) (cond t (taken from-0 bench) (noneWaiting from-0))
     by true bench = record { same-bench = refl; same-psn = refl; same-queue = λ some. refl }
     by false bench = record { same-bench = refl; same-psn = refl; same-queue = λ some. absurd (some refl) }

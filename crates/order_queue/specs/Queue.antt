@@ -42,6 +42,12 @@ benchAt turn k = (beginsAt turn + k) % 4
 abbrev pub waitsAt : Queue → ℕ → Bool
 waitsAt queue k = waits queue (benchAt (queue .turn) k)
 
+-- the bench whose order is next: benches without an order are passed; 4 where none is waiting
+abbrev pub nextBench : Queue → ℕ
+nextBench queue =
+    let passed = first 4 (waitsAt queue) in
+    cond (ltb passed 4) (benchAt (queue .turn) passed) 4
+
 -- ---- what is reported
 
 -- bench 0 and PSN 0, for a submit and for a refusal
@@ -81,11 +87,8 @@ taken queue bench =
 abbrev pub noneWaiting : Queue → Handled
 noneWaiting queue = record { queue = queue; answer = Done; bench = 255; psn = record { 0 = 0 } }
 
--- going round, benches without an order are passed
 unfoldable pub served : Queue → Handled
-served queue =
-    let passed = first 4 (waitsAt queue) in
-    cond (ltb passed 4) (taken queue (benchAt (queue .turn) passed)) (noneWaiting queue)
+served queue = cond (ltb (nextBench queue) 4) (taken queue (nextBench queue)) (noneWaiting queue)
 
 -- ---- a record
 

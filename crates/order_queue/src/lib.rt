@@ -5,9 +5,8 @@ use big_endian::steps::word_at;
 ghost use mathlib.Core.Path.{_≡_};
 ghost use Prim.Native.Nat.{_<_};
 ghost use lib.ListN.{getD};
-ghost use Rattle.laws.specs.First.{first};
 ghost use Rattle.order_queue.specs.Records.{requestOf};
-ghost use Rattle.order_queue.specs.Queue.{noOrder, emptyQueue, beginsAt, benchAt, waitsAt, quiet, benchAnswer, waitingAnswer, submitAnswer, withOrder, submitted, taken, served, handled};
+ghost use Rattle.order_queue.specs.Queue.{noOrder, emptyQueue, beginsAt, nextBench, quiet, benchAnswer, waitingAnswer, submitAnswer, withOrder, submitted, taken, served, handled};
 
 // How many benches there are.
 pub const BENCHES: usize = 4;
@@ -186,27 +185,21 @@ fn begins_at(turn: u8) -> usize
     0
 }
 
-// The bench k places on from there, going round.
-fn bench_at(turn: u8, k: usize) -> usize
-    requires { ⌜ k < 4 ⌝ }
-    ensures { λ r. ⌜ (r < 4) × (r ≡ benchAt turn k) ⌝ }
-{
-    (begins_at(turn) + k) % BENCHES
-}
-
-// How many benches without an order are passed; 4 where none is waiting.
-fn benches_passed(queue: Queue) -> usize
-    ensures { λ r. ⌜ r ≡ first 4 (waitsAt queue) ⌝ }
+// The bench whose order is next, going round from there; 4 where none is waiting.
+fn next_bench(queue: Queue) -> usize
+    ensures { λ r. ⌜ r ≡ nextBench queue ⌝ }
 {
     let orders = queue.orders;
     let turn = queue.turn;
-    let mut k = 0;
-    while k < BENCHES {
-        let order = order_of(orders, bench_at(turn, k));
+    let mut bench = begins_at(turn);
+    let mut passed = 0;
+    while passed < BENCHES {
+        let order = order_of(orders, bench);
         if order.waiting {
-            return k;
+            return bench;
         }
-        k += 1;
+        bench = (bench + 1) % BENCHES;
+        passed += 1;
     }
     BENCHES
 }
@@ -219,7 +212,11 @@ fn take(queue: Queue, bench: usize) -> Handled
     let mut orders = queue.orders;
     let order = order_of(orders, bench);
     let psn = order.psn;
-    orders[bench] = NO_ORDER;
+    let waiting = false;
+    orders[bench] = Order {
+        waiting,
+        psn: Psn(0),
+    };
     let turn = ((bench + 1) % BENCHES) as u8;
     Handled {
         queue: Queue { orders, turn },
@@ -232,10 +229,9 @@ fn take(queue: Queue, bench: usize) -> Handled
 fn serve(queue: Queue) -> Handled
     ensures { λ r. ⌜ r ≡ served queue ⌝ }
 {
-    let turn = queue.turn;
-    let passed = benches_passed(queue);
-    if passed < BENCHES {
-        return take(queue, bench_at(turn, passed));
+    let bench = next_bench(queue);
+    if bench < BENCHES {
+        return take(queue, bench);
     }
     Handled {
         queue,

@@ -26,15 +26,21 @@ quiet-requires : tie.Need-quiet-requires
 quiet-requires c κs = search needs
 
 returns : tie.Need-returns
-returns c = let known = c .before .before in let asked = known .before .before in
+returns c =
+    let known = c .before .before in
+    let asked = known .before .before in
     handled-as _ _ (asked .request-of .ensures) (known .request .given .1) (c .submit .ensures)
 
 returns-2 : tie.Need-returns-2
-returns-2 c = let known = c .before in let asked = known .before .before in
+returns-2 c =
+    let known = c .before in
+    let asked = known .before .before in
     handled-as _ _ (asked .request-of .ensures) (known .enum-told .given .1) (c .serve .ensures)
 
 returns-3 : tie.Need-returns-3
-returns-3 c = let known = c .before in let asked = known .before .before in
+returns-3 c =
+    let known = c .before in
+    let asked = known .before .before in
     handled-as _ _ (asked .request-of .ensures) (known .enum-told2 .given .1) (c .quiet .ensures)
 
 pub handle-spec : {M : Type 1} → statement M

@@ -20,7 +20,12 @@ and-then-requires-2 : tie.Need-and-then-requires-2
 and-then-requires-2 c κs = search needs
 
 returns : tie.Need-returns
-returns c = let rest = c .before in let accepted = rest .before in let waiting = accepted .before in let number = waiting .before in let args = number .before .args in
+returns c =
+    let rest = c .before in
+    let accepted = rest .before in
+    let waiting = accepted .before in
+    let number = waiting .before in
+    let args = number .before .args in
     judges (args .queue) (args .bench) (args .psn .0) (number .judge-bench .ensures) (waiting .judge-waiting .ensures) (accepted .judge .ensures) (rest .and-then .ensures) (c .and-then2 .ensures)
 
 pub judge-submit-spec : {M : Type 1} → statement M

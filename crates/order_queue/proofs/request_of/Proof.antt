@@ -14,7 +14,10 @@ word-at-requires : tie.Need-word-at-requires
 word-at-requires c κs = search needs
 
 returns : tie.Need-returns
-returns c = let six = c .before .before in let one = six .before in is-submit _ (one .before .kind-of .ensures) (one .if1 .taken) (six .if2 .taken) (c .word-at .ensures)
+returns c =
+    let six = c .before .before in
+    let one = six .before in
+    is-submit _ (one .before .kind-of .ensures) (one .if1 .taken) (six .if2 .taken) (c .word-at .ensures)
 
 returns-2 : tie.Need-returns-2
 returns-2 c = let one = c .before in no-submit _ (one .before .kind-of .ensures) (one .if1 .taken) (c .if2 .left)

@@ -17,14 +17,17 @@ quiet-requires : tie.Need-quiet-requires
 quiet-requires c κs = search needs
 
 returns : tie.Need-returns
-returns c = let done = c .before .before in let longer = done .before in
+returns c =
+    let done = c .before .before in
+    let longer = done .before in
     stores _ _ _ (longer .before .judge-submit .ensures) (done .is-done .ensures) (c .before .if1 .taken) (longer .with-order .ensures) (c .quiet .ensures)
 
 quiet-requires-2 : tie.Need-quiet-requires-2
 quiet-requires-2 c κs = search needs
 
 returns-2 : tie.Need-returns-2
-returns-2 c = let done = c .before .before in
+returns-2 c =
+    let done = c .before .before in
     keeps _ _ _ (done .before .before .judge-submit .ensures) (done .is-done .ensures) (c .before .if1 .left) (c .quiet2 .ensures)
 
 pub submit-spec : {M : Type 1} → statement M

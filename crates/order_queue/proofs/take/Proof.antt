@@ -19,11 +19,14 @@ add-turn c = search needs
 cast-turn : tie.Need-cast-turn
 cast-turn c = search needs
 
-cast-t16 : tie.Need-cast-t16
-cast-t16 c = search needs
+cast-t17 : tie.Need-cast-t17
+cast-t17 c = search needs
 
 returns : tie.Need-returns
-returns c = let told = c .before in let start = told .before .before in takes (start .args .queue) (start .args .bench) (told .order-of .ensures)
+returns c =
+    let told = c .before in
+    let start = told .before .before in
+    takes (start .args .queue) (start .args .bench) (told .order-of .ensures)
 
 pub take-spec : {M : Type 1} → statement M
 take-spec =
@@ -34,5 +37,5 @@ take-spec =
     array-set-from-orders
     add-turn
     cast-turn
-    cast-t16
+    cast-t17
     returns)
