@@ -25,7 +25,7 @@ returns : tie.Need-returns Inv-loop μ-loop
 returns c =
     let order = c .before in
     let turn = order .before in
-    going-found (turn .before .before .before .before .args .queue) (turn .before .loop .inv) (order .order-of .ensures) (search needs) (c .if1 .taken)
+    going-found _ (turn .before .loop .inv) (order .order-of .ensures) (search needs) (c .if1 .taken)
 
 add-bench : tie.Need-add-bench Inv-loop μ-loop
 add-bench c = let turn = c .before .before in omega (arith, turn .before .loop .inv .small)
@@ -40,10 +40,10 @@ loop-again : tie.Need-loop-again Inv-loop μ-loop
 loop-again c =
     let order = c .before in
     let turn = order .before in
-    going-on (turn .before .before .before .before .args .queue) (turn .before .loop .inv) (order .order-of .ensures) (c .if1 .left)
+    going-on _ (turn .before .loop .inv) (order .order-of .ensures) (c .if1 .left)
 
 returns-2 : tie.Need-returns-2 Inv-loop μ-loop
-returns-2 c = let all = c .before in going-all (all .before .before .before .args .queue) (all .loop .inv) (search needs)
+returns-2 c = going-all _ (c .before .loop .inv) (search needs)
 
 pub next-bench-spec : {M : Type 1} → statement M
 next-bench-spec =
