@@ -16,7 +16,7 @@ use Rattle.order_queue.specs.declared.Queue.{Queue}
 use Rattle.order_queue.specs.declared.Request.{Request}
 use Rattle.order_queue.specs.declared.Request.the-variants.{Submit, Serve, Unknown}
 use Rattle.order_queue.specs.declared.Handled.{Handled}
-use Rattle.order_queue.specs.Queue.{benchAt, waitsAt, quiet, submitAnswer, withOrder, submitted, taken, noneWaiting, answeredTo}
+use Rattle.order_queue.specs.Queue.{benchAt, waitsAt, quiet, submitAnswer, withOrder, submitted, orderTaken, noneWaiting, answeredTo}
 use Rattle.order_queue.specs.Promise.{RightSubmit}
 use Rattle.order_queue.proofs.Submits.{submit-right}
 use Rattle.order_queue.proofs.Serves.{next-is, next-none, serves-one, serves-none}
@@ -32,7 +32,7 @@ pub data Does (queue : Queue) (request : Request) : Type 0 where
   stores : (bench : ℕ) (psn : Psn) → request ≡ Submit bench psn → RightSubmit queue bench (psn .0) → answeredTo queue request ≡ quiet (withOrder queue bench psn) Done
       → Does queue request
   -- the bench k places on from the turn is the first that is waiting
-  takes-one : (k : ℕ) → request ≡ Serve → k < 4 → waitsAt queue k ≡ true → Passed (waitsAt queue) k → answeredTo queue request ≡ taken queue (benchAt (queue .turn) k) → Does queue request
+  takes-one : (k : ℕ) → request ≡ Serve → k < 4 → waitsAt queue k ≡ true → Passed (waitsAt queue) k → answeredTo queue request ≡ orderTaken queue (benchAt (queue .turn) k) → Does queue request
   finds-none : request ≡ Serve → ((k : ℕ) → k < 4 → waitsAt queue k ≡ false) → answeredTo queue request ≡ noneWaiting queue → Does queue request
 
 does-submit : (queue : Queue) (bench : ℕ) (psn : Psn) → Does queue (Submit bench psn)

@@ -12,7 +12,7 @@ use Rattle.answer.specs.declared.Answer.the-variants.{Done}
 use Rattle.order_queue.specs.declared.Order.{Order}
 use Rattle.order_queue.specs.declared.Queue.{Queue}
 use Rattle.order_queue.specs.declared.Handled.{Handled}
-use Rattle.order_queue.specs.Queue.{noOrder, orderOf, beginsAt, benchAt, waitsAt, nextBench, taken, noneWaiting, served}
+use Rattle.order_queue.specs.Queue.{noOrder, orderOf, beginsAt, benchAt, waitsAt, nextBench, orderTaken, noneWaiting, served}
 
 -- ---- the next bench
 
@@ -35,47 +35,47 @@ module _ {turn : ℕ} where
 -- ---- which benches it passes
 
 -- in a loop: k benches without an order are passed, and `bench` is the next one
-pub record Going (queue : Queue) (k bench : ℕ) : Type 0 where
+pub record Passing (queue : Queue) (k bench : ℕ) : Type 0 where
   pub small : bench < 4
   pub here : bench ≡ benchAt (queue .turn) k
   pub passed : Passed (waitsAt queue) k
 
-pub going-none : (queue : Queue) {bench : ℕ} → bench < 4 → bench ≡ beginsAt (queue .turn) → Going queue 0 bench
-going-none queue h e = record { small = h; here = omega (arith, h, e); passed = passed-none }
+pub passing-none : (queue : Queue) {bench : ℕ} → bench < 4 → bench ≡ beginsAt (queue .turn) → Passing queue 0 bench
+passing-none queue h e = record { small = h; here = omega (arith, h, e); passed = passed-none }
 
 -- as the code has it, o is the order of the next one
-module _ (queue : Queue) {k bench : ℕ} {o : Order} (going : Going queue k bench) (ho : o ≡ orderOf queue bench) where
+module _ (queue : Queue) {k bench : ℕ} {o : Order} (passing : Passing queue k bench) (ho : o ≡ orderOf queue bench) where
   waits-here : {t : Bool} → o .waiting ≡ t → waitsAt queue k ≡ t
-  waits-here e = sym (ap (λ (x : Order). x .waiting) (ho ∙ ap (orderOf queue) (going .here))) ∙ e
+  waits-here e = sym (ap (λ (x : Order). x .waiting) (ho ∙ ap (orderOf queue) (passing .here))) ∙ e
 
-  pub going-found : k < 4 → o .waiting ≡ true → bench ≡ nextBench queue
-  going-found h e =
-      let is : k ≡ first 4 (waitsAt queue) = first-here h (going .passed) (waits-here e) in
-      going .here ∙ ap (benchAt (queue .turn)) is ∙ sym (next-is queue (omega (arith, h, is)))
+  pub passing-found : k < 4 → o .waiting ≡ true → bench ≡ nextBench queue
+  passing-found h e =
+      let is : k ≡ first 4 (waitsAt queue) = first-here h (passing .passed) (waits-here e) in
+      passing .here ∙ ap (benchAt (queue .turn)) is ∙ sym (next-is queue (omega (arith, h, is)))
 
-  pub going-on : o .waiting ≡ false → Going queue (k + 1) ((bench + 1) % 4)
-  going-on e = record { small = omega arith; here = ap (λ (b : ℕ). (b + 1) % 4) (going .here) ∙ round (beginsAt (queue .turn)) k; passed = passed-more (going .passed) (waits-here e) }
+  pub passing-on : o .waiting ≡ false → Passing queue (k + 1) ((bench + 1) % 4)
+  passing-on e = record { small = omega arith; here = ap (λ (b : ℕ). (b + 1) % 4) (passing .here) ∙ round (beginsAt (queue .turn)) k; passed = passed-more (passing .passed) (waits-here e) }
     where
       round : (s k : ℕ) → ((s + k) % 4 + 1) % 4 ≡ (s + (k + 1)) % 4
       round s k = omega arith
 
-pub going-all : (queue : Queue) {k bench : ℕ} → Going queue k bench → 4 ≤ k → 4 ≡ nextBench queue
-going-all queue {k} going h = sym (next-none queue (omega (arith, first-past {n = 4} {i = k} h (going .passed))))
+pub passing-all : (queue : Queue) {k bench : ℕ} → Passing queue k bench → 4 ≤ k → 4 ≡ nextBench queue
+passing-all queue {k} passing h = sym (next-none queue (omega (arith, first-past {n = 4} {i = k} h (passing .passed))))
 
 -- ---- the order that is taken; as the code has it, o is that order
 
-pub takes : (queue : Queue) (bench : ℕ) {o : Order} → o ≡ orderOf queue bench
-    → record { queue = record { orders = set (queue .orders) bench noOrder; turn = (bench + 1) % 4 }; answer = Done; bench = bench; psn = o .psn } ≡ taken queue bench
-takes queue bench ho = λ i. record { queue = record { orders = set (queue .orders) bench noOrder; turn = (bench + 1) % 4 }; answer = Done; bench = bench; psn = ho i .psn }
+pub taken-told : (queue : Queue) (bench : ℕ) {o : Order} → o ≡ orderOf queue bench
+    → record { queue = record { orders = set (queue .orders) bench noOrder; turn = (bench + 1) % 4 }; answer = Done; bench = bench; psn = o .psn } ≡ orderTaken queue bench
+taken-told queue bench ho = λ i. record { queue = record { orders = set (queue .orders) bench noOrder; turn = (bench + 1) % 4 }; answer = Done; bench = bench; psn = ho i .psn }
 
 -- ---- what it leaves; as the code has it, bench is the next one
 
 module _ (queue : Queue) {bench : ℕ} (hb : bench ≡ nextBench queue) where
-  pub serves-one : {r : Handled} → bench < 4 → r ≡ taken queue bench → r ≡ served queue
+  pub serves-one : {r : Handled} → bench < 4 → r ≡ orderTaken queue bench → r ≡ served queue
   unfolding served
   serves-one h hr =
-      hr ∙ ap (taken queue) hb ∙ sym (ap (λ (t : Bool). cond t (taken queue (nextBench queue)) (noneWaiting queue)) (lt-ltb (nextBench queue) 4 (omega (arith, h, hb))))
+      hr ∙ ap (orderTaken queue) hb ∙ sym (ap (λ (t : Bool). cond t (orderTaken queue (nextBench queue)) (noneWaiting queue)) (lt-ltb (nextBench queue) 4 (omega (arith, h, hb))))
 
   pub serves-none : 4 ≤ bench → noneWaiting queue ≡ served queue
   unfolding served
-  serves-none h = sym (ap (λ (t : Bool). cond t (taken queue (nextBench queue)) (noneWaiting queue)) (le-ltb (nextBench queue) 4 (omega (arith, h, hb))))
+  serves-none h = sym (ap (λ (t : Bool). cond t (orderTaken queue (nextBench queue)) (noneWaiting queue)) (le-ltb (nextBench queue) 4 (omega (arith, h, hb))))

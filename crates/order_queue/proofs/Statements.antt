@@ -26,7 +26,7 @@ use Rattle.order_queue.specs.declared.Request.{Request}
 use Rattle.order_queue.specs.declared.Request.the-variants.{Submit, Serve, Unknown}
 use Rattle.order_queue.specs.declared.Handled.{Handled}
 use Rattle.order_queue.specs.Records.{requestOf}
-use Rattle.order_queue.specs.Queue.{waits, nextBench, quiet, submitAnswer, submitted, taken, noneWaiting, served, answeredTo, handled}
+use Rattle.order_queue.specs.Queue.{isWaiting, nextBench, quiet, submitAnswer, submitted, orderTaken, noneWaiting, served, answeredTo, handled}
 use Rattle.order_queue.specs.Promise.{RightSubmit, Says, at-26, at-27, at-28, at-6, at-7, at-0-submit, at-0-serve, ServesAs}
 use Rattle.order_queue.proofs.Submits.{submit-right, right-submit}
 use Rattle.order_queue.proofs.Serves.{begins-else}
@@ -119,12 +119,12 @@ submit-iff queue bench psn = (submit-right queue bench psn, right-submit queue b
 module _ (queue : Queue) (bytes : List ℕ) where
   says-submit : (bench : ℕ) (psn : Psn) → requestOf bytes ≡ Submit bench psn → Says queue bytes (submitAnswer queue bench (psn .0))
   unfolding judged
-  says-submit bench psn e = by (ltb bench 4) refl (waits queue bench) refl (firstOfCluster (psn .0)) refl (inDataZone (psn .0)) refl
+  says-submit bench psn e = by (ltb bench 4) refl (isWaiting queue bench) refl (firstOfCluster (psn .0)) refl (inDataZone (psn .0)) refl
     where
       is : {m z : Bool} → firstOfCluster (psn .0) ≡ m → inDataZone (psn .0) ≡ z → judged (psn .0) ≡ cond m (cond z Done (NoZone 0)) (NoMultiple 0)
       is hm hz = ap₂ (λ (m z : Bool). cond m (cond z Done (NoZone 0)) (NoMultiple 0)) hm hz
 
-      by : (b : Bool) → ltb bench 4 ≡ b → (w : Bool) → waits queue bench ≡ w → (m : Bool) → firstOfCluster (psn .0) ≡ m → (z : Bool) → inDataZone (psn .0) ≡ z
+      by : (b : Bool) → ltb bench 4 ≡ b → (w : Bool) → isWaiting queue bench ≡ w → (m : Bool) → firstOfCluster (psn .0) ≡ m → (z : Bool) → inDataZone (psn .0) ≡ z
           → Says queue bytes (andThen (cond b Done NoBench) (andThen (cond w BenchWaiting Done) (cond m (cond z Done (NoZone 0)) (NoMultiple 0))))
       by false hb w hw m hm z hz = at-27 bench psn e (ltb-false bench 4 hb)
       by true hb true hw m hm z hz = at-28 bench psn e (ltb-true bench 4 hb) hw
@@ -136,7 +136,7 @@ module _ (queue : Queue) (bytes : List ℕ) where
   unfolding served
   served-done = by (ltb (nextBench queue) 4)
     where
-      by : (t : Bool) → cond t (taken queue (nextBench queue)) (noneWaiting queue) .answer ≡ Done
+      by : (t : Bool) → cond t (orderTaken queue (nextBench queue)) (noneWaiting queue) .answer ≡ Done
       by true = refl
       by false = refl
 
@@ -182,11 +182,11 @@ module _ (queue : Queue) (bytes : List ℕ) where
 -- from bench s on
 abbrev nextFrom : Queue → ℕ → ℕ
 nextFrom queue s =
-    let passed = first 4 (λ k. waits queue ((s + k) % 4)) in
+    let passed = first 4 (λ k. isWaiting queue ((s + k) % 4)) in
     cond (ltb passed 4) ((s + passed) % 4) 4
 
 abbrev servedFrom : Queue → ℕ → Handled
-servedFrom queue s = cond (ltb (nextFrom queue s) 4) (taken queue (nextFrom queue s)) (noneWaiting queue)
+servedFrom queue s = cond (ltb (nextFrom queue s) 4) (orderTaken queue (nextFrom queue s)) (noneWaiting queue)
 
 -- A SERVE REPORTS AS FROM BENCH 0, AND WHERE AN ORDER IS TAKEN LEAVES THE SAME QUEUE
 pub begins-at-0 : (queue : Queue) → 4 ≤ queue .turn → ServesAs (served queue) (served (record { orders = queue .orders; turn = 0 }))
@@ -198,6 +198,6 @@ begins-at-0 queue h =
     from-0 : Queue
     from-0 = record { orders = queue .orders; turn = 0 }
 
-    by : (t : Bool) (bench : ℕ) → ServesAs (cond t (taken queue bench) (noneWaiting queue)) (cond t (taken from-0 bench) (noneWaiting from-0))
+    by : (t : Bool) (bench : ℕ) → ServesAs (cond t (orderTaken queue bench) (noneWaiting queue)) (cond t (orderTaken from-0 bench) (noneWaiting from-0))
     by true bench = record { same-bench = refl; same-psn = refl; same-queue = λ some. refl }
     by false bench = record { same-bench = refl; same-psn = refl; same-queue = λ some. absurd (some refl) }

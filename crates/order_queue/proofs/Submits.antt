@@ -14,7 +14,7 @@ use Rattle.address.specs.Judged.{judged}
 use Rattle.order_queue.specs.declared.Order.{Order}
 use Rattle.order_queue.specs.declared.Queue.{Queue}
 use Rattle.order_queue.specs.declared.Handled.{Handled}
-use Rattle.order_queue.specs.Queue.{orderOf, waits, quiet, benchAnswer, waitingAnswer, submitAnswer, withOrder, submitted}
+use Rattle.order_queue.specs.Queue.{orderOf, isWaiting, quiet, benchAnswer, waitingAnswer, submitAnswer, withOrder, submitted}
 use Rattle.order_queue.specs.Promise.{RightSubmit}
 
 -- ---- 27 and 28
@@ -38,13 +38,13 @@ module _ (queue : Queue) (bench : ℕ) where
   pub waiting-told : {o : Order} → o ≡ orderOf queue bench → {t : Bool} → o .waiting ≡ t → cond t BenchWaiting Done ≡ waitingAnswer queue bench
   waiting-told ho e = ap (λ (t : Bool). cond t BenchWaiting Done) (sym e ∙ ap (λ (o : Order). o .waiting) ho)
 
-  pub not-waiting : waits queue bench ≡ false → Done ≡ waitingAnswer queue bench
+  pub not-waiting : isWaiting queue bench ≡ false → Done ≡ waitingAnswer queue bench
   not-waiting e = rw e
 
-  pub waiting-done : waitingAnswer queue bench ≡ Done → waits queue bench ≡ false
-  waiting-done e = by (waits queue bench) refl e
+  pub waiting-done : waitingAnswer queue bench ≡ Done → isWaiting queue bench ≡ false
+  waiting-done e = by (isWaiting queue bench) refl e
     where
-      by : (t : Bool) → waits queue bench ≡ t → cond t BenchWaiting Done ≡ Done → t ≡ false
+      by : (t : Bool) → isWaiting queue bench ≡ t → cond t BenchWaiting Done ≡ Done → t ≡ false
       by true t e = absurd (done-not BenchWaiting refl e)
       by false t e = refl
 

@@ -11,21 +11,21 @@ use Rattle.order_queue.specs.declared.Queue.{Queue}
 use Rattle.order_queue.specs.declared.Request.the-variants.{Submit, Serve, Unknown}
 use Rattle.order_queue.specs.declared.Handled.{Handled}
 use Rattle.order_queue.specs.Records.{requestOf}
-use Rattle.order_queue.specs.Queue.{waits}
+use Rattle.order_queue.specs.Queue.{isWaiting}
 
 -- of a bench that is not waiting, with an accepted PSN
 pub record RightSubmit (queue : Queue) (bench psn : ℕ) : Type 0 where
   pub bench-is : bench < 4
-  pub free : waits queue bench ≡ false
+  pub free : isWaiting queue bench ≡ false
   pub psn-is : judged psn ≡ Done
 
 -- what each answer says of a record; no other is given
 pub data Says (queue : Queue) (bytes : List ℕ) : Answer → Type 0 where
   at-26 : requestOf bytes ≡ Unknown → Says queue bytes WrongRecord
   at-27 : (bench : ℕ) (psn : Psn) → requestOf bytes ≡ Submit bench psn → 4 ≤ bench → Says queue bytes NoBench
-  at-28 : (bench : ℕ) (psn : Psn) → requestOf bytes ≡ Submit bench psn → bench < 4 → waits queue bench ≡ true → Says queue bytes BenchWaiting
-  at-6 : (bench : ℕ) (psn : Psn) → requestOf bytes ≡ Submit bench psn → bench < 4 → waits queue bench ≡ false → judged (psn .0) ≡ NoMultiple 0 → Says queue bytes (NoMultiple 0)
-  at-7 : (bench : ℕ) (psn : Psn) → requestOf bytes ≡ Submit bench psn → bench < 4 → waits queue bench ≡ false → judged (psn .0) ≡ NoZone 0 → Says queue bytes (NoZone 0)
+  at-28 : (bench : ℕ) (psn : Psn) → requestOf bytes ≡ Submit bench psn → bench < 4 → isWaiting queue bench ≡ true → Says queue bytes BenchWaiting
+  at-6 : (bench : ℕ) (psn : Psn) → requestOf bytes ≡ Submit bench psn → bench < 4 → isWaiting queue bench ≡ false → judged (psn .0) ≡ NoMultiple 0 → Says queue bytes (NoMultiple 0)
+  at-7 : (bench : ℕ) (psn : Psn) → requestOf bytes ≡ Submit bench psn → bench < 4 → isWaiting queue bench ≡ false → judged (psn .0) ≡ NoZone 0 → Says queue bytes (NoZone 0)
   at-0-submit : (bench : ℕ) (psn : Psn) → requestOf bytes ≡ Submit bench psn → RightSubmit queue bench (psn .0) → Says queue bytes Done
   at-0-serve : requestOf bytes ≡ Serve → Says queue bytes Done
 

@@ -28,8 +28,8 @@ emptyQueue = record { orders = noOrder ∷ noOrder ∷ noOrder ∷ noOrder ∷ [
 abbrev pub orderOf : Queue → ℕ → Order
 orderOf queue bench = getD (queue .orders) bench noOrder
 
-abbrev pub waits : Queue → ℕ → Bool
-waits queue bench = orderOf queue bench .waiting
+abbrev pub isWaiting : Queue → ℕ → Bool
+isWaiting queue bench = orderOf queue bench .waiting
 
 -- a turn that names no bench begins at bench 0
 abbrev pub beginsAt : ℕ → ℕ
@@ -40,7 +40,7 @@ abbrev pub benchAt : ℕ → ℕ → ℕ
 benchAt turn k = (beginsAt turn + k) % 4
 
 abbrev pub waitsAt : Queue → ℕ → Bool
-waitsAt queue k = waits queue (benchAt (queue .turn) k)
+waitsAt queue k = isWaiting queue (benchAt (queue .turn) k)
 
 -- the bench whose order is next: benches without an order are passed; 4 where none is waiting
 abbrev pub nextBench : Queue → ℕ
@@ -62,7 +62,7 @@ benchAnswer bench = cond (ltb bench 4) Done NoBench
 
 -- 28 for a bench already waiting
 abbrev pub waitingAnswer : Queue → ℕ → Answer
-waitingAnswer queue bench = cond (waits queue bench) BenchWaiting Done
+waitingAnswer queue bench = cond (isWaiting queue bench) BenchWaiting Done
 
 -- these precede 6 and 7
 abbrev pub submitAnswer : Queue → ℕ → ℕ → Answer
@@ -79,8 +79,8 @@ submitted queue bench psn =
 -- ---- a serve
 
 -- the order of a bench is reported and gone; the next serve begins at the bench after it
-abbrev pub taken : Queue → ℕ → Handled
-taken queue bench =
+abbrev pub orderTaken : Queue → ℕ → Handled
+orderTaken queue bench =
     record { queue = record { orders = set (queue .orders) bench noOrder; turn = (bench + 1) % 4 }; answer = Done; bench = bench; psn = orderOf queue bench .psn }
 
 -- bench 255 and PSN 0 where none is waiting
@@ -88,7 +88,7 @@ abbrev pub noneWaiting : Queue → Handled
 noneWaiting queue = record { queue = queue; answer = Done; bench = 255; psn = record { 0 = 0 } }
 
 unfoldable pub served : Queue → Handled
-served queue = cond (ltb (nextBench queue) 4) (taken queue (nextBench queue)) (noneWaiting queue)
+served queue = cond (ltb (nextBench queue) 4) (orderTaken queue (nextBench queue)) (noneWaiting queue)
 
 -- ---- a record
 

@@ -6,7 +6,7 @@ ghost use mathlib.Core.Path.{_≡_};
 ghost use Prim.Native.Nat.{_<_};
 ghost use lib.ListN.{getD};
 ghost use Rattle.order_queue.specs.Records.{requestOf};
-ghost use Rattle.order_queue.specs.Queue.{noOrder, emptyQueue, beginsAt, nextBench, quiet, benchAnswer, waitingAnswer, submitAnswer, withOrder, submitted, taken, served, handled};
+ghost use Rattle.order_queue.specs.Queue.{noOrder, emptyQueue, beginsAt, nextBench, quiet, benchAnswer, waitingAnswer, submitAnswer, withOrder, submitted, orderTaken, served, handled};
 
 // How many benches there are.
 pub const BENCHES: usize = 4;
@@ -207,7 +207,7 @@ fn next_bench(queue: Queue) -> usize
 // The order of a bench is reported and gone.
 fn take(queue: Queue, bench: usize) -> Handled
     requires { ⌜ bench < 4 ⌝ }
-    ensures { λ r. ⌜ r ≡ taken queue bench ⌝ }
+    ensures { λ r. ⌜ r ≡ orderTaken queue bench ⌝ }
 {
     let mut orders = queue.orders;
     let order = order_of(orders, bench);

@@ -15,17 +15,17 @@ use Rattle.order_queue.specs.declared.Request.{Request}
 use Rattle.order_queue.specs.declared.Request.the-variants.{Serve}
 use Rattle.order_queue.specs.Records.{requestOf}
 use Rattle.order_queue.specs.Queue.{submitted, served, answeredTo, handled}
-use Rattle.queue_runs.specs.Runs.{behind, serves, takes, servedIn}
-use Rattle.queue_runs.specs.Promise.{TakenWithin, Within}
+use Rattle.queue_runs.specs.Runs.{queueBehind, serveCount, takes, servedIn}
+use Rattle.queue_runs.specs.Promise.{TakenWithin, WaitsAtMost}
 
 -- what is served in two runs, one behind the other
-served-both : (a b : List (List ℕ)) (queue : Queue) (bench : ℕ) → servedIn queue bench (a ++ b) ≡ servedIn queue bench a ++ servedIn (behind queue a) bench b
-unfolding servedIn behind
+served-both : (a b : List (List ℕ)) (queue : Queue) (bench : ℕ) → servedIn queue bench (a ++ b) ≡ servedIn queue bench a ++ servedIn (queueBehind queue a) bench b
+unfolding servedIn queueBehind
 served-both [] b queue bench = refl
 served-both (bytes ∷ a) b queue bench =
     let gone = takes queue bench (requestOf bytes) in
     let next = handled queue bytes .queue in
-    ap (λ (l : List ℕ). gone ++ l) (served-both a b next bench) ∙ sym (append-assoc gone (servedIn next bench a) (servedIn (behind next a) bench b))
+    ap (λ (l : List ℕ). gone ++ l) (served-both a b next bench) ∙ sym (append-assoc gone (servedIn next bench a) (servedIn (queueBehind next a) bench b))
 
 -- what a serve takes, by what it reports
 reported : (queue : Queue) {bench psn : ℕ} → answeredTo queue Serve .bench ≡ bench → answeredTo queue Serve .psn .0 ≡ psn → takes queue bench Serve ≡ psn ∷ []
@@ -36,7 +36,7 @@ reported queue {bench} {psn} hb hp =
 taken-shows : {m bench psn : ℕ} {queue : Queue} {run : List (List ℕ)} → TakenWithin m queue bench psn run → 1 ≤ length (servedIn queue bench run)
 unfolding servedIn handled
 taken-shows {m} {bench} {psn} {queue} {run} t =
-    let there = behind queue (t .before) in
+    let there = queueBehind queue (t .before) in
     let is : takes there bench (requestOf (t .here)) ≡ psn ∷ [] =
     ap (takes there bench) (t .a-serve) ∙ reported there (sym (ap (λ (r : Request). answeredTo there r .bench) (t .a-serve)) ∙ t .own-bench) (sym (ap (λ (r : Request). answeredTo there r .psn .0) (t .a-serve)) ∙ t .own-psn) in
     let all = ap (servedIn queue bench) (t .whole) ∙ served-both (t .before) (t .here ∷ t .rest) queue bench in
@@ -64,8 +64,8 @@ pub fourth-takes : servedIn full 3 (busy ++ ((2 ∷ []) ∷ [])) ≡ 0x0010_0000
 unfolding servedIn handled requestOf submitted served first judged
 fourth-takes = refl
 
-pub three-fails : Within 3 → ⊥
-unfolding serves requestOf
+pub three-fails : WaitsAtMost 3 → ⊥
+unfolding serveCount requestOf
 three-fails all =
     let shown = taken-shows (all full refl 3 0x0010_0000 (omega arith) (record { waiting = refl; own-psn = refl }) busy (omega arith)) in
     omega (arith, shown, ap (λ (l : List ℕ). length l) busy-passes)

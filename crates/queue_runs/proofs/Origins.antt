@@ -15,17 +15,17 @@ use Rattle.order_queue.specs.declared.Request.{Request}
 use Rattle.order_queue.specs.declared.Request.the-variants.{Submit}
 use Rattle.order_queue.specs.declared.Handled.{Handled}
 use Rattle.order_queue.specs.Records.{requestOf}
-use Rattle.order_queue.specs.Queue.{noOrder, orderOf, benchAt, quiet, withOrder, taken, answeredTo, handled}
+use Rattle.order_queue.specs.Queue.{noOrder, orderOf, benchAt, quiet, withOrder, orderTaken, answeredTo, handled}
 use Rattle.order_queue.specs.Promise.{RightSubmit}
 use Rattle.order_queue.proofs.Requests.{Does, refuses, stores, takes-one, finds-none, does}
-use Rattle.queue_runs.specs.Runs.{behind}
-use Rattle.queue_runs.specs.Promise.{IsQueue, Waits, SubmittedIn, ComesFrom, the-start, a-submit}
+use Rattle.queue_runs.specs.Runs.{queueBehind}
+use Rattle.queue_runs.specs.Promise.{IsQueue, HasOrder, SubmittedIn, ComesFrom, the-start, a-submit}
 use Rattle.queue_runs.proofs.Steps.{set-here, set-other, still-queue}
 
 module _ (queue : Queue) (whole : IsQueue queue) (bench psn : ℕ) (bytes : List ℕ) (run : List (List ℕ)) where
   -- a submit later in the run
   from-later : SubmittedIn (handled queue bytes .queue) bench psn run → SubmittedIn queue bench psn (bytes ∷ run)
-  unfolding behind
+  unfolding queueBehind
   from-later s =
       record {
         before = bytes ∷ s .before;
@@ -40,7 +40,7 @@ module _ (queue : Queue) (whole : IsQueue queue) (bench psn : ℕ) (bytes : List
   -- this record, whose request stores the order
   from-here : (own : Psn) → own .0 ≡ psn → requestOf bytes ≡ Submit bench own → judged (own .0) ≡ Done → answeredTo queue (requestOf bytes) .answer ≡ Done
       → SubmittedIn queue bench psn (bytes ∷ run)
-  unfolding behind handled
+  unfolding queueBehind handled
   from-here own e a j done =
       record {
         before = [];
@@ -53,17 +53,17 @@ module _ (queue : Queue) (whole : IsQueue queue) (bench psn : ℕ) (bytes : List
       }
 
   -- the order of a bench in the queue behind this record, o in another form of it
-  module _ {o : Order} (e : orderOf (answeredTo queue (requestOf bytes) .queue) bench ≡ o) (w : Waits (answeredTo queue (requestOf bytes) .queue) bench psn) where
+  module _ {o : Order} (e : orderOf (answeredTo queue (requestOf bytes) .queue) bench ≡ o) (w : HasOrder (answeredTo queue (requestOf bytes) .queue) bench psn) where
     is-waiting : o .waiting ≡ true
     is-waiting = sym (ap (λ (x : Order). x .waiting) e) ∙ w .waiting
 
     has-psn : o .psn .0 ≡ psn
     has-psn = sym (ap (λ (x : Order). x .psn .0) e) ∙ w .own-psn
 
-    waited : orderOf queue bench ≡ o → Waits queue bench psn
+    waited : orderOf queue bench ≡ o → HasOrder queue bench psn
     waited same = record { waiting = ap (λ (x : Order). x .waiting) same ∙ is-waiting; own-psn = ap (λ (x : Order). x .psn .0) same ∙ has-psn }
 
-  from-record : Waits (answeredTo queue (requestOf bytes) .queue) bench psn → ComesFrom queue bench psn (bytes ∷ run)
+  from-record : HasOrder (answeredTo queue (requestOf bytes) .queue) bench psn → ComesFrom queue bench psn (bytes ∷ run)
   from-record w = by (does queue (requestOf bytes))
     where
       by : Does queue (requestOf bytes) → ComesFrom queue bench psn (bytes ∷ run)
@@ -82,7 +82,7 @@ module _ (queue : Queue) (whole : IsQueue queue) (bench psn : ℕ) (bytes : List
           let order = ap (λ (x : Handled). orderOf (x .queue) bench) is in
           elim (ℕ-discrete bench at) [
             | yes same ↦
-                absurd (false≢true (is-waiting (order ∙ ap (orderOf (taken queue at .queue)) same ∙ set-here queue whole at noOrder (omega arith)) w))
+                absurd (false≢true (is-waiting (order ∙ ap (orderOf (orderTaken queue at .queue)) same ∙ set-here queue whole at noOrder (omega arith)) w))
             | no other ↦ the-start (waited (order ∙ set-other queue whole at noOrder bench other) w refl)
           ]
 
@@ -92,8 +92,8 @@ module _ (queue : Queue) (whole : IsQueue queue) (bench psn : ℕ) (bytes : List
   from-rest (a-submit s) = a-submit (from-later s)
 
 -- WHAT WAITS BEHIND A RUN WAITED AT ITS START OR WAS SUBMITTED IN IT
-pub comes-from : (run : List (List ℕ)) (queue : Queue) → IsQueue queue → (bench psn : ℕ) → Waits (behind queue run) bench psn → ComesFrom queue bench psn run
-unfolding behind handled
+pub comes-from : (run : List (List ℕ)) (queue : Queue) → IsQueue queue → (bench psn : ℕ) → HasOrder (queueBehind queue run) bench psn → ComesFrom queue bench psn run
+unfolding queueBehind handled
 comes-from [] queue whole bench psn w = the-start w
 comes-from (bytes ∷ run) queue whole bench psn w =
     from-rest queue whole bench psn bytes run (comes-from run (handled queue bytes .queue) (still-queue queue whole (requestOf bytes)) bench psn w)

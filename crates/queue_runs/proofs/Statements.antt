@@ -16,18 +16,18 @@ use Rattle.order_queue.specs.declared.Request.{Request}
 use Rattle.order_queue.specs.declared.Request.the-variants.{Submit, Serve}
 use Rattle.order_queue.specs.declared.Handled.{Handled}
 use Rattle.order_queue.specs.Records.{requestOf}
-use Rattle.order_queue.specs.Queue.{noOrder, emptyQueue, orderOf, waits, beginsAt, benchAt, benchAnswer, waitingAnswer, submitted, answeredTo, handled}
+use Rattle.order_queue.specs.Queue.{noOrder, emptyQueue, orderOf, isWaiting, beginsAt, benchAt, benchAnswer, waitingAnswer, submitted, answeredTo, handled}
 use Rattle.order_queue.proofs.Submits.{bench-right, not-waiting}
 use Rattle.order_queue.proofs.Requests.{Does, refuses, stores, takes-one, finds-none, does}
-use Rattle.queue_runs.specs.Runs.{behind, servesOf, serves, waitingOf, brings, takes, acceptedIn, servedIn}
-use Rattle.queue_runs.specs.Promise.{IsQueue, Waits, TakenWithin, Within, soonest, SubmittedIn, ComesFrom, the-start, a-submit, Conserves}
+use Rattle.queue_runs.specs.Runs.{queueBehind, servesOf, serveCount, waitingOf, brings, takes, acceptedIn, servedIn}
+use Rattle.queue_runs.specs.Promise.{IsQueue, HasOrder, TakenWithin, WaitsAtMost, longestWait, SubmittedIn, ComesFrom, the-start, a-submit, Conserves}
 use Rattle.queue_runs.proofs.Steps.{set-here, keeps, still-queue}
 use Rattle.queue_runs.proofs.Turns.{begins-within, sooner, in-turn}
 use Rattle.queue_runs.proofs.Origins.{comes-from}
 
 -- four orders stay four
-pub behind-queue : (run : List (List ℕ)) (queue : Queue) → IsQueue queue → IsQueue (behind queue run)
-unfolding behind handled
+pub behind-queue : (run : List (List ℕ)) (queue : Queue) → IsQueue queue → IsQueue (queueBehind queue run)
+unfolding queueBehind handled
 behind-queue [] queue whole = whole
 behind-queue (bytes ∷ run) queue whole = behind-queue run (handled queue bytes .queue) (still-queue queue whole (requestOf bytes))
 
@@ -44,7 +44,7 @@ places-on turn bench h =
     ]
 
 -- A WAITING ORDER IS TAKEN WITHIN FOUR SERVES, WHATEVER THE OTHER RECORDS
-pub within-four : Within soonest
+pub within-four : WaitsAtMost longestWait
 within-four queue whole bench psn h w run many =
     let on = places-on (queue .turn) bench h in
     let d = on .0 in
@@ -55,7 +55,7 @@ within-four queue whole bench psn h w run many =
 
 -- ORDERS OF A BENCH: THOSE THAT WAITED AND WERE ACCEPTED ARE THOSE THAT WERE SERVED AND WAIT
 pub conserved : (run : List (List ℕ)) (queue : Queue) → IsQueue queue → (bench : ℕ) → bench < 4 → Conserves queue bench run
-unfolding behind acceptedIn servedIn handled
+unfolding queueBehind acceptedIn servedIn handled
 conserved [] queue whole bench h = append-nil (waitingOf queue bench)
 conserved (bytes ∷ run) queue whole bench h =
     let request = requestOf bytes in
@@ -66,11 +66,11 @@ conserved (bytes ∷ run) queue whole bench h =
     ∙ ap (λ (l : List ℕ). l ++ later) (keeps queue whole bench h request)
     ∙ append-assoc gone (waitingOf next bench) later
     ∙ ap (λ (l : List ℕ). gone ++ l) (conserved run next (still-queue queue whole request) bench h)
-    ∙ sym (append-assoc gone (servedIn next bench run) (waitingOf (behind next run) bench))
+    ∙ sym (append-assoc gone (servedIn next bench run) (waitingOf (queueBehind next run) bench))
 
 -- A BENCH HAS AT MOST ONE ORDER
 pub at-most-one : (queue : Queue) (bench : ℕ) → length (waitingOf queue bench) ≤ 1
-at-most-one queue bench = by (waits queue bench)
+at-most-one queue bench = by (isWaiting queue bench)
   where
     by : (t : Bool) → length (cond t (orderOf queue bench .psn .0 ∷ []) []) ≤ 1
     by true = omega arith
@@ -85,8 +85,8 @@ is-none e = omega (arith, ap servesOf e)
 -- what a serve reports, where an order was waiting
 pub record Served (queue : Queue) (bytes : List ℕ) : Type 0 where
   pub bench-is : handled queue bytes .bench < 4
-  pub waited : Waits queue (handled queue bytes .bench) (handled queue bytes .psn .0)
-  pub free : waits (handled queue bytes .queue) (handled queue bytes .bench) ≡ false
+  pub waited : HasOrder queue (handled queue bytes .bench) (handled queue bytes .psn .0)
+  pub free : isWaiting (handled queue bytes .queue) (handled queue bytes .bench) ≡ false
 
 pub served-one : (queue : Queue) (bytes : List ℕ) → IsQueue queue → requestOf bytes ≡ Serve → (handled queue bytes .bench ≡ 255 → ⊥) → Served queue bytes
 unfolding handled
@@ -103,20 +103,20 @@ served-one queue bytes whole serve some = by (does queue (requestOf bytes))
           bench-is = omega (arith, bench);
           waited =
               record {
-                waiting = ap (waits queue) bench ∙ waiting;
+                waiting = ap (isWaiting queue) bench ∙ waiting;
                 own-psn = ap (λ (b : ℕ). orderOf queue b .psn .0) bench ∙ sym (ap (λ (x : Handled). x .psn .0) is);
               };
-          free = ap₂ (λ (q : Queue) (b : ℕ). waits q b) (ap (λ (x : Handled). x .queue) is) bench ∙ ap (λ (o : Order). o .waiting) (set-here queue whole at noOrder (omega arith));
+          free = ap₂ (λ (q : Queue) (b : ℕ). isWaiting q b) (ap (λ (x : Handled). x .queue) is) bench ∙ ap (λ (o : Order). o .waiting) (set-here queue whole at noOrder (omega arith));
         }
 
 -- WHAT IS SERVED WAS SUBMITTED AND ACCEPTED IN THE RUN, OR WAITED AT ITS START
-pub served-comes : (queue : Queue) (run : List (List ℕ)) (bytes : List ℕ) → IsQueue queue → requestOf bytes ≡ Serve → (handled (behind queue run) bytes .bench ≡ 255 → ⊥)
-    → ComesFrom queue (handled (behind queue run) bytes .bench) (handled (behind queue run) bytes .psn .0) run
+pub served-comes : (queue : Queue) (run : List (List ℕ)) (bytes : List ℕ) → IsQueue queue → requestOf bytes ≡ Serve → (handled (queueBehind queue run) bytes .bench ≡ 255 → ⊥)
+    → ComesFrom queue (handled (queueBehind queue run) bytes .bench) (handled (queueBehind queue run) bytes .psn .0) run
 served-comes queue run bytes whole serve some =
-    let one = served-one (behind queue run) bytes (behind-queue run queue whole) serve some in
-    comes-from run queue whole (handled (behind queue run) bytes .bench) (handled (behind queue run) bytes .psn .0) (one .waited)
+    let one = served-one (queueBehind queue run) bytes (behind-queue run queue whole) serve some in
+    comes-from run queue whole (handled (queueBehind queue run) bytes .bench) (handled (queueBehind queue run) bytes .psn .0) (one .waited)
 
-empty-waits : (bench : ℕ) → waits emptyQueue bench ≡ false
+empty-waits : (bench : ℕ) → isWaiting emptyQueue bench ≡ false
 unfolding emptyQueue
 empty-waits zero = refl
 empty-waits (suc zero) = refl
@@ -125,14 +125,14 @@ empty-waits (suc (suc (suc zero))) = refl
 empty-waits (suc (suc (suc (suc bench)))) = refl
 
 -- FROM AN EMPTY QUEUE WHAT IS SERVED WAS SUBMITTED AND JUDGED
-pub served-submitted : (run : List (List ℕ)) (bytes : List ℕ) → requestOf bytes ≡ Serve → (handled (behind emptyQueue run) bytes .bench ≡ 255 → ⊥)
-    → SubmittedIn emptyQueue (handled (behind emptyQueue run) bytes .bench) (handled (behind emptyQueue run) bytes .psn .0) run
+pub served-submitted : (run : List (List ℕ)) (bytes : List ℕ) → requestOf bytes ≡ Serve → (handled (queueBehind emptyQueue run) bytes .bench ≡ 255 → ⊥)
+    → SubmittedIn emptyQueue (handled (queueBehind emptyQueue run) bytes .bench) (handled (queueBehind emptyQueue run) bytes .psn .0) run
 unfolding emptyQueue
 served-submitted run bytes serve some = by (served-comes emptyQueue run bytes refl serve some)
   where
-    by : ComesFrom emptyQueue (handled (behind emptyQueue run) bytes .bench) (handled (behind emptyQueue run) bytes .psn .0) run
-        → SubmittedIn emptyQueue (handled (behind emptyQueue run) bytes .bench) (handled (behind emptyQueue run) bytes .psn .0) run
-    by (the-start w) = absurd (false≢true (sym (empty-waits (handled (behind emptyQueue run) bytes .bench)) ∙ w .waiting))
+    by : ComesFrom emptyQueue (handled (queueBehind emptyQueue run) bytes .bench) (handled (queueBehind emptyQueue run) bytes .psn .0) run
+        → SubmittedIn emptyQueue (handled (queueBehind emptyQueue run) bytes .bench) (handled (queueBehind emptyQueue run) bytes .psn .0) run
+    by (the-start w) = absurd (false≢true (sym (empty-waits (handled (queueBehind emptyQueue run) bytes .bench)) ∙ w .waiting))
     by (a-submit s) = s
 
 -- ---- a served place takes orders again
@@ -141,8 +141,8 @@ nothing-left : (a b : List ℕ) → [] ≡ a ++ b → b ≡ []
 nothing-left [] b e = sym e
 nothing-left (x ∷ a) b e = absurd (omega (arith, ap (λ (l : List ℕ). length l) e))
 
-none-waits : (queue : Queue) (bench : ℕ) → waitingOf queue bench ≡ [] → waits queue bench ≡ false
-none-waits queue bench e = by (waits queue bench) e
+none-waits : (queue : Queue) (bench : ℕ) → waitingOf queue bench ≡ [] → isWaiting queue bench ≡ false
+none-waits queue bench e = by (isWaiting queue bench) e
   where
     by : (t : Bool) → cond t (orderOf queue bench .psn .0 ∷ []) [] ≡ [] → t ≡ false
     by true e = absurd (omega (arith, ap (λ (l : List ℕ). length l) e))
@@ -153,7 +153,7 @@ unfolding handled
 again queue bytes whole = still-queue queue whole (requestOf bytes)
 
 -- of a bench that is not waiting the PSN alone is judged
-answered-by : (queue : Queue) (bytes : List ℕ) (bench : ℕ) (psn : Psn) → requestOf bytes ≡ Submit bench psn → bench < 4 → waits queue bench ≡ false → handled queue bytes .answer ≡ judged (psn .0)
+answered-by : (queue : Queue) (bytes : List ℕ) (bench : ℕ) (psn : Psn) → requestOf bytes ≡ Submit bench psn → bench < 4 → isWaiting queue bench ≡ false → handled queue bytes .answer ≡ judged (psn .0)
 unfolding handled submitted
 answered-by queue bytes bench psn asks h free =
     ap (λ (r : Request). answeredTo queue r .answer) asks
@@ -164,7 +164,7 @@ answered-by queue bytes bench psn asks h free =
 pub takes-again : (queue : Queue) (bytes : List ℕ) → IsQueue queue → requestOf bytes ≡ Serve → (handled queue bytes .bench ≡ 255 → ⊥)
     → (run : List (List ℕ)) → acceptedIn (handled queue bytes .queue) (handled queue bytes .bench) run ≡ []
     → (submit : List ℕ) (psn : Psn) → requestOf submit ≡ Submit (handled queue bytes .bench) psn
-    → handled (behind (handled queue bytes .queue) run) submit .answer ≡ judged (psn .0)
+    → handled (queueBehind (handled queue bytes .queue) run) submit .answer ≡ judged (psn .0)
 takes-again queue bytes whole serve some run none submit psn asks =
     let next = handled queue bytes .queue in
     let bench = handled queue bytes .bench in
@@ -172,5 +172,5 @@ takes-again queue bytes whole serve some run none submit psn asks =
     let four : IsQueue next = again queue bytes whole in
     let start : waitingOf next bench ≡ [] = ap (λ (t : Bool). cond t (orderOf next bench .psn .0 ∷ []) []) (one .free) in
     let kept = sym (ap₂ (λ (l m : List ℕ). l ++ m) start none) ∙ conserved run next four bench (one .bench-is) in
-    let end = none-waits (behind next run) bench (nothing-left (servedIn next bench run) (waitingOf (behind next run) bench) kept) in
-    answered-by (behind next run) submit bench psn asks (one .bench-is) end
+    let end = none-waits (queueBehind next run) bench (nothing-left (servedIn next bench run) (waitingOf (queueBehind next run) bench) kept) in
+    answered-by (queueBehind next run) submit bench psn asks (one .bench-is) end

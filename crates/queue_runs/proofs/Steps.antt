@@ -18,7 +18,7 @@ use Rattle.order_queue.specs.declared.Queue.{Queue}
 use Rattle.order_queue.specs.declared.Request.{Request}
 use Rattle.order_queue.specs.declared.Request.the-variants.{Submit, Serve, Unknown}
 use Rattle.order_queue.specs.declared.Handled.{Handled}
-use Rattle.order_queue.specs.Queue.{noOrder, orderOf, waits, benchAt, quiet, withOrder, taken, noneWaiting, answeredTo}
+use Rattle.order_queue.specs.Queue.{noOrder, orderOf, isWaiting, benchAt, quiet, withOrder, orderTaken, noneWaiting, answeredTo}
 use Rattle.order_queue.specs.Promise.{RightSubmit}
 use Rattle.order_queue.proofs.Requests.{Does, refuses, stores, takes-one, finds-none, does}
 use Rattle.queue_runs.specs.Runs.{waitingOf, brings, takes}
@@ -79,7 +79,7 @@ module _ (queue : Queue) (whole : IsQueue queue) (bench : ℕ) (within : bench <
       after : waitingOf (answeredTo queue (Submit from psn) .queue) bench ≡ listed (getD (set (queue .orders) from stored) bench noOrder)
       after = ap (λ (x : Handled). waitingOf (x .queue) bench) e
 
-  keeps-served : (at : ℕ) → at < 4 → waits queue at ≡ true → answeredTo queue Serve ≡ taken queue at → Keeps queue bench Serve
+  keeps-served : (at : ℕ) → at < 4 → isWaiting queue at ≡ true → answeredTo queue Serve ≡ orderTaken queue at → Keeps queue bench Serve
   keeps-served at h waiting e =
       elim (ℕ-discrete bench at) [
         | yes same ↦

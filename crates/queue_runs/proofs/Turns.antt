@@ -17,10 +17,10 @@ use Rattle.order_queue.specs.declared.Request.{Request}
 use Rattle.order_queue.specs.declared.Request.the-variants.{Submit, Serve, Unknown}
 use Rattle.order_queue.specs.declared.Handled.{Handled}
 use Rattle.order_queue.specs.Records.{requestOf}
-use Rattle.order_queue.specs.Queue.{noOrder, orderOf, waits, beginsAt, benchAt, waitsAt, quiet, withOrder, taken, answeredTo, handled}
+use Rattle.order_queue.specs.Queue.{noOrder, orderOf, isWaiting, beginsAt, benchAt, waitsAt, quiet, withOrder, orderTaken, answeredTo, handled}
 use Rattle.order_queue.proofs.Requests.{Does, refuses, stores, takes-one, finds-none, does}
-use Rattle.queue_runs.specs.Runs.{behind, servesOf, serves}
-use Rattle.queue_runs.specs.Promise.{IsQueue, Waits, TakenWithin}
+use Rattle.queue_runs.specs.Runs.{queueBehind, servesOf, serveCount}
+use Rattle.queue_runs.specs.Promise.{IsQueue, HasOrder, TakenWithin}
 use Rattle.queue_runs.proofs.Steps.{set-here, set-other, still-queue}
 
 -- ---- going round
@@ -45,14 +45,14 @@ nearer s k d h = round ((s + k) % 4 + 1) (d - suc k) ∙ ap (λ (n : ℕ). n % 4
 
 -- ---- an order that stays
 
-stays : (queue : Queue) (next : Queue) (bench psn : ℕ) → orderOf next bench ≡ orderOf queue bench → Waits queue bench psn → Waits next bench psn
+stays : (queue : Queue) (next : Queue) (bench psn : ℕ) → orderOf next bench ≡ orderOf queue bench → HasOrder queue bench psn → HasOrder next bench psn
 stays queue next bench psn e w = record { waiting = ap (λ (o : Order). o .waiting) e ∙ w .waiting; own-psn = ap (λ (o : Order). o .psn .0) e ∙ w .own-psn }
 
 -- ---- records later in a run
 
 module _ (queue : Queue) (bytes : List ℕ) {m bench psn : ℕ} {run : List (List ℕ)} where
   pub later : TakenWithin m (handled queue bytes .queue) bench psn run → TakenWithin (servesOf (requestOf bytes) + m) queue bench psn (bytes ∷ run)
-  unfolding behind serves
+  unfolding queueBehind serveCount
   later t =
       record {
         before = bytes ∷ t .before;
@@ -86,51 +86,51 @@ no-serve Unknown other = refl
 -- ---- in its turn
 
 -- the queue behind a request, the bench still waiting, and as many places on as a serve leaves
-module _ (queue : Queue) (whole : IsQueue queue) (bench psn d : ℕ) (near : d < 4) (on : benchAt (queue .turn) d ≡ bench) (w : Waits queue bench psn) where
+module _ (queue : Queue) (whole : IsQueue queue) (bench psn d : ℕ) (near : d < 4) (on : benchAt (queue .turn) d ≡ bench) (w : HasOrder queue bench psn) where
   waits-there : waitsAt queue d ≡ true
-  waits-there = ap (waits queue) on ∙ w .waiting
+  waits-there = ap (isWaiting queue) on ∙ w .waiting
 
   -- an order of another bench is stored
-  beside : (from : ℕ) (own : Psn) → waits queue from ≡ false → Waits (withOrder queue from own) bench psn
+  beside : (from : ℕ) (own : Psn) → isWaiting queue from ≡ false → HasOrder (withOrder queue from own) bench psn
   beside from own free =
       stays queue (withOrder queue from own) bench psn
-      (set-other queue whole from (record { waiting = true; psn = own }) bench (λ e. false≢true (sym free ∙ sym (ap (waits queue) e) ∙ w .waiting))) w
+      (set-other queue whole from (record { waiting = true; psn = own }) bench (λ e. false≢true (sym free ∙ sym (ap (isWaiting queue) e) ∙ w .waiting))) w
 
   -- the order of a nearer bench is taken
-  passed-by : (k : ℕ) → k < d → Waits (taken queue (benchAt (queue .turn) k) .queue) bench psn
+  passed-by : (k : ℕ) → k < d → HasOrder (orderTaken queue (benchAt (queue .turn) k) .queue) bench psn
   passed-by k h =
-      stays queue (taken queue (benchAt (queue .turn) k) .queue) bench psn
+      stays queue (orderTaken queue (benchAt (queue .turn) k) .queue) bench psn
       (set-other queue whole (benchAt (queue .turn) k) noOrder bench (λ e. other-bench (beginsAt (queue .turn)) k d h near (on ∙ e))) w
 
-  then-on : (k : ℕ) → k < d → benchAt (taken queue (benchAt (queue .turn) k) .queue .turn) (d - suc k) ≡ bench
+  then-on : (k : ℕ) → k < d → benchAt (orderTaken queue (benchAt (queue .turn) k) .queue .turn) (d - suc k) ≡ bench
   then-on k h =
       let at = benchAt (queue .turn) k in
       ap (λ (b : ℕ). (b + (d - suc k)) % 4) (ap (λ (t : Bool). cond t ((at + 1) % 4) 0) (lt-ltb ((at + 1) % 4) 4 (omega arith))) ∙ nearer (beginsAt (queue .turn)) k d h ∙ on
 
   -- what is known of the rest of a run
   abbrev Later : List (List ℕ) → Type 0
-  Later run = (next : Queue) → IsQueue next → (e : ℕ) → e < 4 → benchAt (next .turn) e ≡ bench → Waits next bench psn → suc e ≤ serves run → TakenWithin (suc e) next bench psn run
+  Later run = (next : Queue) → IsQueue next → (e : ℕ) → e < 4 → benchAt (next .turn) e ≡ bench → HasOrder next bench psn → suc e ≤ serveCount run → TakenWithin (suc e) next bench psn run
 
-  module _ (bytes : List ℕ) (run : List (List ℕ)) (rest : Later run) (many : suc d ≤ serves (bytes ∷ run)) where
+  module _ (bytes : List ℕ) (run : List (List ℕ)) (rest : Later run) (many : suc d ≤ serveCount (bytes ∷ run)) where
     -- at this record, whose request leaves `next`
-    on-with : (next : Queue) (e : ℕ) → answeredTo queue (requestOf bytes) .queue ≡ next → servesOf (requestOf bytes) + e ≤ d → suc e ≤ serves run → benchAt (next .turn) e ≡ bench
-        → Waits next bench psn → TakenWithin (suc d) queue bench psn (bytes ∷ run)
+    on-with : (next : Queue) (e : ℕ) → answeredTo queue (requestOf bytes) .queue ≡ next → servesOf (requestOf bytes) + e ≤ d → suc e ≤ serveCount run → benchAt (next .turn) e ≡ bench
+        → HasOrder next bench psn → TakenWithin (suc d) queue bench psn (bytes ∷ run)
     unfolding handled
     on-with next e is h more there waiting =
         let found = rest next (ap (λ (q : Queue). length (q .orders)) (sym is) ∙ still-queue queue whole (requestOf bytes)) e (omega (arith, h, near)) there waiting more in
         sooner (omega (arith, h)) (later queue bytes (subst (λ (q : Queue). TakenWithin (suc e) q bench psn run) (sym is) found))
 
     -- it is no serve, and the turn stays
-    on-past : (next : Queue) → (requestOf bytes ≡ Serve → ⊥) → answeredTo queue (requestOf bytes) .queue ≡ next → next .turn ≡ queue .turn → Waits next bench psn
+    on-past : (next : Queue) → (requestOf bytes ≡ Serve → ⊥) → answeredTo queue (requestOf bytes) .queue ≡ next → next .turn ≡ queue .turn → HasOrder next bench psn
         → TakenWithin (suc d) queue bench psn (bytes ∷ run)
-    unfolding serves
+    unfolding serveCount
     on-past next other is same waiting =
         let none = no-serve (requestOf bytes) other in
         on-with next d is (omega (arith, none)) (omega (arith, none, many)) (ap (λ (t : ℕ). benchAt t d) same ∙ on) waiting
 
     -- it is a serve of the bench k places on
-    serves-here : (k : ℕ) → k ≡ d → requestOf bytes ≡ Serve → answeredTo queue (requestOf bytes) ≡ taken queue (benchAt (queue .turn) k) → TakenWithin (suc d) queue bench psn (bytes ∷ run)
-    unfolding handled behind serves
+    serves-here : (k : ℕ) → k ≡ d → requestOf bytes ≡ Serve → answeredTo queue (requestOf bytes) ≡ orderTaken queue (benchAt (queue .turn) k) → TakenWithin (suc d) queue bench psn (bytes ∷ run)
+    unfolding handled queueBehind serveCount
     serves-here k e a is =
         let at : benchAt (queue .turn) k ≡ bench = ap (benchAt (queue .turn)) e ∙ on in
         record {
@@ -144,11 +144,11 @@ module _ (queue : Queue) (whole : IsQueue queue) (bench psn d : ℕ) (near : d <
           own-psn = ap (λ (x : Handled). x .psn .0) is ∙ ap (λ (b : ℕ). orderOf queue b .psn .0) at ∙ w .own-psn;
         }
 
-    serves-nearer : (k : ℕ) → k < d → requestOf bytes ≡ Serve → answeredTo queue (requestOf bytes) ≡ taken queue (benchAt (queue .turn) k) → TakenWithin (suc d) queue bench psn (bytes ∷ run)
-    unfolding serves
+    serves-nearer : (k : ℕ) → k < d → requestOf bytes ≡ Serve → answeredTo queue (requestOf bytes) ≡ orderTaken queue (benchAt (queue .turn) k) → TakenWithin (suc d) queue bench psn (bytes ∷ run)
+    unfolding serveCount
     serves-nearer k h a is =
         let one = ap servesOf a in
-        on-with (taken queue (benchAt (queue .turn) k) .queue) (d - suc k) (ap (λ (x : Handled). x .queue) is) (omega (arith, one, h)) (omega (arith, one, h, many)) (then-on k h) (passed-by k h)
+        on-with (orderTaken queue (benchAt (queue .turn) k) .queue) (d - suc k) (ap (λ (x : Handled). x .queue) is) (omega (arith, one, h)) (omega (arith, one, h, many)) (then-on k h) (passed-by k h)
 
     one-record : TakenWithin (suc d) queue bench psn (bytes ∷ run)
     one-record = by (does queue (requestOf bytes))
@@ -169,9 +169,9 @@ module _ (queue : Queue) (whole : IsQueue queue) (bench psn d : ℕ) (near : d <
         by (finds-none e idle is) = absurd (false≢true (sym (idle d near) ∙ waits-there))
 
 -- WHO STANDS d BENCHES ON FROM THE TURN WAITS FOR AT MOST d OTHER SERVES
-pub in-turn : (run : List (List ℕ)) (queue : Queue) → IsQueue queue → (bench psn d : ℕ) → d < 4 → benchAt (queue .turn) d ≡ bench → Waits queue bench psn → suc d ≤ serves run
+pub in-turn : (run : List (List ℕ)) (queue : Queue) → IsQueue queue → (bench psn d : ℕ) → d < 4 → benchAt (queue .turn) d ≡ bench → HasOrder queue bench psn → suc d ≤ serveCount run
     → TakenWithin (suc d) queue bench psn run
-unfolding serves
+unfolding serveCount
 in-turn [] queue whole bench psn d near on w many = absurd (omega (arith, many))
 in-turn (bytes ∷ run) queue whole bench psn d near on w many =
     one-record queue whole bench psn d near on w bytes run (λ next four e small there waiting more. in-turn run next four bench psn e small there waiting more) many

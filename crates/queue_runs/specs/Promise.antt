@@ -10,16 +10,16 @@ use Rattle.address.specs.Judged.{judged}
 use Rattle.order_queue.specs.declared.Queue.{Queue}
 use Rattle.order_queue.specs.declared.Request.the-variants.{Submit, Serve}
 use Rattle.order_queue.specs.Records.{requestOf}
-use Rattle.order_queue.specs.Queue.{orderOf, waits, handled}
-use Rattle.queue_runs.specs.Runs.{behind, serves, waitingOf, acceptedIn, servedIn}
+use Rattle.order_queue.specs.Queue.{orderOf, isWaiting, handled}
+use Rattle.queue_runs.specs.Runs.{queueBehind, serveCount, waitingOf, acceptedIn, servedIn}
 
 -- four orders and any turn
 abbrev pub IsQueue : Queue → Type 0
 IsQueue queue = length (queue .orders) ≡ 4
 
 -- a bench has a waiting order, with this PSN
-pub record Waits (queue : Queue) (bench psn : ℕ) : Type 0 where
-  pub waiting : waits queue bench ≡ true
+pub record HasOrder (queue : Queue) (bench psn : ℕ) : Type 0 where
+  pub waiting : isWaiting queue bench ≡ true
   pub own-psn : orderOf queue bench .psn .0 ≡ psn
 
 -- ---- a waiting order is taken within four serves
@@ -30,18 +30,18 @@ pub record TakenWithin (m : ℕ) (queue : Queue) (bench psn : ℕ) (run : List (
   pub here : List ℕ
   pub rest : List (List ℕ)
   pub whole : run ≡ before ++ (here ∷ rest)
-  pub few : serves before < m
+  pub few : serveCount before < m
   pub a-serve : requestOf here ≡ Serve
-  pub own-bench : handled (behind queue before) here .bench ≡ bench
-  pub own-psn : handled (behind queue before) here .psn .0 ≡ psn
+  pub own-bench : handled (queueBehind queue before) here .bench ≡ bench
+  pub own-psn : handled (queueBehind queue before) here .psn .0 ≡ psn
 
 -- whatever the queue, and whatever the records of the run
-abbrev pub Within : ℕ → Type 0
-Within m = (queue : Queue) → IsQueue queue → (bench psn : ℕ) → bench < 4 → Waits queue bench psn → (run : List (List ℕ)) → m ≤ serves run → TakenWithin m queue bench psn run
+abbrev pub WaitsAtMost : ℕ → Type 0
+WaitsAtMost m = (queue : Queue) → IsQueue queue → (bench psn : ℕ) → bench < 4 → HasOrder queue bench psn → (run : List (List ℕ)) → m ≤ serveCount run → TakenWithin m queue bench psn run
 
 -- the bound
-abbrev pub soonest : ℕ
-soonest = 4
+abbrev pub longestWait : ℕ
+longestWait = 4
 
 -- ---- what is served
 
@@ -52,16 +52,16 @@ pub record SubmittedIn (queue : Queue) (bench psn : ℕ) (run : List (List ℕ))
   pub rest : List (List ℕ)
   pub whole : run ≡ before ++ (here ∷ rest)
   pub a-submit : requestOf here ≡ Submit bench (record { 0 = psn })
-  pub accepted : handled (behind queue before) here .answer ≡ Done
+  pub accepted : handled (queueBehind queue before) here .answer ≡ Done
   pub is-judged : judged psn ≡ Done
 
 -- where an order comes from: it waited at the start, or was submitted in the run
 pub data ComesFrom (queue : Queue) (bench psn : ℕ) (run : List (List ℕ)) : Type 0 where
-  the-start : Waits queue bench psn → ComesFrom queue bench psn run
+  the-start : HasOrder queue bench psn → ComesFrom queue bench psn run
   a-submit : SubmittedIn queue bench psn run → ComesFrom queue bench psn run
 
 -- ---- no order is lost or served twice
 
 -- the orders of a bench that waited and that were accepted are those that were served and that wait, in this order
 abbrev pub Conserves : Queue → ℕ → List (List ℕ) → Type 0
-Conserves queue bench run = waitingOf queue bench ++ acceptedIn queue bench run ≡ servedIn queue bench run ++ waitingOf (behind queue run) bench
+Conserves queue bench run = waitingOf queue bench ++ acceptedIn queue bench run ≡ servedIn queue bench run ++ waitingOf (queueBehind queue run) bench

@@ -8,12 +8,12 @@ use Rattle.order_queue.specs.declared.Queue.{Queue}
 use Rattle.order_queue.specs.declared.Request.{Request}
 use Rattle.order_queue.specs.declared.Request.the-variants.{Submit, Serve, Unknown}
 use Rattle.order_queue.specs.Records.{requestOf}
-use Rattle.order_queue.specs.Queue.{orderOf, waits, answeredTo, handled}
+use Rattle.order_queue.specs.Queue.{orderOf, isWaiting, answeredTo, handled}
 
 -- the queue behind a run
-unfoldable pub behind : Queue → List (List ℕ) → Queue
-behind queue [] = queue
-behind queue (bytes ∷ run) = behind (handled queue bytes .queue) run
+unfoldable pub queueBehind : Queue → List (List ℕ) → Queue
+queueBehind queue [] = queue
+queueBehind queue (bytes ∷ run) = queueBehind (handled queue bytes .queue) run
 
 -- ---- how many serves there are
 
@@ -22,15 +22,15 @@ servesOf (Submit bench psn) = 0
 servesOf Serve = 1
 servesOf Unknown = 0
 
-unfoldable pub serves : List (List ℕ) → ℕ
-serves [] = 0
-serves (bytes ∷ run) = servesOf (requestOf bytes) + serves run
+unfoldable pub serveCount : List (List ℕ) → ℕ
+serveCount [] = 0
+serveCount (bytes ∷ run) = servesOf (requestOf bytes) + serveCount run
 
 -- ---- the orders of a bench, by their PSNs
 
 -- the one that waits, if any does
 abbrev pub waitingOf : Queue → ℕ → List ℕ
-waitingOf queue bench = cond (waits queue bench) (orderOf queue bench .psn .0 ∷ []) []
+waitingOf queue bench = cond (isWaiting queue bench) (orderOf queue bench .psn .0 ∷ []) []
 
 -- what a request brings: the order of a submit that is accepted
 abbrev pub brings : Queue → ℕ → Request → List ℕ

@@ -1,5 +1,5 @@
 -- `take` meets its contract: the order that was there (Serves).
-use Rattle.order_queue.proofs.Serves.{takes}
+use Rattle.order_queue.proofs.Serves.{taken-told}
 use borrow.Author.Needs.{needs}
 use Rattle.order_queue.proofs.take.Statement.{statement}
 use Rattle.order_queue.proofs.take.Tie as tie
@@ -26,7 +26,7 @@ returns : tie.Need-returns
 returns c =
     let told = c .before in
     let start = told .before .before in
-    takes (start .args .queue) (start .args .bench) (told .order-of .ensures)
+    taken-told (start .args .queue) (start .args .bench) (told .order-of .ensures)
 
 pub take-spec : {M : Type 1} → statement M
 take-spec =
