@@ -3,7 +3,6 @@ use mathlib.Core.Path.{_≡_, ap, _∙_}
 use Prim.Native.Nat.{ℕ}
 use Rattle.answer.specs.Answer.{numberOf, placeOf}
 use Rattle.order_queue.specs.declared.Handled.{Handled}
-use Rattle.export_queue.specs.declared.HandledNumbers.{HandledNumbers}
 use Rattle.export_queue.specs.Exported.{handledNumbers}
 
 -- h is what was handled, as the code has it

@@ -1,15 +1,14 @@
 -- What a record asks for, case by case. Assumes nothing.
-use mathlib.Core.Path.{_≡_, refl, sym, ap, _∙_}
-use mathlib.Core.Bool.{Bool, true, false, cond, _&&_}
+use mathlib.Core.Path.{_≡_, sym, _∙_}
+use mathlib.Core.Bool.{true, false}
 use mathlib.Core.List.{List}
 use Prim.Native.Nat.{ℕ}
 use native.Mathlib.Omega.{arith}
 use borrow.Author.Tests.{eq-eqb, ne-eqb}
 use lib.Dec.{eqb}
 use lib.ListN.{length, getD}
-use Rattle.laws.proofs.Booleans.{and-true, and-false}
+use Rattle.laws.proofs.Booleans.{and-false}
 use Rattle.big_endian.specs.Words.{wordAt}
-use Rattle.order_queue.specs.declared.Request.{Request}
 use Rattle.order_queue.specs.declared.Request.the-variants.{Submit, Serve, Unknown}
 use Rattle.order_queue.specs.Records.{requestOf}
 
@@ -40,3 +39,9 @@ module _ (bytes : List ℕ) {kind : ℕ} (hk : kind ≡ getD bytes 0 0) where
   pub no-kind : (kind ≡ 1 → ⊥) → (kind ≡ 2 → ⊥) → Unknown ≡ requestOf bytes
   unfolding requestOf
   no-kind h i = rw (isnt h, isnt i)
+
+-- a record of neither one byte nor six
+pub other-length : (bytes : List ℕ) → (length bytes ≡ 1 → ⊥) → (length bytes ≡ 6 → ⊥) → Unknown ≡ requestOf bytes
+unfolding requestOf
+other-length bytes one six =
+    rw (and-false (eqb (getD bytes 0 0) 1) (eqb (length bytes) 6) (ne-eqb (length bytes) 6 six), and-false (eqb (getD bytes 0 0) 2) (eqb (length bytes) 1) (ne-eqb (length bytes) 1 one))

@@ -15,7 +15,6 @@ use Rattle.address.specs.declared.Psn.{Psn}
 use Rattle.order_queue.specs.declared.Queue.{Queue}
 use Rattle.order_queue.specs.declared.Request.{Request}
 use Rattle.order_queue.specs.declared.Request.the-variants.{Submit, Serve, Unknown}
-use Rattle.order_queue.specs.declared.Handled.{Handled}
 use Rattle.order_queue.specs.Queue.{benchAt, waitsAt, quiet, submitAnswer, withOrder, submitted, orderTaken, noneWaiting, answeredTo}
 use Rattle.order_queue.specs.Promise.{RightSubmit}
 use Rattle.order_queue.proofs.Submits.{submit-right}

@@ -1,10 +1,9 @@
 -- A serve: where it begins, which benches it passes, and what it leaves. Assumes nothing.
-use mathlib.Core.Path.{_≡_, refl, sym, ap, _∙_}
+use mathlib.Core.Path.{_≡_, sym, ap, _∙_}
 use mathlib.Core.Bool.{Bool, true, false, cond}
 use Prim.Native.Nat.{ℕ, _+_, _%_, _<_, _≤_}
 use native.Mathlib.Omega.{arith}
 use borrow.Author.Tests.{lt-ltb, le-ltb}
-use lib.Dec.{ltb}
 use lib.ListN.{set}
 use Rattle.laws.specs.First.{first}
 use Rattle.laws.proofs.First.{Passed, passed-none, passed-more, first-here, first-past}

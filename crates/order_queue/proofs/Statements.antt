@@ -13,14 +13,13 @@ use Rattle.laws.specs.Bytes.{Bytes}
 use Rattle.laws.specs.First.{first}
 use Rattle.laws.proofs.Booleans.{and-left, and-right}
 use Rattle.answer.specs.declared.Answer.{Answer}
-use Rattle.answer.specs.declared.Answer.the-variants.{Done, NoMultiple, NoZone, WrongRecord, NoBench, BenchWaiting}
+use Rattle.answer.specs.declared.Answer.the-variants.{Done, NoMultiple, NoZone, NoBench, BenchWaiting}
 use Rattle.answer.specs.Answer.{placeOf, isDone, andThen}
 use Rattle.address.specs.declared.Psn.{Psn}
 use Rattle.address.specs.Zones.{inDataZone, firstOfCluster}
 use Rattle.address.specs.Judged.{judged}
 use Rattle.big_endian.specs.Words.{fourBytes, wordAt}
 use Rattle.big_endian.proofs.Words.{word-back, four-there}
-use Rattle.order_queue.specs.declared.Order.{Order}
 use Rattle.order_queue.specs.declared.Queue.{Queue}
 use Rattle.order_queue.specs.declared.Request.{Request}
 use Rattle.order_queue.specs.declared.Request.the-variants.{Submit, Serve, Unknown}

@@ -2,13 +2,12 @@
 use mathlib.Core.Path.{_≡_, refl, sym, ap, _∙_}
 use mathlib.Core.Bool.{Bool, true, false, cond}
 use Prim.Native.Nat.{ℕ, _<_, _≤_}
-use native.Mathlib.Omega.{arith}
 use borrow.Author.Tests.{lt-ltb, le-ltb, ltb-true}
 use lib.Dec.{ltb}
 use Rattle.answer.specs.declared.Answer.{Answer}
 use Rattle.answer.specs.declared.Answer.the-variants.{Done, NoBench, BenchWaiting}
 use Rattle.answer.specs.Answer.{isDone, andThen}
-use Rattle.answer.proofs.Tests.{done-is, done-not, then-next, then-here, then-both, then-done}
+use Rattle.answer.proofs.Tests.{done-is, done-not, then-both, then-done}
 use Rattle.address.specs.declared.Psn.{Psn}
 use Rattle.address.specs.Judged.{judged}
 use Rattle.order_queue.specs.declared.Order.{Order}

@@ -6,8 +6,7 @@ use Prim.Native.Nat.{ℕ, suc, _+_, _*_, _/_, _%_, _<_, _≤_}
 use native.Mathlib.Numerals.{add-one}
 use native.Mathlib.Decide.{decLt}
 use native.Mathlib.Omega.{arith}
-use borrow.Author.Tests.{ne-eqb, lt-ltb, le-ltb, ltb-true, le-leb, lt-leb}
-use lib.Dec.{eqb}
+use borrow.Author.Tests.{lt-ltb, le-ltb, ltb-true, le-leb, lt-leb}
 use lib.ListN.{length, getD, take, drop, set, length-set, drop-of-length-le}
 use lib.Seq.{drop-cons, getD-take, length-take-le, take-suc-set}
 use Rattle.laws.proofs.Booleans.{and-left, and-right, and-false}
@@ -15,9 +14,8 @@ use Rattle.answer.specs.declared.Answer.the-variants.{WrongRecord}
 use Rattle.notation.specs.Psn.{digitOf}
 use Rattle.order_queue.specs.declared.Queue.{Queue}
 use Rattle.order_queue.specs.declared.Handled.{Handled}
-use Rattle.order_queue.specs.declared.Request.the-variants.{Unknown}
-use Rattle.order_queue.specs.Records.{requestOf}
 use Rattle.order_queue.specs.Queue.{quiet, answeredTo, handled}
+use Rattle.order_queue.proofs.Records.{other-length}
 use Rattle.queue_lines.specs.declared.RecordLine.{RecordLine}
 use Rattle.queue_lines.specs.declared.steps.LineRecord.{LineRecord}
 use Rattle.queue_lines.specs.Lines.{isDigit, isRecordText, pairBytes, recordOn}
@@ -191,15 +189,12 @@ module _ {text : List ℕ} {size k : ℕ} {bytes : List ℕ} (p : PairsRead text
 
 -- ---- 26
 
-other-length : (queue : Queue) (bytes : List ℕ) → (length bytes ≡ 1 → ⊥) → (length bytes ≡ 6 → ⊥) → handled queue bytes ≡ quiet queue WrongRecord
-unfolding handled requestOf
-other-length queue bytes h i = ap (answeredTo queue) unknown
-  where
-    unknown : requestOf bytes ≡ Unknown
-    unknown = rw (and-false (eqb (getD bytes 0 0) 1) (eqb (length bytes) 6) (ne-eqb (length bytes) 6 i), and-false (eqb (getD bytes 0 0) 2) (eqb (length bytes) 1) (ne-eqb (length bytes) 1 h))
+size-26 : (queue : Queue) (bytes : List ℕ) → (length bytes ≡ 1 → ⊥) → (length bytes ≡ 6 → ⊥) → handled queue bytes ≡ quiet queue WrongRecord
+unfolding handled
+size-26 queue bytes h i = ap (answeredTo queue) (sym (other-length bytes h i))
 
 no-bytes : (queue : Queue) → handled queue [] ≡ quiet queue WrongRecord
-no-bytes queue = other-length queue [] (λ e. omega (arith, e)) (λ e. omega (arith, e))
+no-bytes queue = size-26 queue [] (λ e. omega (arith, e)) (λ e. omega (arith, e))
 
 pair-count : (line : List ℕ) → isRecordText line ≡ true → 2 * length (pairBytes line) ≡ length line
 unfolding isRecordText pairBytes
@@ -217,7 +212,7 @@ module _ (queue : Queue) (line : List ℕ) where
   pub text-26 : isRecordText line ≡ true → (length line ≡ 2 → ⊥) → (length line ≡ 12 → ⊥) → handled queue (recordOn line) ≡ quiet queue WrongRecord
   text-26 e h i =
       let count = pair-count line e in
-      ap (handled queue) (text-record line e) ∙ other-length queue (pairBytes line) (λ z. h (omega (arith, z, count))) (λ z. i (omega (arith, z, count)))
+      ap (handled queue) (text-record line e) ∙ size-26 queue (pairBytes line) (λ z. h (omega (arith, z, count))) (λ z. i (omega (arith, z, count)))
 
   long-26 : 12 < length line → handled queue (recordOn line) ≡ quiet queue WrongRecord
   long-26 h = by (isRecordText line) refl

@@ -18,17 +18,17 @@ use Rattle.notation.specs.Psn.{psnOf}
 use Rattle.notation.proofs.Statements.{printed-back}
 use Rattle.texts.specs.Text.{the}
 use Rattle.texts.specs.Numbers.{decimal, hexadecimal}
+use Rattle.texts.proofs.Numbers.{length-hexadecimal}
 use Rattle.texts.proofs.Distinct.{Digits, no-digit, a-digit, decimal-digits, split, decimal-same}
 use Rattle.report.proofs.Statements.{number-small, same-answer}
 use Rattle.order_queue.specs.declared.Handled.{Handled}
 use Rattle.queue_report.specs.Said.{handledWords, handledText, isLine}
-use Rattle.queue_report.proofs.Words.{length-hexadecimal}
 
 -- ---- answer, bench and PSN
 
 -- number, place and bench stand before the first three spaces
-abbrev placeIn : Handled → ℕ
-placeIn h = placeOf (h .answer)
+abbrev ownPlace : Handled → ℕ
+ownPlace h = placeOf (h .answer)
 
 abbrev fromPsn : Handled → List ℕ
 fromPsn h = hexadecimal (h .psn .0) ++ handledWords (h .answer)
@@ -37,7 +37,7 @@ abbrev fromBench : Handled → List ℕ
 fromBench h = decimal (h .bench) ++ (32 ∷ fromPsn h)
 
 abbrev fromPlace : Handled → List ℕ
-fromPlace h = decimal (placeIn h) ++ (32 ∷ fromBench h)
+fromPlace h = decimal (ownPlace h) ++ (32 ∷ fromBench h)
 
 from-number : (h : Handled) → decimal (numberOf (h .answer)) ++ (32 ∷ fromPlace h) ≡ handledText h
 unfolding handledText
@@ -64,11 +64,11 @@ pub record Printable (h : Handled) : Type 0 where
 pub handled-differ : (h k : Handled) → Printable h → Printable k → handledText h ≡ handledText k → (h .answer ≡ k .answer) × (h .bench ≡ k .bench) × (h .psn .0 ≡ k .psn .0)
 handled-differ h k hh hk e =
     let one = split (decimal-digits 20 (numberOf (h .answer))) (decimal-digits 20 (numberOf (k .answer))) 32 32 (fromPlace h) (fromPlace k) (omega arith) (omega arith) (from-number h ∙ e ∙ sym (from-number k)) in
-    let two = split (decimal-digits 20 (placeIn h)) (decimal-digits 20 (placeIn k)) 32 32 (fromBench h) (fromBench k) (omega arith) (omega arith) (one .1) in
+    let two = split (decimal-digits 20 (ownPlace h)) (decimal-digits 20 (ownPlace k)) 32 32 (fromBench h) (fromBench k) (omega arith) (omega arith) (one .1) in
     let three = split (decimal-digits 20 (h .bench)) (decimal-digits 20 (k .bench)) 32 32 (fromPsn h) (fromPsn k) (omega arith) (omega arith) (two .1) in (
       same-answer (h .answer) (k .answer)
           (decimal-same 20 (numberOf (h .answer)) (numberOf (k .answer)) (number-small (h .answer)) (number-small (k .answer)) (one .0))
-          (decimal-same 20 (placeIn h) (placeIn k) (hh .place-small) (hk .place-small) (two .0)),
+          (decimal-same 20 (ownPlace h) (ownPlace k) (hh .place-small) (hk .place-small) (two .0)),
       decimal-same 20 (h .bench) (k .bench) (hh .bench-small) (hk .bench-small) (three .0),
       hexadecimal-same (h .psn .0) (k .psn .0) (hh .psn-small) (hk .psn-small) (sym (eight-first h) ∙ ap (take 8) (three .1) ∙ eight-first k),
     )
@@ -125,5 +125,5 @@ unfolding isLine hexadecimal
 handled-line h =
     let psn : isLine (fromPsn h) ≡ true = line-behind-psn 8 (h .psn .0) (handledWords (h .answer)) (words-line (h .answer)) in
     let bench : isLine (fromBench h) ≡ true = line-behind (32 ∷ fromPsn h) (decimal-digits 20 (h .bench)) psn in
-    let place : isLine (fromPlace h) ≡ true = line-behind (32 ∷ fromBench h) (decimal-digits 20 (placeIn h)) bench in
+    let place : isLine (fromPlace h) ≡ true = line-behind (32 ∷ fromBench h) (decimal-digits 20 (ownPlace h)) bench in
     sym (ap isLine (from-number h)) ∙ line-behind (32 ∷ fromPlace h) (decimal-digits 20 (numberOf (h .answer))) place

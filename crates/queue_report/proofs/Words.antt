@@ -1,5 +1,5 @@
 -- The line of a record that was handled: how long it is, and how it is put together. Assumes nothing.
-use mathlib.Core.Path.{_≡_, refl, sym, ap, ap₂, _∙_}
+use mathlib.Core.Path.{_≡_, sym, ap, ap₂, _∙_}
 use mathlib.Core.Bool.{Bool, true, false, cond}
 use mathlib.Core.List.{_++_, append-assoc}
 use Prim.Native.Nat.{ℕ, _≤_}
@@ -11,7 +11,7 @@ use Rattle.texts.specs.declared.Text.{Text}
 use Rattle.texts.specs.Text.{the, textOf, blankText, added}
 use Rattle.texts.specs.Numbers.{decimal, hexadecimal}
 use Rattle.texts.proofs.Texts.{added-two, added-three, from-blank}
-use Rattle.texts.proofs.Numbers.{decimal-short}
+use Rattle.texts.proofs.Numbers.{decimal-short, length-hexadecimal}
 use Rattle.report.specs.Words.{meaning}
 use Rattle.report.proofs.Words.{meaning-short}
 use Rattle.order_queue.specs.declared.Handled.{Handled}
@@ -37,10 +37,6 @@ words-short a = by (isDone a)
     by : (d : Bool) → length (cond d (the "\n") (the " " ++ meaning a)) ≤ 67
     by true = omega arith
     by false = omega (arith, meaning-short a)
-
-pub length-hexadecimal : (n : ℕ) → length (hexadecimal n) ≡ 8
-unfolding hexadecimal
-length-hexadecimal n = refl
 
 pub handled-short : (h : Handled) → length (handledText h) ≤ 256
 unfolding handledText

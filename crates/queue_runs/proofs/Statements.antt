@@ -1,8 +1,8 @@
 -- What is promised of runs of records. Assumes nothing.
-use mathlib.Core.Path.{_≡_, refl, sym, ap, ap₂, subst, _∙_}
+use mathlib.Core.Path.{_≡_, refl, sym, ap, ap₂, _∙_}
 use mathlib.Core.Bool.{Bool, true, false, cond, false≢true}
 use mathlib.Core.List.{List, [], _∷_, _++_, append-nil, append-assoc}
-use Prim.Native.Nat.{ℕ, zero, suc, _+_, _-_, _%_, _<_, _≤_}
+use Prim.Native.Nat.{ℕ, zero, suc, _+_, _-_, _<_, _≤_}
 use native.Mathlib.Decide.{decLt}
 use native.Mathlib.Omega.{arith}
 use lib.ListN.{length}
@@ -19,8 +19,8 @@ use Rattle.order_queue.specs.Records.{requestOf}
 use Rattle.order_queue.specs.Queue.{noOrder, emptyQueue, orderOf, isWaiting, beginsAt, benchAt, benchAnswer, waitingAnswer, submitted, answeredTo, handled}
 use Rattle.order_queue.proofs.Submits.{bench-right, not-waiting}
 use Rattle.order_queue.proofs.Requests.{Does, refuses, stores, takes-one, finds-none, does}
-use Rattle.queue_runs.specs.Runs.{queueBehind, servesOf, serveCount, waitingOf, brings, takes, acceptedIn, servedIn}
-use Rattle.queue_runs.specs.Promise.{IsQueue, HasOrder, TakenWithin, WaitsAtMost, longestWait, SubmittedIn, ComesFrom, the-start, a-submit, Conserves}
+use Rattle.queue_runs.specs.Runs.{queueBehind, servesOf, waitingOf, brings, takes, acceptedIn, servedIn}
+use Rattle.queue_runs.specs.Promise.{IsQueue, HasOrder, WaitsAtMost, longestWait, SubmittedIn, ComesFrom, the-start, a-submit, Conserves}
 use Rattle.queue_runs.proofs.Steps.{set-here, keeps, still-queue}
 use Rattle.queue_runs.proofs.Turns.{begins-within, sooner, in-turn}
 use Rattle.queue_runs.proofs.Origins.{comes-from}

@@ -1,15 +1,13 @@
 -- A waiting order is taken in its turn: d benches on from the turn, after at most d other serves. Assumes nothing.
 use mathlib.Core.Path.{_≡_, refl, sym, ap, subst, _∙_}
 use mathlib.Core.Bool.{Bool, true, false, cond, false≢true}
-use mathlib.Core.List.{List, [], _∷_, _++_}
+use mathlib.Core.List.{List, [], _∷_}
 use Prim.Native.Nat.{ℕ, suc, _+_, _-_, _%_, _<_, _≤_}
 use native.Mathlib.Decide.{ℕ-discrete, decLt}
 use native.Mathlib.Omega.{arith}
 use borrow.Author.Tests.{lt-ltb, ltb-true}
 use lib.Dec.{ltb}
 use lib.ListN.{length}
-use Rattle.laws.proofs.First.{Passed}
-use Rattle.answer.specs.declared.Answer.the-variants.{Done}
 use Rattle.address.specs.declared.Psn.{Psn}
 use Rattle.order_queue.specs.declared.Order.{Order}
 use Rattle.order_queue.specs.declared.Queue.{Queue}
@@ -17,11 +15,11 @@ use Rattle.order_queue.specs.declared.Request.{Request}
 use Rattle.order_queue.specs.declared.Request.the-variants.{Submit, Serve, Unknown}
 use Rattle.order_queue.specs.declared.Handled.{Handled}
 use Rattle.order_queue.specs.Records.{requestOf}
-use Rattle.order_queue.specs.Queue.{noOrder, orderOf, isWaiting, beginsAt, benchAt, waitsAt, quiet, withOrder, orderTaken, answeredTo, handled}
+use Rattle.order_queue.specs.Queue.{noOrder, orderOf, isWaiting, beginsAt, benchAt, waitsAt, withOrder, orderTaken, answeredTo, handled}
 use Rattle.order_queue.proofs.Requests.{Does, refuses, stores, takes-one, finds-none, does}
 use Rattle.queue_runs.specs.Runs.{queueBehind, servesOf, serveCount}
 use Rattle.queue_runs.specs.Promise.{IsQueue, HasOrder, TakenWithin}
-use Rattle.queue_runs.proofs.Steps.{set-here, set-other, still-queue}
+use Rattle.queue_runs.proofs.Steps.{set-other, still-queue}
 
 -- ---- going round
 

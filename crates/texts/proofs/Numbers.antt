@@ -1,5 +1,5 @@
 -- The digits that `io` gives are those of the definitions. Assumes nothing.
-use mathlib.Core.Path.{_≡_, ap, ap₂, _∙_}
+use mathlib.Core.Path.{_≡_, refl, ap, ap₂, _∙_}
 use mathlib.Core.Bool.{Bool, true, false, cond}
 use mathlib.Core.List.{List, [], _∷_, _++_}
 use Prim.Native.Nat.{ℕ, zero, suc, _+_, _-_, _*_, _/_, _%_, _^_, _≤_, _<_}
@@ -22,6 +22,10 @@ decimal-short (suc k) n = by (ltb n 10) (decimal-short k (n / 10))
     by : (t : Bool) → length (decimalTo k (n / 10)) ≤ k → length (cond t ((48 + n) ∷ []) (decimalTo k (n / 10) ++ ((48 + n % 10) ∷ []))) ≤ suc k
     by true h = omega arith
     by false h = omega (arith, length-append (decimalTo k (n / 10)) ((48 + n % 10) ∷ []))
+
+pub length-hexadecimal : (n : ℕ) → length (hexadecimal n) ≡ 8
+unfolding hexadecimal
+length-hexadecimal n = refl
 
 -- ---- decimal
 
