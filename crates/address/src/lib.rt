@@ -6,7 +6,6 @@ ghost use Rattle.address.specs.Judged.{judged, ifDone};
 ghost use Rattle.address.specs.Conversions.{withPsn, psnToPaa, paaToPsn, psnToAun, aunToPsn};
 
 // Physical sector number of a cluster's first sector.
-#[repr(C)]
 pub struct Psn(pub u32);
 
 // Address unit number.

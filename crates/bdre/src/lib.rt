@@ -4,7 +4,7 @@ use answer_numbers::Converted;
 use answer_numbers::Marking;
 use answer_numbers::ReadAnswered;
 use export_queue::HandledNumbers;
-use order_queue::Queue;
+use export_queue::QueueNumbers;
 ghost use mathlib.Core.Path.{_≡_};
 ghost use mathlib.Core.Logic.{_↔_};
 ghost use Rattle.writer.specs.Outcome as writer;
@@ -26,7 +26,7 @@ ghost use Rattle.address_sheet.specs.Sheet.{sheetAnswer};
 ghost use Rattle.address_sheet.specs.Promise.{RightSheet};
 ghost use Rattle.export_sheet.specs.Exported.{givenPsn};
 ghost use Rattle.order_queue.specs.Queue.{handled};
-ghost use Rattle.export_queue.specs.Exported.{handledNumbers};
+ghost use Rattle.export_queue.specs.Exported.{queueGiven, handledSeen};
 
 // Writes the image of a cluster.
 #[no_mangle]
@@ -137,8 +137,8 @@ pub extern "C" fn bdre_sheet(psns: &[u32]) -> Answered
 
 // Handles a record of the queue of four benches.
 #[no_mangle]
-pub extern "C" fn bdre_handle_record(queue: Queue, bytes: &[u8]) -> HandledNumbers
-    ensures { λ r. ⌜ r ≡ handledNumbers (handled queue (now (bytes .entry))) ⌝ }
+pub extern "C" fn bdre_handle_record(queue: QueueNumbers, bytes: &[u8]) -> HandledNumbers
+    ensures { λ r. ⌜ r ≡ handledSeen (handled (queueGiven queue) (now (bytes .entry))) ⌝ }
 {
     export_queue::handle_record(queue, bytes)
 }

@@ -1,2 +1,3 @@
--- What is returned of a record that was handled.
-mod Exported
+-- What is handed in and given back, and what is promised of it.
+pub mod Exported
+pub mod Statements

@@ -2,6 +2,5 @@
 pub mod Records
 pub mod Submits
 pub mod Serves
-pub mod Handling
 pub mod Requests
 pub mod Statements

@@ -1,6 +1,6 @@
 -- What a record asks for, case by case. Assumes nothing.
-use mathlib.Core.Path.{_≡_, sym, _∙_}
-use mathlib.Core.Bool.{true, false}
+use mathlib.Core.Path.{_≡_, sym, ap, _∙_}
+use mathlib.Core.Bool.{Bool, true, false, false≢true}
 use mathlib.Core.List.{List}
 use Prim.Native.Nat.{ℕ}
 use native.Mathlib.Omega.{arith}
@@ -9,10 +9,39 @@ use lib.Dec.{eqb}
 use lib.ListN.{length, getD}
 use Rattle.laws.proofs.Booleans.{and-false}
 use Rattle.big_endian.specs.Words.{wordAt}
+use Rattle.address.specs.declared.Psn.{Psn}
+use Rattle.order_queue.specs.declared.Request.{Request}
 use Rattle.order_queue.specs.declared.Request.the-variants.{Submit, Serve, Unknown}
 use Rattle.order_queue.specs.Records.{requestOf}
 
--- as the code has it, kind is the first byte
+-- ---- the kinds of requests, and what a submit holds
+
+abbrev pub isSubmit : Request → Bool
+isSubmit (Submit bench psn) = true
+isSubmit Serve = false
+isSubmit Unknown = false
+
+abbrev pub isServe : Request → Bool
+isServe (Submit bench psn) = false
+isServe Serve = true
+isServe Unknown = false
+
+abbrev pub benchAsked : Request → ℕ
+benchAsked (Submit bench psn) = bench
+benchAsked Serve = 0
+benchAsked Unknown = 0
+
+abbrev pub psnAsked : Request → ℕ
+psnAsked (Submit bench psn) = psn .0
+psnAsked Serve = 0
+psnAsked Unknown = 0
+
+-- a submit is no serve
+pub submit-no-serve : {bench : ℕ} {psn : Psn} → Submit bench psn ≡ Serve → ⊥
+submit-no-serve e = false≢true (ap isServe e)
+
+-- ---- a record; as the code has it, kind is the first byte
+
 module _ (bytes : List ℕ) {kind : ℕ} (hk : kind ≡ getD bytes 0 0) where
   is : {n : ℕ} → kind ≡ n → eqb (getD bytes 0 0) n ≡ true
   is {n} e = eq-eqb (getD bytes 0 0) n (sym hk ∙ e)
@@ -41,7 +70,7 @@ module _ (bytes : List ℕ) {kind : ℕ} (hk : kind ≡ getD bytes 0 0) where
   no-kind h i = rw (isnt h, isnt i)
 
 -- a record of neither one byte nor six
-pub other-length : (bytes : List ℕ) → (length bytes ≡ 1 → ⊥) → (length bytes ≡ 6 → ⊥) → Unknown ≡ requestOf bytes
+pub other-size : (bytes : List ℕ) → (length bytes ≡ 1 → ⊥) → (length bytes ≡ 6 → ⊥) → Unknown ≡ requestOf bytes
 unfolding requestOf
-other-length bytes one six =
+other-size bytes one six =
     rw (and-false (eqb (getD bytes 0 0) 1) (eqb (length bytes) 6) (ne-eqb (length bytes) 6 six), and-false (eqb (getD bytes 0 0) 2) (eqb (length bytes) 1) (ne-eqb (length bytes) 1 one))

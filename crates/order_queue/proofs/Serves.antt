@@ -1,9 +1,11 @@
 -- A serve: where it begins, which benches it passes, and what it leaves. Assumes nothing.
-use mathlib.Core.Path.{_≡_, sym, ap, _∙_}
+use mathlib.Core.Path.{_≡_, refl, sym, ap, _∙_}
 use mathlib.Core.Bool.{Bool, true, false, cond}
 use Prim.Native.Nat.{ℕ, _+_, _%_, _<_, _≤_}
+use native.Mathlib.Nat.{add-assoc, mod-add-mod}
 use native.Mathlib.Omega.{arith}
-use borrow.Author.Tests.{lt-ltb, le-ltb}
+use borrow.Author.Tests.{lt-ltb, le-ltb, ltb-true}
+use lib.Dec.{ltb}
 use lib.ListN.{set}
 use Rattle.laws.specs.First.{first}
 use Rattle.laws.proofs.First.{Passed, passed-none, passed-more, first-here, first-past}
@@ -31,6 +33,14 @@ module _ {turn : ℕ} where
   pub begins-else : 4 ≤ turn → 0 ≡ beginsAt turn
   begins-else h = rw (le-ltb turn 4 h)
 
+-- it is one of the four
+pub begins-within : (turn : ℕ) → beginsAt turn < 4
+begins-within turn = by (ltb turn 4) refl
+  where
+    by : (t : Bool) → ltb turn 4 ≡ t → cond t turn 0 < 4
+    by true t = ltb-true turn 4 t
+    by false t = omega arith
+
 -- ---- which benches it passes
 
 -- in a loop: k benches without an order are passed, and `bench` is the next one
@@ -53,10 +63,7 @@ module _ (queue : Queue) {k bench : ℕ} {o : Order} (passing : Passing queue k 
       passing .here ∙ ap (benchAt (queue .turn)) is ∙ sym (next-is queue (omega (arith, h, is)))
 
   pub passing-on : o .waiting ≡ false → Passing queue (k + 1) ((bench + 1) % 4)
-  passing-on e = record { small = omega arith; here = ap (λ (b : ℕ). (b + 1) % 4) (passing .here) ∙ round (beginsAt (queue .turn)) k; passed = passed-more (passing .passed) (waits-here e) }
-    where
-      round : (s k : ℕ) → ((s + k) % 4 + 1) % 4 ≡ (s + (k + 1)) % 4
-      round s k = omega arith
+  passing-on e = record { small = omega arith; here = ap (λ (b : ℕ). (b + 1) % 4) (passing .here) ∙ mod-add-mod (beginsAt (queue .turn) + k) 4 1 ∙ ap (λ (n : ℕ). n % 4) (add-assoc (beginsAt (queue .turn)) k 1); passed = passed-more (passing .passed) (waits-here e) }
 
 pub passing-all : (queue : Queue) {k bench : ℕ} → Passing queue k bench → 4 ≤ k → 4 ≡ nextBench queue
 passing-all queue {k} passing h = sym (next-none queue (omega (arith, first-past {n = 4} {i = k} h (passing .passed))))

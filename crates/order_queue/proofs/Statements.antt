@@ -26,17 +26,18 @@ use Rattle.order_queue.specs.declared.Request.the-variants.{Submit, Serv
 use Rattle.order_queue.specs.declared.Handled.{Handled}
 use Rattle.order_queue.specs.Records.{requestOf}
 use Rattle.order_queue.specs.Queue.{isWaiting, nextBench, quiet, submitAnswer, submitted, orderTaken, noneWaiting, served, answeredTo, handled}
-use Rattle.order_queue.specs.Promise.{RightSubmit, Says, at-26, at-27, at-28, at-6, at-7, at-0-submit, at-0-serve, ServesAs}
+use Rattle.order_queue.specs.Promise.{RightSubmit, Does, refuses, stores-order, takes-order, finds-none, Says, at-26, at-27, at-28, at-6, at-7, at-0-submit, at-0-serve, ServesAs}
+use Rattle.order_queue.proofs.Records.{isSubmit, isServe, benchAsked, psnAsked}
 use Rattle.order_queue.proofs.Submits.{submit-right, right-submit}
 use Rattle.order_queue.proofs.Serves.{begins-else}
-use Rattle.order_queue.proofs.Requests.{Does, refuses, stores, takes-one, finds-none, does}
+use Rattle.order_queue.proofs.Requests.{does}
 
 -- ---- records
 
-one-byte : (l : List ℕ) → length l ≡ 1 → l ≡ getD l 0 0 ∷ []
-one-byte [] e = absurd (omega (arith, e))
-one-byte (a ∷ []) e = refl
-one-byte (a ∷ b ∷ l) e = absurd (omega (arith, e))
+byte-alone : (l : List ℕ) → length l ≡ 1 → l ≡ getD l 0 0 ∷ []
+byte-alone [] e = absurd (omega (arith, e))
+byte-alone (a ∷ []) e = refl
+byte-alone (a ∷ b ∷ l) e = absurd (omega (arith, e))
 
 six-bytes : (l : List ℕ) → length l ≡ 6 → l ≡ getD l 0 0 ∷ getD l 1 0 ∷ take 4 (drop 2 l)
 six-bytes [] e = absurd (omega (arith, e))
@@ -50,27 +51,6 @@ serve-bytes = refl
 pub submit-bytes : (bench psn : ℕ) → psn < 2 ^ 32 → requestOf (1 ∷ bench ∷ fourBytes psn) ≡ Submit bench (record { 0 = psn })
 unfolding requestOf
 submit-bytes bench psn h = λ i. Submit bench (record { 0 = word-back psn h i })
-
--- the kinds of requests, and what a submit holds
-abbrev isSubmit : Request → Bool
-isSubmit (Submit bench psn) = true
-isSubmit Serve = false
-isSubmit Unknown = false
-
-abbrev isServe : Request → Bool
-isServe (Submit bench psn) = false
-isServe Serve = true
-isServe Unknown = false
-
-abbrev benchIn : Request → ℕ
-benchIn (Submit bench psn) = bench
-benchIn Serve = 0
-benchIn Unknown = 0
-
-abbrev psnIn : Request → ℕ
-psnIn (Submit bench psn) = psn .0
-psnIn Serve = 0
-psnIn Unknown = 0
 
 module _ (bytes : List ℕ) where
   abbrev submits : Bool
@@ -90,16 +70,16 @@ module _ (bytes : List ℕ) where
       by : (s t : Bool) → serves ≡ t → isServe (asked s t) ≡ true → bytes ≡ 2 ∷ []
       by true t ht e = absurd (false≢true e)
       by false true ht e =
-          one-byte bytes (eqb-true (length bytes) 1 (and-right (eqb (getD bytes 0 0) 2) (eqb (length bytes) 1) ht))
+          byte-alone bytes (eqb-true (length bytes) 1 (and-right (eqb (getD bytes 0 0) 2) (eqb (length bytes) 1) ht))
           ∙ ap (λ (b : ℕ). b ∷ []) (eqb-true (getD bytes 0 0) 2 (and-left (eqb (getD bytes 0 0) 2) (eqb (length bytes) 1) ht))
       by false false ht e = absurd (false≢true e)
 
   -- NOR A SUBMIT
   pub only-submit : (bench : ℕ) (psn : Psn) → Bytes bytes → requestOf bytes ≡ Submit bench psn → bytes ≡ 1 ∷ bench ∷ fourBytes (psn .0)
   unfolding requestOf
-  only-submit bench psn are e = by submits serves refl (ap isSubmit e) (ap benchIn e) (ap psnIn e)
+  only-submit bench psn are e = by submits serves refl (ap isSubmit e) (ap benchAsked e) (ap psnAsked e)
     where
-      by : (s t : Bool) → submits ≡ s → isSubmit (asked s t) ≡ true → benchIn (asked s t) ≡ bench → psnIn (asked s t) ≡ psn .0 → bytes ≡ 1 ∷ bench ∷ fourBytes (psn .0)
+      by : (s t : Bool) → submits ≡ s → isSubmit (asked s t) ≡ true → benchAsked (asked s t) ≡ bench → psnAsked (asked s t) ≡ psn .0 → bytes ≡ 1 ∷ bench ∷ fourBytes (psn .0)
       by true t hs e hb hp =
           let six = eqb-true (length bytes) 6 (and-right (eqb (getD bytes 0 0) 1) (eqb (length bytes) 6) hs) in
           let kind = eqb-true (getD bytes 0 0) 1 (and-left (eqb (getD bytes 0 0) 1) (eqb (length bytes) 6) hs) in
@@ -172,8 +152,8 @@ module _ (queue : Queue) (bytes : List ℕ) where
 
       by : Does queue (requestOf bytes) → answeredTo queue (requestOf bytes) ≡ quiet queue (answeredTo queue (requestOf bytes) .answer)
       by (refuses answer e other is) = is ∙ ap (quiet queue) (sym (ap (λ (x : Handled). x .answer) is))
-      by (stores bench psn e right is) = absurd (no-refusal is refl)
-      by (takes-one k e h waiting passed is) = absurd (no-refusal is refl)
+      by (stores-order bench psn e right is) = absurd (no-refusal is refl)
+      by (takes-order k e h waiting nearer is) = absurd (no-refusal is refl)
       by (finds-none e idle is) = absurd (no-refusal is refl)
 
 -- ---- a turn that names no bench

@@ -1,19 +1,22 @@
 -- A submit: its tests, and when it is stored. Assumes nothing.
 use mathlib.Core.Path.{_≡_, refl, sym, ap, _∙_}
-use mathlib.Core.Bool.{Bool, true, false, cond}
-use Prim.Native.Nat.{ℕ, _<_, _≤_}
+use mathlib.Core.Bool.{Bool, true, false, cond, false≢true}
+use Prim.Native.Nat.{ℕ, zero, suc, _<_, _≤_}
+use native.Mathlib.Decide.{decLt}
+use native.Mathlib.Omega.{arith}
 use borrow.Author.Tests.{lt-ltb, le-ltb, ltb-true}
 use lib.Dec.{ltb}
+use lib.ListN.{length, List·getD-eq-default}
 use Rattle.answer.specs.declared.Answer.{Answer}
 use Rattle.answer.specs.declared.Answer.the-variants.{Done, NoBench, BenchWaiting}
 use Rattle.answer.specs.Answer.{isDone, andThen}
-use Rattle.answer.proofs.Tests.{done-is, done-not, then-both, then-done}
+use Rattle.answer.proofs.Tests.{done-is, done-not, then-next, then-both, then-done}
 use Rattle.address.specs.declared.Psn.{Psn}
 use Rattle.address.specs.Judged.{judged}
 use Rattle.order_queue.specs.declared.Order.{Order}
 use Rattle.order_queue.specs.declared.Queue.{Queue}
 use Rattle.order_queue.specs.declared.Handled.{Handled}
-use Rattle.order_queue.specs.Queue.{orderOf, isWaiting, quiet, benchAnswer, waitingAnswer, submitAnswer, withOrder, submitted}
+use Rattle.order_queue.specs.Queue.{noOrder, emptyQueue, orderOf, isWaiting, quiet, benchAnswer, waitingAnswer, submitAnswer, withOrder, submitted}
 use Rattle.order_queue.specs.Promise.{RightSubmit}
 
 -- ---- 27 and 28
@@ -47,6 +50,22 @@ module _ (queue : Queue) (bench : ℕ) where
       by true t e = absurd (done-not BenchWaiting refl e)
       by false t e = refl
 
+-- a bench that is waiting is one of the four
+pub waiting-within : (queue : Queue) → length (queue .orders) ≡ 4 → (bench : ℕ) → isWaiting queue bench ≡ true → bench < 4
+waiting-within queue four bench w =
+    elim (decLt bench 4) [
+      | yes h ↦ h
+      | no past ↦ absurd (false≢true (sym (ap (λ (o : Order). o .waiting) (List·getD-eq-default (queue .orders) noOrder {n = bench} (omega (arith, four, past)))) ∙ w))
+    ]
+
+pub empty-waits : (bench : ℕ) → isWaiting emptyQueue bench ≡ false
+unfolding emptyQueue
+empty-waits zero = refl
+empty-waits (suc zero) = refl
+empty-waits (suc (suc zero)) = refl
+empty-waits (suc (suc (suc zero))) = refl
+empty-waits (suc (suc (suc (suc bench)))) = refl
+
 -- ---- all tests
 
 module _ (queue : Queue) (bench psn : ℕ) where
@@ -55,6 +74,12 @@ module _ (queue : Queue) (bench psn : ℕ) where
       let one = then-done (benchAnswer bench) (andThen (waitingAnswer queue bench) (judged psn)) e in
       let two = then-done (waitingAnswer queue bench) (judged psn) (one .1) in
       record { bench-is = bench-done (one .0); free = waiting-done queue bench (two .0); psn-is = two .1 }
+
+  -- of a bench that is not waiting the PSN alone is judged
+  pub judged-alone : bench < 4 → isWaiting queue bench ≡ false → submitAnswer queue bench psn ≡ judged psn
+  judged-alone h free =
+      then-next (benchAnswer bench) (andThen (waitingAnswer queue bench) (judged psn)) (sym (bench-right h))
+      ∙ then-next (waitingAnswer queue bench) (judged psn) (sym (not-waiting queue bench free))
 
   -- as the code has them
   pub judges : {number waiting accepted rest a : Answer} → number ≡ benchAnswer bench → waiting ≡ waitingAnswer queue bench → accepted ≡ judged psn
@@ -72,14 +97,14 @@ module _ (queue : Queue) (bench : ℕ) (psn : Psn) {a : Answer} {d : Bool} (ha :
   is-done : {t : Bool} → d ≡ t → isDone (submitAnswer queue bench (psn .0)) ≡ t
   is-done e = sym (ap isDone ha) ∙ sym hd ∙ e
 
-  pub stores : {longer : Queue} {r : Handled} → d ≡ true → (bench < 4 → longer ≡ withOrder queue bench psn) → r ≡ quiet longer a → r ≡ submitted queue bench psn
+  pub stored-told : {longer : Queue} {r : Handled} → d ≡ true → (bench < 4 → longer ≡ withOrder queue bench psn) → r ≡ quiet longer a → r ≡ submitted queue bench psn
   unfolding submitted
-  stores {longer} {r} e hl hr =
+  stored-told {longer} {r} e hl hr =
       let done = is-done e in
       let right = submit-right queue bench (psn .0) (done-is (submitAnswer queue bench (psn .0)) done) in
       hr ∙ (λ i. quiet (hl (right .bench-is) i) (ha i)) ∙ sym (ap (λ (t : Bool). quiet (cond t (withOrder queue bench psn) queue) (submitAnswer queue bench (psn .0))) done)
 
-  pub keeps : {r : Handled} → d ≡ false → r ≡ quiet queue a → r ≡ submitted queue bench psn
+  pub refused-told : {r : Handled} → d ≡ false → r ≡ quiet queue a → r ≡ submitted queue bench psn
   unfolding submitted
-  keeps {r} e hr =
+  refused-told {r} e hr =
       hr ∙ ap (quiet queue) ha ∙ sym (ap (λ (t : Bool). quiet (cond t (withOrder queue bench psn) queue) (submitAnswer queue bench (psn .0))) (is-done e))

@@ -12,10 +12,9 @@ ghost use Rattle.order_queue.specs.Queue.{noOrder, emptyQueue, beginsAt,
 pub const BENCHES: usize = 4;
 
 // The bench that a serve reports where none is waiting.
-pub const NO_BENCH: u8 = 255;
+const NONE_WAITING: u8 = 255;
 
-// The order of a bench. The PSN counts where it is waiting. Order and queue are what callers in other languages hand over, too.
-#[repr(C)]
+// The order of a bench. The PSN counts where it is waiting.
 pub struct Order {
     pub waiting: bool,
     pub psn: Psn,
@@ -27,7 +26,6 @@ const NO_ORDER: Order = Order {
 };
 
 // The orders of benches 0 to 3, and the bench at which the next serve begins; a turn above 3 stands for 0.
-#[repr(C)]
 pub struct Queue {
     pub orders: [Order; BENCHES],
     pub turn: u8,
@@ -236,7 +234,7 @@ fn serve(queue: Queue) -> Handled
     Handled {
         queue,
         answer: Answer::Done,
-        bench: NO_BENCH,
+        bench: NONE_WAITING,
         psn: Psn(0),
     }
 }

@@ -1,4 +1,4 @@
-// States that no run from an empty queue reaches: every set of waiting benches under turns that name a bench and under others. Prints turn and set, then
+// States, most of which no run from an empty queue reaches: every set of waiting benches under turns that name a bench and under others. Prints turn and set, then
 // for each of four records answer, place, bench and PSN, the turn behind it, and whether each bench waits, with its PSN; an independent program printed it.
 use address::Psn;
 use order_queue::Handled;

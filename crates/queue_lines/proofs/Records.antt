@@ -15,7 +15,7 @@ use Rattle.notation.specs.Psn.{digitOf}
 use Rattle.order_queue.specs.declared.Queue.{Queue}
 use Rattle.order_queue.specs.declared.Handled.{Handled}
 use Rattle.order_queue.specs.Queue.{quiet, answeredTo, handled}
-use Rattle.order_queue.proofs.Records.{other-length}
+use Rattle.order_queue.proofs.Records.{other-size}
 use Rattle.queue_lines.specs.declared.RecordLine.{RecordLine}
 use Rattle.queue_lines.specs.declared.steps.LineRecord.{LineRecord}
 use Rattle.queue_lines.specs.Lines.{isDigit, isRecordText, pairBytes, recordOn}
@@ -191,7 +191,7 @@ module _ {text : List ℕ} {size k : ℕ} {bytes : List ℕ} (p : PairsRead text
 
 size-26 : (queue : Queue) (bytes : List ℕ) → (length bytes ≡ 1 → ⊥) → (length bytes ≡ 6 → ⊥) → handled queue bytes ≡ quiet queue WrongRecord
 unfolding handled
-size-26 queue bytes h i = ap (answeredTo queue) (sym (other-length bytes h i))
+size-26 queue bytes h i = ap (answeredTo queue) (sym (other-size bytes h i))
 
 no-bytes : (queue : Queue) → handled queue [] ≡ quiet queue WrongRecord
 no-bytes queue = size-26 queue [] (λ e. omega (arith, e)) (λ e. omega (arith, e))

@@ -66,5 +66,5 @@ fourth-takes = refl
 pub three-fails : WaitsAtMost 3 → ⊥
 unfolding serveCount requestOf
 three-fails all =
-    let shown = taken-shows (all full refl 3 0x0010_0000 (omega arith) (record { waiting = refl; own-psn = refl }) busy (omega arith)) in
+    let shown = taken-shows (all full refl 3 0x0010_0000 (record { waiting = refl; own-psn = refl }) busy (omega arith)) in
     omega (arith, shown, ap (λ (l : List ℕ). length l) busy-passes)

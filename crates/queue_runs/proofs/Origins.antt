@@ -1,6 +1,6 @@
 -- Where a waiting order comes from: the start of a run, or a submit in it. Assumes nothing.
 use mathlib.Core.Path.{_≡_, refl, sym, ap, _∙_}
-use mathlib.Core.Bool.{true, false, false≢true}
+use mathlib.Core.Bool.{true, false≢true}
 use mathlib.Core.List.{List, [], _∷_}
 use Prim.Native.Nat.{ℕ}
 use native.Mathlib.Decide.{ℕ-discrete}
@@ -14,7 +14,8 @@ use Rattle.order_queue.specs.declared.Request.the-variants.{Submit}
 use Rattle.order_queue.specs.declared.Handled.{Handled}
 use Rattle.order_queue.specs.Records.{requestOf}
 use Rattle.order_queue.specs.Queue.{noOrder, orderOf, benchAt, withOrder, orderTaken, answeredTo, handled}
-use Rattle.order_queue.proofs.Requests.{Does, refuses, stores, takes-one, finds-none, does}
+use Rattle.order_queue.specs.Promise.{Does, refuses, stores-order, takes-order, finds-none}
+use Rattle.order_queue.proofs.Requests.{does}
 use Rattle.queue_runs.specs.Runs.{queueBehind}
 use Rattle.queue_runs.specs.Promise.{IsQueue, HasOrder, SubmittedIn, ComesFrom, the-start, a-submit}
 use Rattle.queue_runs.proofs.Steps.{set-here, set-other, still-queue}
@@ -29,7 +30,7 @@ module _ (queue : Queue) (whole : IsQueue queue) (bench psn : ℕ) (bytes : List
         here = s .here;
         rest = s .rest;
         whole = ap (λ (l : List (List ℕ)). bytes ∷ l) (s .whole);
-        a-submit = s .a-submit;
+        own-request = s .own-request;
         accepted = s .accepted;
         is-judged = s .is-judged;
       }
@@ -44,7 +45,7 @@ module _ (queue : Queue) (whole : IsQueue queue) (bench psn : ℕ) (bytes : List
         here = bytes;
         rest = run;
         whole = refl;
-        a-submit = a ∙ (λ i. Submit bench (record { 0 = e i }));
+        own-request = a ∙ (λ i. Submit bench (record { 0 = e i }));
         accepted = done;
         is-judged = sym (ap judged e) ∙ j;
       }
@@ -66,7 +67,7 @@ module _ (queue : Queue) (whole : IsQueue queue) (bench psn : ℕ) (bytes : List
       by : Does queue (requestOf bytes) → ComesFrom queue bench psn (bytes ∷ run)
       by (refuses answer e other is) = the-start (waited (ap (λ (x : Handled). orderOf (x .queue) bench) is) w refl)
       by (finds-none e idle is) = the-start (waited (ap (λ (x : Handled). orderOf (x .queue) bench) is) w refl)
-      by (stores from own e right is) =
+      by (stores-order from own e right is) =
           let order = ap (λ (x : Handled). orderOf (x .queue) bench) is in
           elim (ℕ-discrete bench from) [
             | yes same ↦
@@ -74,7 +75,7 @@ module _ (queue : Queue) (whole : IsQueue queue) (bench psn : ℕ) (bytes : List
                 a-submit (from-here own (has-psn stored w) (e ∙ ap (λ (b : ℕ). Submit b own) (sym same)) (right .psn-is) (ap (λ (x : Handled). x .answer) is))
             | no other ↦ the-start (waited (order ∙ set-other queue whole from (record { waiting = true; psn = own }) bench other) w refl)
           ]
-      by (takes-one k e h waiting passed is) =
+      by (takes-order k e h waiting nearer is) =
           let at = benchAt (queue .turn) k in
           let order = ap (λ (x : Handled). orderOf (x .queue) bench) is in
           elim (ℕ-discrete bench at) [

@@ -19,8 +19,8 @@ use Rattle.order_queue.specs.declared.Request.{Request}
 use Rattle.order_queue.specs.declared.Request.the-variants.{Submit, Serve, Unknown}
 use Rattle.order_queue.specs.declared.Handled.{Handled}
 use Rattle.order_queue.specs.Queue.{noOrder, orderOf, isWaiting, benchAt, quiet, withOrder, orderTaken, noneWaiting, answeredTo}
-use Rattle.order_queue.specs.Promise.{RightSubmit}
-use Rattle.order_queue.proofs.Requests.{Does, refuses, stores, takes-one, finds-none, does}
+use Rattle.order_queue.specs.Promise.{RightSubmit, Does, refuses, stores-order, takes-order, finds-none}
+use Rattle.order_queue.proofs.Requests.{does}
 use Rattle.queue_runs.specs.Runs.{waitingOf, brings, takes}
 use Rattle.queue_runs.specs.Promise.{IsQueue}
 
@@ -51,12 +51,12 @@ abbrev listed : Order → List ℕ
 listed o = cond (o .waiting) (o .psn .0 ∷ []) []
 
 -- what a request brings and takes, and what waits before it and behind it
-abbrev pub Keeps : Queue → ℕ → Request → Type 0
-Keeps queue bench request = waitingOf queue bench ++ brings queue bench request ≡ takes queue bench request ++ waitingOf (answeredTo queue request .queue) bench
+abbrev pub Balanced : Queue → ℕ → Request → Type 0
+Balanced queue bench request = waitingOf queue bench ++ brings queue bench request ≡ takes queue bench request ++ waitingOf (answeredTo queue request .queue) bench
 
 module _ (queue : Queue) (whole : IsQueue queue) (bench : ℕ) (within : bench < 4) where
-  keeps-stored : (from : ℕ) (psn : Psn) → RightSubmit queue from (psn .0) → answeredTo queue (Submit from psn) ≡ quiet (withOrder queue from psn) Done → Keeps queue bench (Submit from psn)
-  keeps-stored from psn right e =
+  balanced-stored : (from : ℕ) (psn : Psn) → RightSubmit queue from (psn .0) → answeredTo queue (Submit from psn) ≡ quiet (withOrder queue from psn) Done → Balanced queue bench (Submit from psn)
+  balanced-stored from psn right e =
       elim (ℕ-discrete bench from) [
         | yes same ↦
             ap₂ (λ (l m : List ℕ). l ++ m) (free same) (brought (eq-eqb from bench (sym same)))
@@ -79,8 +79,8 @@ module _ (queue : Queue) (whole : IsQueue queue) (bench : ℕ) (within : bench <
       after : waitingOf (answeredTo queue (Submit from psn) .queue) bench ≡ listed (getD (set (queue .orders) from stored) bench noOrder)
       after = ap (λ (x : Handled). waitingOf (x .queue) bench) e
 
-  keeps-served : (at : ℕ) → at < 4 → isWaiting queue at ≡ true → answeredTo queue Serve ≡ orderTaken queue at → Keeps queue bench Serve
-  keeps-served at h waiting e =
+  balanced-served : (at : ℕ) → at < 4 → isWaiting queue at ≡ true → answeredTo queue Serve ≡ orderTaken queue at → Balanced queue bench Serve
+  balanced-served at h waiting e =
       elim (ℕ-discrete bench at) [
         | yes same ↦
             ap (λ (l : List ℕ). l ++ []) (ap (λ (b : ℕ). waitingOf queue b) same ∙ ap (λ (t : Bool). cond t (orderOf queue at .psn .0 ∷ []) []) waiting)
@@ -97,27 +97,27 @@ module _ (queue : Queue) (whole : IsQueue queue) (bench : ℕ) (within : bench <
       after : waitingOf (answeredTo queue Serve .queue) bench ≡ listed (getD (set (queue .orders) at noOrder) bench noOrder)
       after = ap (λ (x : Handled). waitingOf (x .queue) bench) e
 
-  keeps-same : (request : Request) → brings queue bench request ≡ [] → takes queue bench request ≡ [] → answeredTo queue request .queue ≡ queue → Keeps queue bench request
-  keeps-same request brought took same =
+  balanced-same : (request : Request) → brings queue bench request ≡ [] → takes queue bench request ≡ [] → answeredTo queue request .queue ≡ queue → Balanced queue bench request
+  balanced-same request brought took same =
       ap (λ (l : List ℕ). waitingOf queue bench ++ l) brought
       ∙ append-nil (waitingOf queue bench)
       ∙ sym (ap₂ (λ (l : List ℕ) (q : Queue). l ++ waitingOf q bench) took same)
 
-  pub keeps : (request : Request) → Keeps queue bench request
-  keeps request = by (does queue request)
+  pub balanced : (request : Request) → Balanced queue bench request
+  balanced request = by (does queue request)
     where
       none-taken : answeredTo queue Serve ≡ noneWaiting queue → takes queue bench Serve ≡ []
       none-taken is = ap (λ (x : Handled). cond (eqb (x .bench) bench) (x .psn .0 ∷ []) []) is ∙ ap (λ (t : Bool). cond t (0 ∷ []) []) (ne-eqb 255 bench (λ e. omega (arith, e, within)))
 
-      by : Does queue request → Keeps queue bench request
+      by : Does queue request → Balanced queue bench request
       by (refuses answer e other is) =
-          keeps-same request (brings-none queue bench request (ap (λ (x : Handled). isDone (x .answer)) is ∙ e)) (takes-none queue bench request other) (ap (λ (x : Handled). x .queue) is)
-      by (stores from psn e right is) = subst (Keeps queue bench) (sym e) (keeps-stored from psn right (sym (ap (answeredTo queue) e) ∙ is))
-      by (takes-one k e h waiting passed is) =
-          subst (Keeps queue bench) (sym e) (keeps-served (benchAt (queue .turn) k) (omega arith) waiting (sym (ap (answeredTo queue) e) ∙ is))
+          balanced-same request (brings-none queue bench request (ap (λ (x : Handled). isDone (x .answer)) is ∙ e)) (takes-none queue bench request other) (ap (λ (x : Handled). x .queue) is)
+      by (stores-order from psn e right is) = subst (Balanced queue bench) (sym e) (balanced-stored from psn right (sym (ap (answeredTo queue) e) ∙ is))
+      by (takes-order k e h waiting nearer is) =
+          subst (Balanced queue bench) (sym e) (balanced-served (benchAt (queue .turn) k) (omega arith) waiting (sym (ap (answeredTo queue) e) ∙ is))
       by (finds-none e idle is) =
           let serve = sym (ap (answeredTo queue) e) ∙ is in
-          subst (Keeps queue bench) (sym e) (keeps-same Serve refl (none-taken serve) (ap (λ (x : Handled). x .queue) serve))
+          subst (Balanced queue bench) (sym e) (balanced-same Serve refl (none-taken serve) (ap (λ (x : Handled). x .queue) serve))
 
 -- four orders stay four
 pub still-queue : (queue : Queue) → IsQueue queue → (request : Request) → IsQueue (answeredTo queue request .queue)
@@ -125,6 +125,6 @@ still-queue queue whole request = by (does queue request)
   where
     by : Does queue request → IsQueue (answeredTo queue request .queue)
     by (refuses answer e other is) = ap (λ (x : Handled). length (x .queue .orders)) is ∙ whole
-    by (stores from psn e right is) = ap (λ (x : Handled). length (x .queue .orders)) is ∙ length-set (queue .orders) from (record { waiting = true; psn = psn }) ∙ whole
-    by (takes-one k e h waiting passed is) = ap (λ (x : Handled). length (x .queue .orders)) is ∙ length-set (queue .orders) (benchAt (queue .turn) k) noOrder ∙ whole
+    by (stores-order from psn e right is) = ap (λ (x : Handled). length (x .queue .orders)) is ∙ length-set (queue .orders) from (record { waiting = true; psn = psn }) ∙ whole
+    by (takes-order k e h waiting nearer is) = ap (λ (x : Handled). length (x .queue .orders)) is ∙ length-set (queue .orders) (benchAt (queue .turn) k) noOrder ∙ whole
     by (finds-none e idle is) = ap (λ (x : Handled). length (x .queue .orders)) is ∙ whole

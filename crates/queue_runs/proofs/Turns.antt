@@ -4,9 +4,9 @@ use mathlib.Core.Bool.{Bool, true, false, cond, false≢true}
 use mathlib.Core.List.{List, [], _∷_}
 use Prim.Native.Nat.{ℕ, suc, _+_, _-_, _%_, _<_, _≤_}
 use native.Mathlib.Decide.{ℕ-discrete, decLt}
+use native.Mathlib.Nat.{mod-add-mod}
 use native.Mathlib.Omega.{arith}
-use borrow.Author.Tests.{lt-ltb, ltb-true}
-use lib.Dec.{ltb}
+use borrow.Author.Tests.{lt-ltb}
 use lib.ListN.{length}
 use Rattle.address.specs.declared.Psn.{Psn}
 use Rattle.order_queue.specs.declared.Order.{Order}
@@ -16,30 +16,21 @@ use Rattle.order_queue.specs.declared.Request.the-variants.{Submit, Serve, Unkn
 use Rattle.order_queue.specs.declared.Handled.{Handled}
 use Rattle.order_queue.specs.Records.{requestOf}
 use Rattle.order_queue.specs.Queue.{noOrder, orderOf, isWaiting, beginsAt, benchAt, waitsAt, withOrder, orderTaken, answeredTo, handled}
-use Rattle.order_queue.proofs.Requests.{Does, refuses, stores, takes-one, finds-none, does}
+use Rattle.order_queue.specs.Promise.{Does, refuses, stores-order, takes-order, finds-none}
+use Rattle.order_queue.proofs.Requests.{does}
 use Rattle.queue_runs.specs.Runs.{queueBehind, servesOf, serveCount}
 use Rattle.queue_runs.specs.Promise.{IsQueue, HasOrder, TakenWithin}
 use Rattle.queue_runs.proofs.Steps.{set-other, still-queue}
 
 -- ---- going round
 
--- the bench at which a serve begins is one of the four
-pub begins-within : (turn : ℕ) → beginsAt turn < 4
-begins-within turn = by (ltb turn 4) refl
-  where
-    by : (t : Bool) → ltb turn 4 ≡ t → cond t turn 0 < 4
-    by true t = ltb-true turn 4 t
-    by false t = omega arith
-
 -- from s on: benches k and d places on are two, and behind the first of them the other is d - k - 1 places on
 other-bench : (s k d : ℕ) → k < d → d < 4 → (s + d) % 4 ≡ (s + k) % 4 → ⊥
 other-bench s k d h i e = omega (arith, h, i, e)
 
-nearer : (s k d : ℕ) → k < d → (((s + k) % 4 + 1) % 4 + (d - suc k)) % 4 ≡ (s + d) % 4
-nearer s k d h = round ((s + k) % 4 + 1) (d - suc k) ∙ ap (λ (n : ℕ). n % 4) (omega arith) ∙ round (s + k) (1 + (d - suc k)) ∙ ap (λ (n : ℕ). n % 4) (omega (arith, h))
-  where
-    round : (x y : ℕ) → (x % 4 + y) % 4 ≡ (x + y) % 4
-    round x y = omega arith
+places-left : (s k d : ℕ) → k < d → (((s + k) % 4 + 1) % 4 + (d - suc k)) % 4 ≡ (s + d) % 4
+places-left s k d h =
+    mod-add-mod ((s + k) % 4 + 1) 4 (d - suc k) ∙ ap (λ (n : ℕ). n % 4) (omega arith) ∙ mod-add-mod (s + k) 4 (1 + (d - suc k)) ∙ ap (λ (n : ℕ). n % 4) (omega (arith, h))
 
 -- ---- an order that stays
 
@@ -76,10 +67,10 @@ sooner h t =
       own-psn = t .own-psn;
     }
 
-no-serve : (request : Request) → (request ≡ Serve → ⊥) → servesOf request ≡ 0
-no-serve (Submit bench psn) other = refl
-no-serve Serve other = absurd (other refl)
-no-serve Unknown other = refl
+no-serve-counted : (request : Request) → (request ≡ Serve → ⊥) → servesOf request ≡ 0
+no-serve-counted (Submit bench psn) other = refl
+no-serve-counted Serve other = absurd (other refl)
+no-serve-counted Unknown other = refl
 
 -- ---- in its turn
 
@@ -103,7 +94,7 @@ module _ (queue : Queue) (whole : IsQueue queue) (bench psn d : ℕ) (near : d <
   then-on : (k : ℕ) → k < d → benchAt (orderTaken queue (benchAt (queue .turn) k) .queue .turn) (d - suc k) ≡ bench
   then-on k h =
       let at = benchAt (queue .turn) k in
-      ap (λ (b : ℕ). (b + (d - suc k)) % 4) (ap (λ (t : Bool). cond t ((at + 1) % 4) 0) (lt-ltb ((at + 1) % 4) 4 (omega arith))) ∙ nearer (beginsAt (queue .turn)) k d h ∙ on
+      ap (λ (b : ℕ). (b + (d - suc k)) % 4) (ap (λ (t : Bool). cond t ((at + 1) % 4) 0) (lt-ltb ((at + 1) % 4) 4 (omega arith))) ∙ places-left (beginsAt (queue .turn)) k d h ∙ on
 
   -- what is known of the rest of a run
   abbrev Later : List (List ℕ) → Type 0
@@ -123,7 +114,7 @@ module _ (queue : Queue) (whole : IsQueue queue) (bench psn d : ℕ) (near : d <
         → TakenWithin (suc d) queue bench psn (bytes ∷ run)
     unfolding serveCount
     on-past next other is same waiting =
-        let none = no-serve (requestOf bytes) other in
+        let none = no-serve-counted (requestOf bytes) other in
         on-with next d is (omega (arith, none)) (omega (arith, none, many)) (ap (λ (t : ℕ). benchAt t d) same ∙ on) waiting
 
     -- it is a serve of the bench k places on
@@ -153,15 +144,15 @@ module _ (queue : Queue) (whole : IsQueue queue) (bench psn d : ℕ) (near : d <
       where
         by : Does queue (requestOf bytes) → TakenWithin (suc d) queue bench psn (bytes ∷ run)
         by (refuses answer e other is) = on-past queue other (ap (λ (x : Handled). x .queue) is) refl w
-        by (stores from own e right is) =
+        by (stores-order from own e right is) =
             on-past (withOrder queue from own) (λ serve. omega (arith, ap servesOf (sym serve ∙ e))) (ap (λ (x : Handled). x .queue) is) refl (beside from own (right .free))
-        by (takes-one k e h waiting passed is) =
+        by (takes-order k e h waiting before is) =
             elim (ℕ-discrete k d) [
               | yes same ↦ serves-here k same e is
               | no other ↦
                   elim (decLt k d) [
                     | yes less ↦ serves-nearer k less e is
-                    | no past ↦ absurd (false≢true (sym (passed .fails d (omega (arith, other, past))) ∙ waits-there))
+                    | no past ↦ absurd (false≢true (sym (before d (omega (arith, other, past))) ∙ waits-there))
                   ]
             ]
         by (finds-none e idle is) = absurd (false≢true (sym (idle d near) ∙ waits-there))

@@ -1,6 +1,6 @@
 -- Document 02, W-214: what is promised of runs of records.
 use mathlib.Core.Path.{_≡_}
-use mathlib.Core.Bool.{true}
+use mathlib.Core.Bool.{true, false}
 use mathlib.Core.List.{List, _∷_, _++_}
 use Prim.Native.Nat.{ℕ, _<_, _≤_}
 use lib.ListN.{length}
@@ -36,7 +36,7 @@ pub record TakenWithin (m : ℕ) (queue : Queue) (bench psn : ℕ) (run : List (
 
 -- whatever the queue, and whatever the records of the run
 abbrev pub WaitsAtMost : ℕ → Type 0
-WaitsAtMost m = (queue : Queue) → IsQueue queue → (bench psn : ℕ) → bench < 4 → HasOrder queue bench psn → (run : List (List ℕ)) → m ≤ serveCount run → TakenWithin m queue bench psn run
+WaitsAtMost m = (queue : Queue) → IsQueue queue → (bench psn : ℕ) → HasOrder queue bench psn → (run : List (List ℕ)) → m ≤ serveCount run → TakenWithin m queue bench psn run
 
 -- the bound
 abbrev pub longestWait : ℕ
@@ -50,7 +50,7 @@ pub record SubmittedIn (queue : Queue) (bench psn : ℕ) (run : List (List ℕ))
   pub here : List ℕ
   pub rest : List (List ℕ)
   pub whole : run ≡ before ++ (here ∷ rest)
-  pub a-submit : requestOf here ≡ Submit bench (record { 0 = psn })
+  pub own-request : requestOf here ≡ Submit bench (record { 0 = psn })
   pub accepted : handled (queueBehind queue before) here .answer ≡ Done
   pub is-judged : judged psn ≡ Done
 
@@ -64,3 +64,11 @@ pub data ComesFrom (queue : Queue) (bench psn : ℕ) (run : List (List ℕ)) : T
 -- the orders of a bench that waited and that were accepted are those that were served and that wait, in this order
 abbrev pub Conserves : Queue → ℕ → List (List ℕ) → Type 0
 Conserves queue bench run = waitingOf queue bench ++ acceptedIn queue bench run ≡ servedIn queue bench run ++ waitingOf (queueBehind queue run) bench
+
+-- ---- a serve that takes an order
+
+-- the bench that it reports waited with the PSN that it reports, and waits no longer
+pub record Served (queue : Queue) (bytes : List ℕ) : Type 0 where
+  pub bench-is : handled queue bytes .bench < 4
+  pub waited : HasOrder queue (handled queue bytes .bench) (handled queue bytes .psn .0)
+  pub free : isWaiting (handled queue bytes .queue) (handled queue bytes .bench) ≡ false

@@ -1,5 +1,5 @@
--- `handle` meets its contract: by what the record asks for (Handling).
-use Rattle.order_queue.proofs.Handling.{handled-as}
+-- `handle` meets its contract: by what the record asks for (Requests).
+use Rattle.order_queue.proofs.Requests.{handled-as}
 use borrow.Author.Needs.{needs}
 use Rattle.order_queue.proofs.handle.Statement.{statement}
 use Rattle.order_queue.proofs.handle.Tie as tie

@@ -1,5 +1,5 @@
 -- `submit` meets its contract: the order is stored, and refused (Submits).
-use Rattle.order_queue.proofs.Submits.{stores, keeps}
+use Rattle.order_queue.proofs.Submits.{stored-told, refused-told}
 use borrow.Author.Needs.{needs}
 use Rattle.order_queue.proofs.submit.Statement.{statement}
 use Rattle.order_queue.proofs.submit.Tie as tie
@@ -20,7 +20,7 @@ returns : tie.Need-returns
 returns c =
     let done = c .before .before in
     let longer = done .before in
-    stores _ _ _ (longer .before .judge-submit .ensures) (done .is-done .ensures) (c .before .if1 .taken) (longer .with-order .ensures) (c .quiet .ensures)
+    stored-told _ _ _ (longer .before .judge-submit .ensures) (done .is-done .ensures) (c .before .if1 .taken) (longer .with-order .ensures) (c .quiet .ensures)
 
 quiet-requires-2 : tie.Need-quiet-requires-2
 quiet-requires-2 c κs = search needs
@@ -28,7 +28,7 @@ quiet-requires-2 c κs = search needs
 returns-2 : tie.Need-returns-2
 returns-2 c =
     let done = c .before .before in
-    keeps _ _ _ (done .before .before .judge-submit .ensures) (done .is-done .ensures) (c .before .if1 .left) (c .quiet2 .ensures)
+    refused-told _ _ _ (done .before .before .judge-submit .ensures) (done .is-done .ensures) (c .before .if1 .left) (c .quiet2 .ensures)
 
 pub submit-spec : {M : Type 1} → statement M
 submit-spec =

@@ -1,0 +1,50 @@
+-- What is promised of a queue in numbers: it comes back as it was, and so a refusal changes none of it. Assumes nothing.
+use mathlib.Core.Path.{_≡_, refl, sym, ap, _∙_}
+use mathlib.Core.Bool.{Bool, true, false, not, cond}
+use mathlib.Core.List.{List, [], _∷_}
+use Prim.Native.Nat.{ℕ, zero, suc, _<_, _≤_}
+use native.Mathlib.Omega.{arith}
+use lib.Dec.{eqb}
+use lib.ListN.{length, getD}
+use Rattle.answer.specs.Answer.{isDone}
+use Rattle.order_queue.specs.declared.Queue.{Queue}
+use Rattle.order_queue.specs.declared.Handled.{Handled}
+use Rattle.order_queue.specs.Queue.{handled}
+use Rattle.order_queue.proofs.Statements.{refused-quiet}
+use Rattle.export_queue.specs.declared.OrderNumbers.{OrderNumbers}
+use Rattle.export_queue.specs.declared.QueueNumbers.{QueueNumbers}
+use Rattle.export_queue.specs.Exported.{orderGiven, queueGiven, orderSeen, queueSeen, handledSeen, IsPlain}
+
+order-back : (o : OrderNumbers) → o .waiting ≤ 1 → orderSeen (orderGiven o) ≡ o
+order-back o h = by (o .waiting) h
+  where
+    by : (n : ℕ) → n ≤ 1 → _≡_ {A = OrderNumbers} (record { waiting = cond (not (eqb n 0)) 1 0; psn = o .psn }) (record { waiting = n; psn = o .psn })
+    by zero h = refl
+    by (suc zero) h = refl
+    by (suc (suc n)) h = absurd (omega (arith, h))
+
+abbrev numbersAt : List OrderNumbers → ℕ → OrderNumbers
+numbersAt l k = getD l k (record { waiting = 0; psn = 0 })
+
+four-orders : (l : List OrderNumbers) → length l ≡ 4 → l ≡ numbersAt l 0 ∷ numbersAt l 1 ∷ numbersAt l 2 ∷ numbersAt l 3 ∷ []
+four-orders [] e = absurd (omega (arith, e))
+four-orders (a ∷ []) e = absurd (omega (arith, e))
+four-orders (a ∷ b ∷ []) e = absurd (omega (arith, e))
+four-orders (a ∷ b ∷ c ∷ []) e = absurd (omega (arith, e))
+four-orders (a ∷ b ∷ c ∷ d ∷ []) e = refl
+four-orders (a ∷ b ∷ c ∷ d ∷ x ∷ l) e = absurd (omega (arith, e))
+
+-- A QUEUE WITH 0 OR 1 FOR EACH ORDER COMES BACK AS IT WAS
+pub queue-back : (queue : QueueNumbers) → IsPlain queue → queueSeen (queueGiven queue) ≡ queue
+unfolding queueSeen queueGiven
+queue-back queue plain =
+    let same : (k : ℕ) → k < 4 → orderSeen (orderGiven (numbersAt (queue .orders) k)) ≡ numbersAt (queue .orders) k =
+    λ k h. order-back (numbersAt (queue .orders) k) (plain .flags k h) in
+    (λ i. record { orders = same 0 (omega arith) i ∷ same 1 (omega arith) i ∷ same 2 (omega arith) i ∷ same 3 (omega arith) i ∷ []; turn = queue .turn })
+    ∙ (λ i. record { orders = sym (four-orders (queue .orders) (plain .four)) i; turn = queue .turn })
+
+-- SO A REFUSAL CHANGES NOTHING
+pub refused-same : (queue : QueueNumbers) (bytes : List ℕ) → IsPlain queue → isDone (handled (queueGiven queue) bytes .answer) ≡ false
+    → handledSeen (handled (queueGiven queue) bytes) .queue ≡ queue
+refused-same queue bytes plain refused =
+    ap (λ (h : Handled). queueSeen (h .queue)) (refused-quiet (queueGiven queue) bytes refused) ∙ queue-back queue plain
