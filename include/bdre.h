@@ -6,7 +6,7 @@
  * length, number and content gets an answer. Nothing is kept from call to call, so threads may call at the same time.
  *
  * Stack that a call takes, in bytes (measured by bench/stack; 128 KiB are the limit): write 86,368, read 90,016, mark 90,112,
- * a conversion 40, parity 66,240, sheet 584, record 344. No memory is allocated.
+ * a conversion 40, parity 66,240, sheet 584, record 336. No memory is allocated.
  *
  * `number` is 0 where it is done, else it says what was refused; the place is 0 unless one is named; at 6 and 7 of a sheet it is the entry.
  *
@@ -74,11 +74,11 @@ struct bdre_conversion {
 };
 
 struct bdre_order {
-    bool waiting;
-    uint32_t psn; /* counts where it is waiting */
+    uint8_t waiting; /* 0: no order. Any other number: one is waiting; 1 in what is given back */
+    uint32_t psn;    /* counts where one is waiting; 0 behind a serve of it */
 };
 
-/* Any queue gets an answer. With every field 0 it is the empty one, bench 0's turn. */
+/* Any queue gets an answer. With every field 0 it is the empty one, bench 0's turn. Bytes between the fields are not fixed. */
 struct bdre_queue {
     struct bdre_order orders[BDRE_BENCHES]; /* of benches 0 to 3 */
     uint8_t turn;                           /* the bench at which the next serve begins; above 3 it stands for 0 */

@@ -65,7 +65,7 @@ pub struct Conversion {
 #[derive(Clone, Copy, Debug, Default, PartialEq, Eq)]
 pub struct Order {
     pub waiting: bool,
-    /// Counts where it is waiting.
+    /// Counts where it is waiting; 0 behind a serve of it.
     pub psn: u32,
 }
 

@@ -144,6 +144,7 @@ for command in "$program" "$bdre queue"; do
 done
 
 # Each answer is there before the next record is.
+trap 'fail "queue: it ends before its input does"' PIPE
 for command in "$program" "$bdre queue"; do
     rm -f "$room/pipe" "$room/said"
     mkfifo "$room/pipe"
@@ -171,21 +172,26 @@ $unknown" >"$room/say"
     compare "$room/say" "$room/said" "another text is printed"
     cases=$((cases + 1))
 done
+trap - PIPE
 
-# An input that does not end, to a reader who does.
+# An input that does not end, to a reader who does; where the reader ends first, queue is not done.
 lines "$none
 $none" >"$room/say"
 for command in "$program" "$bdre queue"; do
     begin "queue: an endless input"
-    run_once "$command" 0 sh -c 'yes 02 2>/dev/null | $1 | head -n 2' - "$command"
+    run_once "$command" 0 sh -c 'yes 02 2>/dev/null | $1 2>/dev/null | head -n 2' - "$command"
 done
+begin 'queue: a reader who ends first'
+lines "$none
+1" >"$room/say"
+run_once 'bdre queue' 0 sh -c '{ { yes 02 2>/dev/null | "$1" queue 2>/dev/null; echo "$?" >&5; } | head -n 1; } 5>&1' - "$bdre"
 
 # Bad arguments; what cannot be read or written.
 begin 'queue: arguments'
-ends 2 'usage: queue' '' queue file
-ends 2 'usage: queue' '' queue ''
-ends 2 'usage: queue' '' queue --help
-ends 2 'usage: queue' '' queue 02 02
+ends 2 'usage: queue < RECORDS' '' queue file
+ends 2 'usage: queue < RECORDS' '' queue ''
+ends 2 'usage: queue < RECORDS' '' queue --help
+ends 2 'usage: queue < RECORDS' '' queue 02 02
 
 # unusable TITLE COMPLAINED SCRIPT: the program ends with 0, bdre with 1.
 unusable() {

@@ -265,6 +265,56 @@ fn each_queue(r: &Random) {
     agree(outcomes.keys().eq(&OUTCOMES), || "an answer did not occur".into());
 }
 
+/// The queue as C hands it over.
+mod numbers {
+    #[repr(C)]
+    #[derive(Clone, Copy)]
+    pub struct Order {
+        pub waiting: u8,
+        pub psn: u32,
+    }
+    #[repr(C)]
+    #[derive(Clone, Copy)]
+    pub struct Queue {
+        pub orders: [Order; 4],
+        pub turn: u8,
+    }
+    #[repr(C)]
+    pub struct Handled {
+        pub queue: Queue,
+        pub number: u32,
+        pub place: usize,
+        pub bench: u8,
+        pub psn: u32,
+    }
+    #[allow(clashing_extern_declarations)]
+    extern "C" {
+        pub fn bdre_handle_record(queue: Queue, record: *const u8, record_length: usize) -> Handled;
+    }
+}
+
+/// Each number but 0 is a waiting order, and comes back as 1.
+fn each_flag(r: &Random) {
+    for flag in 1..=255 {
+        for record in [vec![2], vec![3], queues::submit(0, queues::accepted(r)), queues::submit(3, queues::accepted(r))]
+        {
+            let plain = queues::queue(r, r.below(16), r.byte());
+            let orders = plain.orders.map(|o| numbers::Order { waiting: if o.waiting { flag } else { 0 }, psn: o.psn });
+            let queue = numbers::Queue { orders, turn: plain.turn };
+            let a = unsafe { numbers::bdre_handle_record(queue, record.as_ptr(), record.len()) };
+            let b = both::handle(&plain, &record);
+            let same = (a.number, a.place, a.bench, a.psn, a.queue.turn)
+                == (b.number, b.place, b.bench, b.psn, b.queue.turn)
+                && a.queue
+                    .orders
+                    .iter()
+                    .zip(b.queue.orders)
+                    .all(|(x, y)| (x.waiting, x.psn) == (y.waiting as u8, y.psn));
+            agree(same, || format!("record {record:02X?} on {plain:?}, with {flag} for a waiting order"));
+        }
+    }
+}
+
 /// Runs of records from the empty queue and from any, with few serves and with many.
 fn queue_runs(r: &Random, runs: usize) {
     let (mut outcomes, mut records) = (Outcomes::new(), 0);
@@ -357,6 +407,7 @@ fn main() {
     parities(r, if short { 1000 } else { 10_000 });
     sheets(r, if short { 2000 } else { 20_000 });
     each_queue(r);
+    each_flag(r);
     queue_runs(r, if short { 100 } else { 2000 });
     clusters(r, &mut fast, if short { 30 } else { 240 }, if short { 4 } else { 1 });
     damaged(r, &mut fast, if short { 200 } else { 2000 }, if short { 10 } else { 1 });

@@ -3,14 +3,14 @@ use libc::STDIN_FILENO;
 use queue_lines::RecordsRead;
 
 // What was read so far, what the last read gave (0 at the end of the input, below 0 where it cannot be read), and whether all answers were printed.
-struct Turn {
+struct ReadPart {
     read: RecordsRead,
     got: isize,
     printed: bool,
 }
 
 // The bytes of a part. Stops where an answer cannot be printed.
-fn answer(read: RecordsRead, bytes: &[u8], got: isize) -> Turn {
+fn answer(read: RecordsRead, bytes: &[u8], got: isize) -> ReadPart {
     let mut now = read;
     let mut i = 0;
     while i < bytes.len() {
@@ -19,7 +19,7 @@ fn answer(read: RecordsRead, bytes: &[u8], got: isize) -> Turn {
         let text = step.text;
         now = next;
         if !console::print(text) {
-            return Turn {
+            return ReadPart {
                 read: now,
                 got,
                 printed: false,
@@ -27,35 +27,35 @@ fn answer(read: RecordsRead, bytes: &[u8], got: isize) -> Turn {
         }
         i += 1;
     }
-    Turn {
+    ReadPart {
         read: now,
         got,
         printed: true,
     }
 }
 
-fn read_once(read: RecordsRead) -> Turn {
+fn read_once(read: RecordsRead) -> ReadPart {
     let mut bytes = io::large_buffer();
     let got = libc::read(STDIN_FILENO, &mut bytes);
     let n = io::count(got, &bytes);
     answer(read, &bytes[..n], got)
 }
 
-// Each turn but the last takes a byte or more, and an input has fewer than 2^63.
-fn read_all() -> Turn {
+// Each part but the last has a byte or more, and an input has fewer than 2^63.
+fn read_all() -> ReadPart {
     let mut read = queue_lines::steps::start();
     for _ in 0..0x8000_0000_0000_0000u64 {
-        let turn = read_once(read);
-        if turn.got <= 0 {
-            return turn;
+        let part = read_once(read);
+        if part.got <= 0 {
+            return part;
         }
-        if !turn.printed {
-            return turn;
+        if !part.printed {
+            return part;
         }
-        let next = turn.read;
+        let next = part.read;
         read = next;
     }
-    Turn {
+    ReadPart {
         read,
         got: 0,
         printed: true,
@@ -63,7 +63,7 @@ fn read_all() -> Turn {
 }
 
 // A last line without a line feed is answered, too.
-fn finish(last: Turn) -> bool {
+fn finish(last: ReadPart) -> bool {
     let read = last.read;
     if !last.printed {
         return false;
@@ -73,7 +73,7 @@ fn finish(last: Turn) -> bool {
 
 fn main() {
     if os::arg_count() != 1 {
-        io::write_all(1, b"usage: queue\n");
+        io::write_all(1, b"usage: queue < RECORDS\n");
         return;
     }
     let last = read_all();

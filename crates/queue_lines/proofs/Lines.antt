@@ -64,14 +64,14 @@ module _ {begun : List ℕ} {line : RecordLine} (holds : HoldsRecordLine begun l
   longer = omega (arith, length-append begun (b ∷ []))
 
   -- the twelve bytes are there already
-  pub line-full : 12 ≤ line .size → HoldsRecordLine (begun ++ (b ∷ [])) (record { text = line .text; size = 13 })
-  line-full h =
+  pub record-line-full : 12 ≤ line .size → HoldsRecordLine (begun ++ (b ∷ [])) (record { text = line .text; size = 13 })
+  record-line-full h =
       let whole : 12 ≤ length begun = omega (arith, h, holds .size) in
       record { room = holds .room; size = omega (arith, whole, longer); bytes = λ few. absurd (omega (arith, few, whole, longer)) }
 
   -- they are not
-  pub line-more : line .size < 12 → HoldsRecordLine (begun ++ (b ∷ [])) (record { text = set (line .text) (line .size) b; size = line .size + 1 })
-  line-more h =
+  pub record-line-more : line .size < 12 → HoldsRecordLine (begun ++ (b ∷ [])) (record { text = set (line .text) (line .size) b; size = line .size + 1 })
+  record-line-more h =
       record {
         room = length-set (line .text) (line .size) b ∙ holds .room;
         size = omega (arith, all, longer, h);

@@ -30,23 +30,23 @@ shown-text l e = ap shownBytes e ∙ take-append-seam l (zeros (256 - length l))
 
 -- ---- a byte more
 
-pub reads-none : {line : RecordLine} {queue : Queue} → HoldsRecordLine [] line → queue ≡ emptyQueue → HasRead [] [] (record { line = line; queue = queue })
+pub nothing-read : {line : RecordLine} {queue : Queue} → HoldsRecordLine [] line → queue ≡ emptyQueue → HasRead [] [] (record { line = line; queue = queue })
 unfolding unbroken textSaid
-reads-none holds e = record { begun = []; one-line = refl; line = holds; whole = λ rest. ap (λ (q : Queue). saidOf q (map recordOn (linesOf rest))) (sym e) }
+nothing-read holds e = record { begun = []; one-line = refl; line = holds; whole = λ rest. ap (λ (q : Queue). saidOf q (map recordOn (linesOf rest))) (sym e) }
 
 -- what the end of a line promises: h is what is left of the record on it
-abbrev pub Ends : RecordsRead → Handled → Type 0
-Ends read h = (begun : List ℕ) → HoldsRecordLine begun (read .line) → h ≡ handled (read .queue) (recordOn begun)
+abbrev pub HandlesLine : RecordsRead → Handled → Type 0
+HandlesLine read h = (begun : List ℕ) → HoldsRecordLine begun (read .line) → h ≡ handled (read .queue) (recordOn begun)
 
 -- what a byte promises
-abbrev pub Steps : RecordsRead → ℕ → Text → RecordsRead → Type 0
-Steps read b text next = (bytes printed : List ℕ) → HasRead bytes printed read → HasRead (bytes ++ (b ∷ [])) (printed ++ shownBytes text) next
+abbrev pub TakesByte : RecordsRead → ℕ → Text → RecordsRead → Type 0
+TakesByte read b text next = (bytes printed : List ℕ) → HasRead bytes printed read → HasRead (bytes ++ (b ∷ [])) (printed ++ shownBytes text) next
 
 module _ (read : RecordsRead) (b : ℕ) where
   -- of a line
-  pub steps-on : {line : RecordLine} {text : Text} → (b ≡ 10 → ⊥) → ((begun : List ℕ) → HoldsRecordLine begun (read .line) → HoldsRecordLine (begun ++ (b ∷ [])) line) → text ≡ blankText
-      → Steps read b text (record { line = line; queue = read .queue })
-  steps-on {text = text} other add ht bytes printed has =
+  pub byte-taken : {line : RecordLine} {text : Text} → (b ≡ 10 → ⊥) → ((begun : List ℕ) → HoldsRecordLine begun (read .line) → HoldsRecordLine (begun ++ (b ∷ [])) line) → text ≡ blankText
+      → TakesByte read b text (record { line = line; queue = read .queue })
+  byte-taken {text = text} other add ht bytes printed has =
       let same : printed ≡ printed ++ shownBytes text = sym (ap (λ (l : List ℕ). printed ++ l) (shown-blank ht) ∙ append-nil printed) in
       record {
         begun = has .begun ++ (b ∷ []);
@@ -59,9 +59,9 @@ module _ (read : RecordsRead) (b : ℕ) where
       }
 
   -- the line feed
-  pub steps-end : {line : RecordLine} {h : Handled} {text : Text} → b ≡ 10 → HoldsRecordLine [] line → Ends read h → text ≡ textOf (handledText h) → Steps read b text (record { line = line; queue = h .queue })
+  pub feed-taken : {line : RecordLine} {h : Handled} {text : Text} → b ≡ 10 → HoldsRecordLine [] line → HandlesLine read h → text ≡ textOf (handledText h) → TakesByte read b text (record { line = line; queue = h .queue })
   unfolding saidOf unbroken
-  steps-end {h = h} {text = text} feed holds ends ht bytes printed has =
+  feed-taken {h = h} {text = text} feed holds ends ht bytes printed has =
       let is : handled (read .queue) (recordOn (has .begun)) ≡ h = sym (ends (has .begun) (has .line)) in
       let shown : shownBytes text ≡ handledText h = shown-text (handledText h) ht in
       record {
@@ -93,17 +93,17 @@ module _ (read : RecordsRead) (bytes printed : List ℕ) (has : HasRead bytes pr
       ∙ ap (λ (l : List ℕ). printed ++ saidOf (read .queue) (map recordOn (linesOf l))) (append-nil (has .begun))
 
   -- no line is begun
-  pub ends-blank : {text : Text} → read .line .size ≡ 0 → text ≡ blankText → textSaid bytes ≡ printed ++ shownBytes text
+  pub no-last-line : {text : Text} → read .line .size ≡ 0 → text ≡ blankText → textSaid bytes ≡ printed ++ shownBytes text
   unfolding saidOf
-  ends-blank none ht =
+  no-last-line none ht =
       here
       ∙ ap (λ (l : List (List ℕ)). printed ++ saidOf (read .queue) (map recordOn l)) (none-begun (has .begun) (omega (arith, none, has .line .size)))
       ∙ ap (λ (l : List ℕ). printed ++ l) (sym (shown-blank ht))
 
   -- one is
-  pub ends-line : {h : Handled} {text : Text} → (read .line .size ≡ 0 → ⊥) → Ends read h → text ≡ textOf (handledText h) → textSaid bytes ≡ printed ++ shownBytes text
+  pub last-line : {h : Handled} {text : Text} → (read .line .size ≡ 0 → ⊥) → HandlesLine read h → text ≡ textOf (handledText h) → textSaid bytes ≡ printed ++ shownBytes text
   unfolding saidOf
-  ends-line {h} some ends ht =
+  last-line {h} some ends ht =
       let is : handled (read .queue) (recordOn (has .begun)) ≡ h = sym (ends (has .begun) (has .line)) in
       here
       ∙ ap (λ (l : List (List ℕ)). printed ++ saidOf (read .queue) (map recordOn l)) (line-last (has .begun) (has .one-line) (λ e. some (omega (arith, e, has .line .size))))

@@ -18,7 +18,7 @@ pub struct RecordsRead {
 }
 
 // What was read with a byte more, and what is printed behind that byte.
-pub struct RecordsTurn {
+pub struct RecordsStep {
     pub read: RecordsRead,
     pub text: Text,
 }

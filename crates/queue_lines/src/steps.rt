@@ -1,7 +1,7 @@
 // The steps: a line, its record, a text.
 use crate::RecordLine;
 use crate::RecordsRead;
-use crate::RecordsTurn;
+use crate::RecordsStep;
 use notation::digit;
 use order_queue::Handled;
 use order_queue::Queue;
@@ -119,7 +119,7 @@ pub fn start() -> RecordsRead
 }
 
 // A byte more. Nothing is printed while a line goes on.
-pub fn step(read: RecordsRead, byte: u8) -> RecordsTurn
+pub fn step(read: RecordsRead, byte: u8) -> RecordsStep
     ensures { λ r. ⌜ ((bytes printed : List ℕ) → HasRead bytes printed read → HasRead (bytes ++ (byte ∷ [])) (printed ++ shownBytes (r .text)) (r .read)) ⌝ }
 {
     let line = read.line;
@@ -127,7 +127,7 @@ pub fn step(read: RecordsRead, byte: u8) -> RecordsTurn
     if byte == b'\n' {
         let done = handle_line(queue, line);
         let next = done.queue;
-        return RecordsTurn {
+        return RecordsStep {
             read: RecordsRead {
                 line: no_line(),
                 queue: next,
@@ -135,7 +135,7 @@ pub fn step(read: RecordsRead, byte: u8) -> RecordsTurn
             text: handled_text(done),
         };
     }
-    RecordsTurn {
+    RecordsStep {
         read: RecordsRead {
             line: add_byte(line, byte),
             queue,

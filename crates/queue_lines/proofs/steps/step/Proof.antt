@@ -1,5 +1,5 @@
 -- `step` meets its contract: the line feed, and any other byte (Reading).
-use Rattle.queue_lines.proofs.Reading.{steps-end, steps-on}
+use Rattle.queue_lines.proofs.Reading.{feed-taken, byte-taken}
 use borrow.Author.Needs.{needs}
 use Rattle.queue_lines.proofs.steps.step.Statement.{statement}
 use Rattle.queue_lines.proofs.steps.step.Tie as tie
@@ -17,7 +17,7 @@ returns : tie.Need-returns
 returns c =
     let none = c .before in
     let done = none .before .before in
-    steps-end _ _ (done .before .if1 .taken) (none .no-line .ensures) (done .handle-line .ensures) (c .handled-text .ensures)
+    feed-taken _ _ (done .before .if1 .taken) (none .no-line .ensures) (done .handle-line .ensures) (c .handled-text .ensures)
 
 add-byte-requires : tie.Need-add-byte-requires
 add-byte-requires c κs = search needs
@@ -26,7 +26,7 @@ blank-requires : tie.Need-blank-requires
 blank-requires c κs = search needs
 
 returns-2 : tie.Need-returns-2
-returns-2 c = let added = c .before in steps-on _ _ (added .before .if1 .left) (added .add-byte .ensures) (c .blank .ensures)
+returns-2 c = let added = c .before in byte-taken _ _ (added .before .if1 .left) (added .add-byte .ensures) (c .blank .ensures)
 
 pub step-spec : {M : Type 1} → statement M
 step-spec =
