@@ -134,8 +134,8 @@ struct bdre_answer bdre_sheet(const uint32_t *psns, size_t count);
 
 /* Handles a record of the queue in which four benches wait for one marking machine, an order each. 01h, a bench and four PSN bytes, high byte first,
  * submit an order; 02h serves the first waiting bench from the turn on, going round: its place is free again, and the turn is that of the bench after
- * it. Where none is waiting nothing changes. Else the first that fits, and the queue is as it was: 26, a short, long or unknown record; 27, the bench
- * is above 3; 28, it has a waiting order; 6 or 7 for the PSN. */
+ * it. Where none is waiting nothing changes. Else the first that fits, and the queue is as it was, a waiting order given back as 1: 26, a short, long or
+ * unknown record; 27, the bench is above 3; 28, it has a waiting order; 6 or 7 for the PSN. */
 struct bdre_handled bdre_handle_record(struct bdre_queue queue, const uint8_t *record, size_t record_length);
 
 #ifdef __cplusplus

@@ -276,7 +276,7 @@ mod numbers {
     #[repr(C)]
     #[derive(Clone, Copy)]
     pub struct Queue {
-        pub orders: [Order; 4],
+        pub orders: [Order; bench::bdre::BENCHES],
         pub turn: u8,
     }
     #[repr(C)]
@@ -296,7 +296,8 @@ mod numbers {
 /// Each number but 0 is a waiting order, and comes back as 1.
 fn each_flag(r: &Random) {
     for flag in 1..=255 {
-        for record in [vec![2], vec![3], queues::submit(0, queues::accepted(r)), queues::submit(3, queues::accepted(r))]
+        for record in
+            [SERVE.to_vec(), vec![3], queues::submit(0, queues::accepted(r)), queues::submit(3, queues::accepted(r))]
         {
             let plain = queues::queue(r, r.below(16), r.byte());
             let orders = plain.orders.map(|o| numbers::Order { waiting: if o.waiting { flag } else { 0 }, psn: o.psn });
@@ -313,6 +314,7 @@ fn each_flag(r: &Random) {
             agree(same, || format!("record {record:02X?} on {plain:?}, with {flag} for a waiting order"));
         }
     }
+    println!("queues, each number for a waiting order: {} records", 4 * 255);
 }
 
 /// Runs of records from the empty queue and from any, with few serves and with many.

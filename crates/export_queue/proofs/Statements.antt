@@ -1,4 +1,4 @@
--- What is promised of a queue in numbers: it comes back as it was, and so a refusal changes none of it. Assumes nothing.
+-- What is promised of a queue in numbers: 0 or 1 for each order comes back, and so given comes back as it was, under a refusal too. Assumes nothing.
 use mathlib.Core.Path.{_≡_, refl, sym, ap, _∙_}
 use mathlib.Core.Bool.{Bool, true, false, not, cond}
 use mathlib.Core.List.{List, [], _∷_}
@@ -9,7 +9,7 @@ use lib.ListN.{length, getD}
 use Rattle.answer.specs.Answer.{isDone}
 use Rattle.order_queue.specs.declared.Queue.{Queue}
 use Rattle.order_queue.specs.declared.Handled.{Handled}
-use Rattle.order_queue.specs.Queue.{handled}
+use Rattle.order_queue.specs.Queue.{orderOf, handled}
 use Rattle.order_queue.proofs.Statements.{refused-quiet}
 use Rattle.export_queue.specs.declared.OrderNumbers.{OrderNumbers}
 use Rattle.export_queue.specs.declared.QueueNumbers.{QueueNumbers}
@@ -33,6 +33,22 @@ four-orders (a ∷ b ∷ []) e = absurd (omega (arith, e))
 four-orders (a ∷ b ∷ c ∷ []) e = absurd (omega (arith, e))
 four-orders (a ∷ b ∷ c ∷ d ∷ []) e = refl
 four-orders (a ∷ b ∷ c ∷ d ∷ x ∷ l) e = absurd (omega (arith, e))
+
+-- WHAT IS GIVEN BACK HAS 0 OR 1 FOR EACH ORDER
+pub seen-plain : (queue : Queue) → IsPlain (queueSeen queue)
+unfolding queueSeen
+seen-plain queue = record { four = refl; flags = flags }
+  where
+    small : (t : Bool) → cond t 1 0 ≤ 1
+    small true = omega arith
+    small false = omega arith
+
+    flags : (bench : ℕ) → bench < 4 → numbersAt (queueSeen queue .orders) bench .waiting ≤ 1
+    flags zero h = small (orderOf queue 0 .waiting)
+    flags (suc zero) h = small (orderOf queue 1 .waiting)
+    flags (suc (suc zero)) h = small (orderOf queue 2 .waiting)
+    flags (suc (suc (suc zero))) h = small (orderOf queue 3 .waiting)
+    flags (suc (suc (suc (suc n)))) h = absurd (omega (arith, h))
 
 -- A QUEUE WITH 0 OR 1 FOR EACH ORDER COMES BACK AS IT WAS
 pub queue-back : (queue : QueueNumbers) → IsPlain queue → queueSeen (queueGiven queue) ≡ queue
