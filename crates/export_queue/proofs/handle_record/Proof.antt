@@ -27,7 +27,8 @@ returns : tie.Need-returns
 returns c =
     let numbered = c .before in
     let seen = numbered .before in
-    let told = seen .before .before .before in
+    let left = seen .before .before in
+    let told = left .before in
     let given = told .before in
     in-numbers (told .handle .ensures ∙ ap (λ (q : Queue). handled q (now (given .before .before .args .bytes))) (given .queue-given .ensures)) (seen .queue-seen .ensures) (numbered .number .ensures) (c .place .ensures)
 
