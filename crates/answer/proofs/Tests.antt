@@ -7,7 +7,7 @@ use native.Mathlib.Omega.{arith}
 use borrow.Author.Tests.{ne-eqb, eqb-true, lt-ltb, le-ltb, ltb-true}
 use lib.Dec.{ltb}
 use Rattle.answer.specs.declared.Answer.{Answer}
-use Rattle.answer.specs.declared.Answer.the-variants.{Done, WrongUser, WrongSide, WrongDc, WrongImage, WrongWork, NoMultiple, NoZone, DcWord, LastBits, Sync, Frame, BisColumn, AddressUnit, NoPsn, LdcColumn, Sector, WrongColumn, WrongCount, Repeated, WrongRecord, NoBench, BenchWaiting}
+use Rattle.answer.specs.declared.Answer.the-variants.{Done, WrongUser, WrongSide, WrongDc, WrongImage, WrongWork, NoMultiple, NoZone, DcWord, LastBits, Sync, Frame, BisColumn, AddressUnit, NoPsn, LdcColumn, Sector, WrongRow, WrongColumn, WrongCount, Repeated, WrongRecord, NoBench, BenchWaiting}
 use Rattle.answer.specs.Answer.{numberOf, placeOf, isDone, andThen, lowest}
 
 -- the answer whose number is 0 is `Done`
@@ -29,6 +29,7 @@ number-zero (AddressUnit n) e = absurd (omega arith)
 number-zero NoPsn e = absurd (omega arith)
 number-zero (LdcColumn n) e = absurd (omega arith)
 number-zero (Sector n) e = absurd (omega arith)
+number-zero WrongRow e = absurd (omega arith)
 number-zero WrongColumn e = absurd (omega arith)
 number-zero WrongCount e = absurd (omega arith)
 number-zero (Repeated n) e = absurd (omega arith)

@@ -3,7 +3,7 @@ use mathlib.Core.Bool.{Bool, cond}
 use Prim.Native.Nat.{ℕ}
 use lib.Dec.{eqb, ltb}
 use Rattle.answer.specs.declared.Answer.{Answer}
-use Rattle.answer.specs.declared.Answer.the-variants.{Done, WrongUser, WrongSide, WrongDc, WrongImage, WrongWork, NoMultiple, NoZone, DcWord, LastBits, Sync, Frame, BisColumn, AddressUnit, NoPsn, LdcColumn, Sector, WrongColumn, WrongCount, Repeated, WrongRecord, NoBench, BenchWaiting}
+use Rattle.answer.specs.declared.Answer.the-variants.{Done, WrongUser, WrongSide, WrongDc, WrongImage, WrongWork, NoMultiple, NoZone, DcWord, LastBits, Sync, Frame, BisColumn, AddressUnit, NoPsn, LdcColumn, Sector, WrongRow, WrongColumn, WrongCount, Repeated, WrongRecord, NoBench, BenchWaiting}
 
 abbrev pub numberOf : Answer → ℕ
 numberOf Done = 0
@@ -23,6 +23,7 @@ numberOf (AddressUnit n) = 13
 numberOf NoPsn = 14
 numberOf (LdcColumn n) = 15
 numberOf (Sector n) = 16
+numberOf WrongRow = 21
 numberOf WrongColumn = 22
 numberOf WrongCount = 23
 numberOf (Repeated n) = 24
@@ -48,6 +49,7 @@ placeOf (AddressUnit n) = n
 placeOf NoPsn = 0
 placeOf (LdcColumn n) = n
 placeOf (Sector n) = n
+placeOf WrongRow = 0
 placeOf WrongColumn = 0
 placeOf WrongCount = 0
 placeOf (Repeated n) = n

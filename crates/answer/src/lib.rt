@@ -25,6 +25,8 @@ pub enum Answer {
     NoPsn,
     LdcColumn(usize),
     Sector(usize),
+    // The row of a frame (document 02).
+    WrongRow,
     // The data and parity slices of a column (document 02).
     WrongColumn,
     // The number of entries of a sheet (document 02).
@@ -62,6 +64,7 @@ impl Answer {
             Answer::NoPsn => 14,
             Answer::LdcColumn(_) => 15,
             Answer::Sector(_) => 16,
+            Answer::WrongRow => 21,
             Answer::WrongColumn => 22,
             Answer::WrongCount => 23,
             Answer::Repeated(_) => 24,
@@ -93,6 +96,7 @@ impl Answer {
             Answer::NoPsn => 0,
             Answer::LdcColumn(n) => n,
             Answer::Sector(n) => n,
+            Answer::WrongRow => 0,
             Answer::WrongColumn => 0,
             Answer::WrongCount => 0,
             Answer::Repeated(n) => n,

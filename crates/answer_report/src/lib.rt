@@ -12,7 +12,7 @@ ghost use Rattle.report.specs.Words.{meaning, answerText};
 pub fn put_meaning(text: Text, answer: Answer) -> Text
     ensures { λ r. ⌜ r ≡ added text (meaning answer) ⌝ }
 {
-    // The piece of the answer's number, with its place. No answer has 17 to 21 or 25.
+    // The piece of the answer's number, with its place. No answer has 17 to 20 or 25.
     let pieces = b"\
         |the user data are not 65536 bytes\n\
         |the side data are not 592 bytes\n\
@@ -30,7 +30,8 @@ pub fn put_meaning(text: Text, answer: Answer) -> Text
         |no accepted PSN has these address unit numbers\n\
         |LDC column * has a wrong parity\n\
         |sector * has a wrong error-detection code\n\
-        |||||\
+        ||||\
+        |the frame is not 155 bytes\n\
         |the data are not 1 to 223 bytes, or the parity is not 32\n\
         |the sheet has not 1 to 64 PSNs\n\
         |an earlier entry has the same PSN\n\

@@ -9,7 +9,7 @@ use lib.Dec.{eqb, ltb}
 use lib.ListN.{length, take}
 use lib.Seq.{take-at}
 use Rattle.answer.specs.declared.Answer.{Answer}
-use Rattle.answer.specs.declared.Answer.the-variants.{Done, WrongUser, WrongSide, WrongDc, WrongImage, WrongWork, NoMultiple, NoZone, DcWord, LastBits, Sync, Frame, BisColumn, AddressUnit, NoPsn, LdcColumn, Sector, WrongColumn, WrongCount, Repeated, WrongRecord, NoBench, BenchWaiting}
+use Rattle.answer.specs.declared.Answer.the-variants.{Done, WrongUser, WrongSide, WrongDc, WrongImage, WrongWork, NoMultiple, NoZone, DcWord, LastBits, Sync, Frame, BisColumn, AddressUnit, NoPsn, LdcColumn, Sector, WrongRow, WrongColumn, WrongCount, Repeated, WrongRecord, NoBench, BenchWaiting}
 use Rattle.answer.specs.Answer.{numberOf, placeOf}
 use Rattle.io.specs.Digits.{glyph, digits}
 use Rattle.notation.specs.declared.PsnText.{PsnText}
@@ -112,6 +112,7 @@ words-line (AddressUnit n) = line-behind (the " has a wrong parity\n") (decimal-
 words-line NoPsn = refl
 words-line (LdcColumn n) = line-behind (the " has a wrong parity\n") (decimal-digits 20 n) refl
 words-line (Sector n) = line-behind (the " has a wrong error-detection code\n") (decimal-digits 20 n) refl
+words-line WrongRow = refl
 words-line WrongColumn = refl
 words-line WrongCount = refl
 words-line (Repeated n) = refl

@@ -5,7 +5,7 @@ use Prim.Native.Nat.{ℕ, _^_, _<_}
 use native.Mathlib.Omega.{arith}
 use lib.ListN.{getD}
 use Rattle.answer.specs.declared.Answer.{Answer}
-use Rattle.answer.specs.declared.Answer.the-variants.{Done, WrongUser, WrongSide, WrongDc, WrongImage, WrongWork, NoMultiple, NoZone, DcWord, LastBits, Sync, Frame, BisColumn, AddressUnit, NoPsn, LdcColumn, Sector, WrongColumn, WrongCount, Repeated, WrongRecord, NoBench, BenchWaiting}
+use Rattle.answer.specs.declared.Answer.the-variants.{Done, WrongUser, WrongSide, WrongDc, WrongImage, WrongWork, NoMultiple, NoZone, DcWord, LastBits, Sync, Frame, BisColumn, AddressUnit, NoPsn, LdcColumn, Sector, WrongRow, WrongColumn, WrongCount, Repeated, WrongRecord, NoBench, BenchWaiting}
 use Rattle.answer.specs.Answer.{numberOf, placeOf}
 use Rattle.verdict.specs.declared.Verdict.{Verdict}
 use Rattle.verdict.specs.declared.Verdict.the-variants.{Pass, Refused, OtherPsn, OtherUser, OtherSide}
@@ -30,10 +30,10 @@ pass-only (OtherSide n) e = absurd (omega (arith, ap (λ (l : List ℕ). getD l 
 
 -- ---- answers: number and place tell the answer
 
--- by number; no answer has 17 to 21 or 25
+-- by number; no answer has 17 to 20 or 25
 abbrev answers : ℕ → List Answer
 answers n =
-    Done ∷ WrongUser n ∷ WrongSide ∷ WrongDc ∷ WrongImage ∷ WrongWork ∷ NoMultiple n ∷ NoZone n ∷ DcWord n ∷ LastBits ∷ Sync n ∷ Frame n ∷ BisColumn n ∷ AddressUnit n ∷ NoPsn ∷ LdcColumn n ∷ Sector n ∷ Done ∷ Done ∷ Done ∷ Done ∷ Done ∷ WrongColumn ∷ WrongCount ∷ Repeated n ∷ Done ∷ WrongRecord ∷ NoBench ∷ BenchWaiting ∷ []
+    Done ∷ WrongUser n ∷ WrongSide ∷ WrongDc ∷ WrongImage ∷ WrongWork ∷ NoMultiple n ∷ NoZone n ∷ DcWord n ∷ LastBits ∷ Sync n ∷ Frame n ∷ BisColumn n ∷ AddressUnit n ∷ NoPsn ∷ LdcColumn n ∷ Sector n ∷ Done ∷ Done ∷ Done ∷ Done ∷ WrongRow ∷ WrongColumn ∷ WrongCount ∷ Repeated n ∷ Done ∷ WrongRecord ∷ NoBench ∷ BenchWaiting ∷ []
 
 told : (a : Answer) → (getD (answers (placeOf a)) (numberOf a) Done ≡ a) × (numberOf a < 10 ^ 20)
 told Done = (refl, omega arith)
@@ -53,6 +53,7 @@ told (AddressUnit n) = (refl, omega arith)
 told NoPsn = (refl, omega arith)
 told (LdcColumn n) = (refl, omega arith)
 told (Sector n) = (refl, omega arith)
+told WrongRow = (refl, omega arith)
 told WrongColumn = (refl, omega arith)
 told WrongCount = (refl, omega arith)
 told (Repeated n) = (refl, omega arith)

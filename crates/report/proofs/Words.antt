@@ -6,7 +6,7 @@ use Prim.Native.Nat.{ℕ, _≤_}
 use native.Mathlib.Omega.{arith}
 use lib.ListN.{length, length-append}
 use Rattle.answer.specs.declared.Answer.{Answer}
-use Rattle.answer.specs.declared.Answer.the-variants.{Done, WrongUser, WrongSide, WrongDc, WrongImage, WrongWork, NoMultiple, NoZone, DcWord, LastBits, Sync, Frame, BisColumn, AddressUnit, NoPsn, LdcColumn, Sector, WrongColumn, WrongCount, Repeated, WrongRecord, NoBench, BenchWaiting}
+use Rattle.answer.specs.declared.Answer.the-variants.{Done, WrongUser, WrongSide, WrongDc, WrongImage, WrongWork, NoMultiple, NoZone, DcWord, LastBits, Sync, Frame, BisColumn, AddressUnit, NoPsn, LdcColumn, Sector, WrongRow, WrongColumn, WrongCount, Repeated, WrongRecord, NoBench, BenchWaiting}
 use Rattle.answer.specs.Answer.{numberOf, placeOf}
 use Rattle.verdict.specs.declared.Verdict.{Verdict}
 use Rattle.verdict.specs.declared.Verdict.the-variants.{Pass, Refused, OtherPsn, OtherUser, OtherSide}
@@ -38,6 +38,7 @@ meaning-short (AddressUnit n) = simp length-append (omega (arith, decimal-short 
 meaning-short NoPsn = omega arith
 meaning-short (LdcColumn n) = simp length-append (omega (arith, decimal-short 20 n))
 meaning-short (Sector n) = simp length-append (omega (arith, decimal-short 20 n))
+meaning-short WrongRow = omega arith
 meaning-short WrongColumn = omega arith
 meaning-short WrongCount = omega arith
 meaning-short (Repeated n) = omega arith

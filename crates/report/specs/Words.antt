@@ -3,7 +3,7 @@ use mathlib.Core.Bool.{Bool, cond}
 use mathlib.Core.List.{List, [], _++_}
 use Prim.Native.Nat.{ℕ}
 use Rattle.answer.specs.declared.Answer.{Answer}
-use Rattle.answer.specs.declared.Answer.the-variants.{Done, WrongUser, WrongSide, WrongDc, WrongImage, WrongWork, NoMultiple, NoZone, DcWord, LastBits, Sync, Frame, BisColumn, AddressUnit, NoPsn, LdcColumn, Sector, WrongColumn, WrongCount, Repeated, WrongRecord, NoBench, BenchWaiting}
+use Rattle.answer.specs.declared.Answer.the-variants.{Done, WrongUser, WrongSide, WrongDc, WrongImage, WrongWork, NoMultiple, NoZone, DcWord, LastBits, Sync, Frame, BisColumn, AddressUnit, NoPsn, LdcColumn, Sector, WrongRow, WrongColumn, WrongCount, Repeated, WrongRecord, NoBench, BenchWaiting}
 use Rattle.answer.specs.Answer.{numberOf, placeOf}
 use Rattle.verdict.specs.declared.Verdict.{Verdict}
 use Rattle.verdict.specs.declared.Verdict.the-variants.{Pass, Refused, OtherPsn, OtherUser, OtherSide}
@@ -31,6 +31,7 @@ meaning (AddressUnit n) = the "the address field of unit " ++ decimal n ++ the "
 meaning NoPsn = the "no accepted PSN has these address unit numbers\n"
 meaning (LdcColumn n) = the "LDC column " ++ decimal n ++ the " has a wrong parity\n"
 meaning (Sector n) = the "sector " ++ decimal n ++ the " has a wrong error-detection code\n"
+meaning WrongRow = the "the frame is not 155 bytes\n"
 meaning WrongColumn = the "the data are not 1 to 223 bytes, or the parity is not 32\n"
 meaning WrongCount = the "the sheet has not 1 to 64 PSNs\n"
 meaning (Repeated n) = the "an earlier entry has the same PSN\n"

@@ -32,6 +32,7 @@ fn images() {
 }
 
 fn columns() {
+    print_answer(Answer::WrongRow);
     print_answer(Answer::WrongColumn);
 }
 

@@ -1,6 +1,6 @@
 -- `put_meaning` meets its contract: each answer's piece is computed (report, Words).
 use mathlib.Core.Path.{refl}
-use Rattle.answer.specs.declared.Answer.the-variants.{Done, WrongUser, WrongSide, WrongDc, WrongImage, WrongWork, NoMultiple, NoZone, DcWord, LastBits, Sync, Frame, BisColumn, AddressUnit, NoPsn, LdcColumn, Sector, WrongColumn, WrongCount, Repeated, WrongRecord, NoBench, BenchWaiting}
+use Rattle.answer.specs.declared.Answer.the-variants.{Done, WrongUser, WrongSide, WrongDc, WrongImage, WrongWork, NoMultiple, NoZone, DcWord, LastBits, Sync, Frame, BisColumn, AddressUnit, NoPsn, LdcColumn, Sector, WrongRow, WrongColumn, WrongCount, Repeated, WrongRecord, NoBench, BenchWaiting}
 use Rattle.texts.specs.Pieces.{piece}
 use Rattle.report.proofs.Words.{EachMeans, means}
 use borrow.Author.Needs.{needs}
@@ -38,6 +38,7 @@ each c (AddressUnit n) = refl
 each c NoPsn = refl
 each c (LdcColumn n) = refl
 each c (Sector n) = refl
+each c WrongRow = refl
 each c WrongColumn = refl
 each c WrongCount = refl
 each c (Repeated n) = refl

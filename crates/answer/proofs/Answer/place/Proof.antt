@@ -62,17 +62,20 @@ enum-told-8 c = search needs
 enum-told-9 : tie.Need-enum-told-9
 enum-told-9 c = search needs
 
-enum-known-self-11 : tie.Need-enum-known-self-11
-enum-known-self-11 c = search needs
-
 enum-told-10 : tie.Need-enum-told-10
 enum-told-10 c = search needs
+
+enum-known-self-11 : tie.Need-enum-known-self-11
+enum-known-self-11 c = search needs
 
 enum-told-11 : tie.Need-enum-told-11
 enum-told-11 c = search needs
 
 enum-told-12 : tie.Need-enum-told-12
 enum-told-12 c = search needs
+
+enum-told-13 : tie.Need-enum-told-13
+enum-told-13 c = search needs
 
 returns : tie.Need-returns
 returns c = sym (ap placeOf (c .enum-told .given .1))
@@ -132,16 +135,19 @@ returns-19 : tie.Need-returns-19
 returns-19 c = sym (ap placeOf (c .enum-told9 .given .1))
 
 returns-20 : tie.Need-returns-20
-returns-20 c = sym (ap placeOf (c .before .self11 .given .1))
+returns-20 c = sym (ap placeOf (c .enum-told10 .given .1))
 
 returns-21 : tie.Need-returns-21
-returns-21 c = sym (ap placeOf (c .enum-told10 .given .1))
+returns-21 c = sym (ap placeOf (c .before .self11 .given .1))
 
 returns-22 : tie.Need-returns-22
 returns-22 c = sym (ap placeOf (c .enum-told11 .given .1))
 
 returns-23 : tie.Need-returns-23
 returns-23 c = sym (ap placeOf (c .enum-told12 .given .1))
+
+returns-24 : tie.Need-returns-24
+returns-24 c = sym (ap placeOf (c .enum-told13 .given .1))
 
 pub place-spec : {M : Type 1} → statement M
 place-spec =
@@ -166,10 +172,11 @@ place-spec =
     enum-known-self-10
     enum-told-8
     enum-told-9
-    enum-known-self-11
     enum-told-10
+    enum-known-self-11
     enum-told-11
     enum-told-12
+    enum-told-13
     returns
     returns-2
     returns-3
@@ -192,4 +199,5 @@ place-spec =
     returns-20
     returns-21
     returns-22
-    returns-23)
+    returns-23
+    returns-24)

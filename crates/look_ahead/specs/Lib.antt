@@ -1,0 +1,2 @@
+-- What is answered for a frame.
+pub mod Outcome

@@ -1,0 +1,2 @@
+-- How many bits of a frame a word needs.
+pub mod Fixing

@@ -1,0 +1,29 @@
+-- Document 02, W-212: what is promised of the number that a word needs, and of the most that any does.
+use mathlib.Core.Path.{_≡_}
+use mathlib.Core.Bool.{Bool, false}
+use mathlib.Core.List.{List, []}
+use Prim.Native.Nat.{ℕ, _<_, _≤_}
+use lib.ListN.{length, getD, take}
+use Rattle.modulation.specs.Modulation.{Two}
+use Rattle.word_needs.specs.Needed.{wordBits, Start, wordStarts}
+
+-- whatever is left of a frame, if it is as much and begins with the same k pairs, the word has the same modulation bits
+pub record Fixes (b : Bool) (ds : List Two) (k : ℕ) : Type 0 where
+  pub same-bits : (es : List Two) → length es ≡ length ds → take k es ≡ take k ds → wordBits b es ≡ wordBits b ds
+
+-- k pairs fix the word, and fewer do not
+pub record Needs (b : Bool) (ds : List Two) (k : ℕ) : Type 0 where
+  pub fixes : Fixes b ds k
+  pub least : (j : ℕ) → j < k → Fixes b ds j → ⊥
+
+-- where no word begins
+abbrev pub nowhere : Start
+nowhere = record { bit = false; left = [] }
+
+abbrev pub startAt : Bool → List Two → ℕ → Start
+startAt b ds i = getD (wordStarts b ds) i nowhere
+
+-- no word of the frame needs more than k pairs, and one needs them
+pub record Most (b : Bool) (ds : List Two) (k : ℕ) : Type 0 where
+  pub bound : (i : ℕ) → i < length (wordStarts b ds) → (n : ℕ) → Needs (startAt b ds i .bit) (startAt b ds i .left) n → n ≤ k
+  pub met : (i : ℕ) × ((i < length (wordStarts b ds)) × Needs (startAt b ds i .bit) (startAt b ds i .left) k)

@@ -1,0 +1,2 @@
+-- What only the steps need.
+pub mod Walk
