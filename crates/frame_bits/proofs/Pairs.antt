@@ -18,7 +18,7 @@ use Rattle.frame_bits.specs.steps.Words.{Word, LastTwo}
 twice : (n : ℕ) → 2 * suc n ≡ suc (suc (2 * n))
 twice n = omega arith
 
-pairs-take : (n : ℕ) (l : List ℕ) → take n (pairs l) ≡ pairs (take (2 * n) l)
+pub pairs-take : (n : ℕ) (l : List ℕ) → take n (pairs l) ≡ pairs (take (2 * n) l)
 pairs-take zero l = refl
 pairs-take (suc n) [] = ap pairs (sym (take-nil (2 * suc n)))
 pairs-take (suc n) (x ∷ []) = sym (ap (λ (k : ℕ). pairs (take k (x ∷ []))) (twice n) ∙ ap (λ (l : List ℕ). pairs (x ∷ l)) (take-nil (suc (2 * n))))

@@ -1,0 +1,120 @@
+-- Document 02, W-212: what is promised of the bits that a word needs. Assumes nothing.
+use mathlib.Core.Path.{_≡_, refl, sym, ap, subst, _∙_}
+use mathlib.Core.Bool.{Bool, false, true≢false}
+use mathlib.Core.List.{List, [], _∷_, _++_}
+use Prim.Native.Nat.{ℕ, _*_, _≤_}
+use native.Mathlib.Decide.{decLt}
+use native.Mathlib.Omega.{arith}
+use borrow.Author.Tests.{le-ltb}
+use lib.ListN.{length}
+use Rattle.laws.specs.First.{first}
+use Rattle.laws.specs.Same.{same}
+use Rattle.laws.proofs.Same.{same-refl}
+use Rattle.modulation.specs.Modulation.{Two, d00, d01, d11, modulateFrom, modulate}
+use Rattle.modulation.specs.Bits.{pairs, bits}
+use Rattle.frame_bits.proofs.Pairs.{pairs-take}
+use Rattle.word_needs.specs.Needed.{wordBits, needed, wordStarts, startsFrom, most, mostNeeded}
+use Rattle.word_needs.specs.Promise.{farthest, ReachAtMost, Needs, wordsBits, startAt, Most}
+use Rattle.word_needs.specs.steps.Walk.{walkWord}
+use Rattle.word_needs.proofs.Fixing.{all-fix, needed-is, needed-only}
+use Rattle.word_needs.proofs.Walk.{walk-is, needed-some, walk-word-most, six-fix}
+use Rattle.word_needs.proofs.Starts.{needed-bit, most-from, most-bound, first-word, words-are}
+
+-- ---- the number
+
+-- it is the least that fixes the word, and the only such number
+pub needs-it : (b : Bool) (ds : List Two) → Needs b ds (needed b ds)
+needs-it b ds = needed-is b ds
+
+pub only-it : (b : Bool) (ds : List Two) (k : ℕ) → Needs b ds k → needed b ds ≡ k
+only-it b ds k n = needed-only b ds k n
+
+-- the bit before never matters
+pub bit-before : (b c : Bool) (ds : List Two) → needed b ds ≡ needed c ds
+unfolding needed first
+bit-before b c [] = refl
+bit-before b c (d ∷ ds) = needed-bit b c d ds
+
+-- one pair at least, and no more than are left
+pub at-least-two : (b : Bool) (d : Two) (ds : List Two) → 2 ≤ 2 * needed b (d ∷ ds)
+at-least-two b d ds = omega (arith, needed-some b d ds)
+
+pub within-frame : (b : Bool) (ds : List Two) → needed b ds ≤ length ds
+within-frame b ds =
+    elim (decLt (length ds) (needed b ds)) [
+      | yes h ↦ absurd (needed-is b ds .least (length ds) h (all-fix b ds))
+      | no h ↦ omega arith
+    ]
+
+-- ---- the bound
+
+-- a word's modulation bits depend on the bit before it and on 12 bits from its start on, or on all that are left
+pub reach-twelve : ReachAtMost farthest
+reach-twelve = record { fixed = λ b l m e. six-fix b (pairs l) (pairs m) (pairs-take 6 l ∙ ap pairs e ∙ sym (pairs-take 6 m)) }
+
+pub needs-twelve : (b : Bool) (ds : List Two) → 2 * needed b ds ≤ farthest
+needs-twelve b [] = omega (arith, within-frame b [])
+needs-twelve b (d ∷ ds) = omega (arith, walk-is b d ds .needs, walk-word-most (d ∷ ds))
+
+-- 110111000001 at a word's start meets it, whatever follows
+abbrev pub meeting : List ℕ
+meeting = 1 ∷ 1 ∷ 0 ∷ 1 ∷ 1 ∷ 1 ∷ 0 ∷ 0 ∷ 0 ∷ 0 ∷ 0 ∷ 1 ∷ []
+
+pub bound-met : (b : Bool) (more : List Two) → 2 * needed b (pairs meeting ++ more) ≡ farthest
+bound-met b more =
+    let ds : List Two = d01 ∷ d11 ∷ d00 ∷ d00 ∷ d01 ∷ more in
+    let six : walkWord (d11 ∷ ds) .needs ≡ 6 = rw (le-ltb (length ds) 3 (omega arith)) refl in
+    omega (arith, walk-is b d11 ds .needs, six)
+
+-- so 10 bits do not reach
+pub ten-fails : ReachAtMost 10 → ⊥
+unfolding modulateFrom
+ten-fails reach =
+    let other : List ℕ = 1 ∷ 1 ∷ 0 ∷ 1 ∷ 1 ∷ 1 ∷ 0 ∷ 0 ∷ 0 ∷ 0 ∷ 1 ∷ 0 ∷ [] in
+    true≢false (sym (same-refl (wordBits false (pairs meeting))) ∙ ap (same (wordBits false (pairs meeting))) (reach .fixed false meeting other refl))
+
+-- the frame's end counts as known: 110111 as its last six bits needs two
+pub end-known : (b : Bool) → 2 * needed b (d11 ∷ d01 ∷ d11 ∷ []) ≡ 2
+end-known b = ap (λ (n : ℕ). 2 * n) (walk-is b d11 (d01 ∷ d11 ∷ []) .needs)
+
+-- ---- the words of a frame
+
+-- one behind the other they are its modulation bits
+pub words-make : (b : Bool) (ds : List Two) → wordsBits (wordStarts b ds) ≡ bits (modulate b ds .groups)
+words-make b ds = words-are b ds
+
+-- the most that any of them needs
+pub most-it : (b : Bool) (d : Two) (ds : List Two) → Most b (d ∷ ds) (mostNeeded b (d ∷ ds))
+most-it b d ds =
+    let m = first-word b d ds in
+    let s = startAt b (d ∷ ds) (m .index) in
+    record {
+      bound = λ i h n needs.
+          omega (arith, most-bound (wordStarts b (d ∷ ds)) i h, needed-only (startAt b (d ∷ ds) i .bit) (startAt b (d ∷ ds) i .left) n needs);
+      met = (m .index, (m .below, subst (Needs (s .bit) (s .left)) (m .needs) (needed-is (s .bit) (s .left))));
+    }
+
+pub only-most : (b : Bool) (ds : List Two) (j k : ℕ) → Most b ds j → Most b ds k → j ≡ k
+only-most b ds j k p q =
+    omega (arith, q .bound (p .met .0) (p .met .1 .0) j (p .met .1 .1), p .bound (q .met .0) (q .met .1 .0) k (q .met .1 .1))
+
+-- it is the same after both bits, and 12 bits at most
+pub most-bit-before : (b c : Bool) (ds : List Two) → mostNeeded b ds ≡ mostNeeded c ds
+most-bit-before b c ds = most-from ds 0 b c
+
+pub most-twelve : (b : Bool) (d : Two) (ds : List Two) → 2 * mostNeeded b (d ∷ ds) ≤ farthest
+most-twelve b d ds =
+    let m = first-word b d ds in
+    let s = startAt b (d ∷ ds) (m .index) in
+    omega (arith, m .needs, needs-twelve (s .bit) (s .left))
+
+-- a frame that begins with 110111000001
+pub most-met : (b : Bool) (more : List Two) → 2 * mostNeeded b (pairs meeting ++ more) ≡ farthest
+unfolding startsFrom most
+most-met b more =
+    omega (
+      arith,
+      most-twelve b d11 (d01 ∷ d11 ∷ d00 ∷ d00 ∷ d01 ∷ more),
+      bound-met b more,
+      most-bound (wordStarts b (pairs meeting ++ more)) 0 (omega arith),
+    )
