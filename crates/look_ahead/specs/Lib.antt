@@ -1,2 +1,3 @@
--- What is answered for a frame.
+-- What is answered for a frame, and what is promised of it.
 pub mod Outcome
+pub mod Promise

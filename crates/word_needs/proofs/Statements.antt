@@ -2,7 +2,7 @@
 use mathlib.Core.Path.{_≡_, refl, sym, ap, subst, _∙_}
 use mathlib.Core.Bool.{Bool, false, true≢false}
 use mathlib.Core.List.{List, [], _∷_, _++_}
-use Prim.Native.Nat.{ℕ, _*_, _≤_}
+use Prim.Native.Nat.{ℕ, _*_, _<_, _≤_}
 use native.Mathlib.Decide.{decLt}
 use native.Mathlib.Omega.{arith}
 use borrow.Author.Tests.{le-ltb}
@@ -18,7 +18,7 @@ use Rattle.word_needs.specs.Promise.{farthest, ReachAtMost, Needs, words
 use Rattle.word_needs.specs.steps.Walk.{walkWord}
 use Rattle.word_needs.proofs.Fixing.{all-fix, needed-is, needed-only}
 use Rattle.word_needs.proofs.Walk.{walk-is, needed-some, walk-word-most, six-fix}
-use Rattle.word_needs.proofs.Starts.{needed-bit, most-from, most-bound, first-word, words-are}
+use Rattle.word_needs.proofs.Starts.{needed-bit, most-from, most-none, most-bound, first-word, words-are}
 
 -- ---- the number
 
@@ -84,8 +84,9 @@ pub words-make : (b : Bool) (ds : List Two) → wordsBits (wordStarts b ds) ≡ 
 words-make b ds = words-are b ds
 
 -- the most that any of them needs
-pub most-it : (b : Bool) (d : Two) (ds : List Two) → Most b (d ∷ ds) (mostNeeded b (d ∷ ds))
-most-it b d ds =
+pub most-it : (b : Bool) (ds : List Two) → 0 < length ds → Most b ds (mostNeeded b ds)
+most-it b [] h = absurd (omega arith)
+most-it b (d ∷ ds) h =
     let m = first-word b d ds in
     let s = startAt b (d ∷ ds) (m .index) in
     record {
@@ -98,12 +99,18 @@ pub only-most : (b : Bool) (ds : List Two) (j k : ℕ) → Most b ds j → Most 
 only-most b ds j k p q =
     omega (arith, q .bound (p .met .0) (p .met .1 .0) j (p .met .1 .1), p .bound (q .met .0) (q .met .1 .0) k (q .met .1 .1))
 
--- it is the same after both bits, and 12 bits at most
+-- it is the same after both bits, 2 bits at least and 12 at most
 pub most-bit-before : (b c : Bool) (ds : List Two) → mostNeeded b ds ≡ mostNeeded c ds
 most-bit-before b c ds = most-from ds 0 b c
 
-pub most-twelve : (b : Bool) (d : Two) (ds : List Two) → 2 * mostNeeded b (d ∷ ds) ≤ farthest
-most-twelve b d ds =
+pub most-two : (b : Bool) (ds : List Two) → 0 < length ds → 2 ≤ 2 * mostNeeded b ds
+unfolding startsFrom most
+most-two b [] h = absurd (omega arith)
+most-two b (d ∷ ds) h = omega (arith, needed-some b d ds, most-bound (wordStarts b (d ∷ ds)) 0 (omega arith))
+
+pub most-twelve : (b : Bool) (ds : List Two) → 2 * mostNeeded b ds ≤ farthest
+most-twelve b [] = omega (arith, most-none b)
+most-twelve b (d ∷ ds) =
     let m = first-word b d ds in
     let s = startAt b (d ∷ ds) (m .index) in
     omega (arith, m .needs, needs-twelve (s .bit) (s .left))
@@ -114,7 +121,7 @@ unfolding startsFrom most
 most-met b more =
     omega (
       arith,
-      most-twelve b d11 (d01 ∷ d11 ∷ d00 ∷ d00 ∷ d01 ∷ more),
+      most-twelve b (pairs meeting ++ more),
       bound-met b more,
       most-bound (wordStarts b (pairs meeting ++ more)) 0 (omega arith),
     )

@@ -58,7 +58,7 @@ module _ (b : Bool) where
       given : (es : List Two) → take (length l) es ≡ take (length l) (l ++ rest) → wordBits b es ≡ bits (f .row b .groups)
       given es front =
           let whole : l ++ drop (length l) es ≡ es =
-              ap (λ (k : List Two). k ++ drop (length l) es) (sym (front ∙ take-at l rest (length l) refl)) ∙ take-append-drop (length l) es
+          ap (λ (k : List Two). k ++ drop (length l) es) (sym (front ∙ take-at l rest (length l) refl)) ∙ take-append-drop (length l) es
           in
           ap (wordBits b) (sym whole) ∙ ap (λ (r : Row). bits (r .groups)) (f .taken b (drop (length l) es))
 
@@ -202,11 +202,11 @@ module _ (b : Bool) (ds es : List Two) (same : take 6 ds ≡ take 6 es) where
   by-front f =
       let n = length (f .front) in
       let begins : take n es ≡ f .front =
-          sym (take-take n 6 es (f .six))
-          ∙ ap (take n) (sym same)
-          ∙ take-take n 6 ds (f .six)
-          ∙ ap (take n) (sym (f .split))
-          ∙ take-at (f .front) (f .rest) n refl
+      sym (take-take n 6 es (f .six))
+      ∙ ap (take n) (sym same)
+      ∙ take-take n 6 ds (f .six)
+      ∙ ap (take n) (sym (f .split))
+      ∙ take-at (f .front) (f .rest) n refl
       in
       let whole : f .front ++ drop n es ≡ es = ap (λ (l : List Two). l ++ drop n es) (sym begins) ∙ take-append-drop n es in
       ap (wordBits b) (sym (f .split))

@@ -1,0 +1,4 @@
+-- How far ahead the modulator reads in a frame.
+pub mod Counting
+pub mod Outcome
+pub mod Statements

@@ -1,0 +1,68 @@
+-- `most_pairs` meets its contract: word by word (Counting). Assumes nothing.
+use Prim.Native.Nat.{_-_}
+use native.Mathlib.Omega.{arith}
+use Rattle.modulation.specs.Bits.{pairs}
+use Rattle.modulation.specs.steps.Words.{bitsIn}
+use Rattle.word_walk.proofs.Pairs.{pair-count}
+use Rattle.look_ahead.proofs.Counting.{Counting, counting-none, count-some, count-most, counting-more, counting-all, counting-six}
+use borrow.Author.Needs.{needs}
+use Rattle.look_ahead.proofs.most_pairs.Statement.{statement}
+use Rattle.look_ahead.proofs.most_pairs.Tie as tie
+
+abbrev Inv-loop : tie.InvT-loop
+Inv-loop words most₀ p₀ most p = Counting (pairs (bitsIn words)) most p
+
+abbrev μ-loop : tie.MeasureT-loop
+μ-loop words most₀ p₀ most p = 634 - p
+
+loop-holds : tie.Need-loop-holds Inv-loop μ-loop
+loop-holds c = counting-none (pairs (bitsIn (c .args .words .now)))
+
+word-at-requires : tie.Need-word-at-requires Inv-loop μ-loop
+word-at-requires c κs = search needs
+
+larger-requires : tie.Need-larger-requires Inv-loop μ-loop
+larger-requires c κs = search needs
+
+add-p : tie.Need-add-p Inv-loop μ-loop
+add-p c =
+    let word = c .before .before in
+    let at = word .before .before in
+    let ws = at .before .args .words .now in
+    omega (arith, count-most (pairs (bitsIn ws)) (pair-count ws) (at .loop .most) (at .loop .p) (at .loop .inv) (search needs) (word .word-at .result .needs) (word .word-at .result .size) (c .before .larger .result) (word .word-at .ensures) (c .before .larger .ensures))
+
+loop-less : tie.Need-loop-less Inv-loop μ-loop
+loop-less c =
+    let word = c .before .before in
+    let at = word .before .before in
+    let ws = at .before .args .words .now in
+    omega (arith, count-some (pairs (bitsIn ws)) (pair-count ws) (at .loop .most) (at .loop .p) (at .loop .inv) (search needs) (word .word-at .result .needs) (word .word-at .result .size) (c .before .larger .result) (word .word-at .ensures) (c .before .larger .ensures))
+
+loop-again : tie.Need-loop-again Inv-loop μ-loop
+loop-again c =
+    let word = c .before .before in
+    let at = word .before .before in
+    let ws = at .before .args .words .now in
+    counting-more (pairs (bitsIn ws)) (pair-count ws) (at .loop .most) (at .loop .p) (at .loop .inv) (search needs) (word .word-at .result .needs) (word .word-at .result .size) (c .before .larger .result) (word .word-at .ensures) (c .before .larger .ensures)
+
+returns : tie.Need-returns Inv-loop μ-loop
+returns c =
+    let at = c .before in
+    let ws = at .before .args .words .now in
+    let most = at .loop .most in
+    let p = at .loop .p in
+    (counting-six (pairs (bitsIn ws)) (pair-count ws) most p (at .loop .inv) (search needs), counting-all (pairs (bitsIn ws)) (pair-count ws) most p (at .loop .inv) (search needs))
+
+pub most-pairs-spec : {M : Type 1} → statement M
+most-pairs-spec =
+    tie.close
+    (tie.spec
+    Inv-loop
+    μ-loop
+    loop-holds
+    word-at-requires
+    larger-requires
+    add-p
+    loop-less
+    loop-again
+    returns)
