@@ -18,66 +18,37 @@ pub struct Word {
     pub size: usize,
 }
 
-// The pairs that wait for more are numbered: none, 00, 0000, 000000, 000010, 11, 1101, 110111, 11011100, 1101110000. At 4 times their number
-// and the next pair: what waits then, or 10 and the pairs of the word, which is fixed.
-const TOLD: [u8; 40] = [
-    1,
-    11,
-    11,
-    5,
-    2,
-    12,
-    12,
-    12,
-    3,
-    13,
-    4,
-    13,
-    14,
-    13,
-    13,
-    13,
-    14,
-    13,
-    13,
-    13,
-    11,
-    6,
-    11,
-    11,
-    11,
-    11,
-    11,
-    7,
-    8,
-    13,
-    11,
-    11,
-    9,
-    11,
-    13,
-    13,
-    13,
-    13,
-    11,
-    11,
+// The pairs that wait for more are numbered: none, 00, 0000, 000000, 000010, 11, 1101, 110111, 11011100, 1101110000. For each the next pair
+// tells what waits then, or 10 and the pairs of the word, which is fixed.
+const TOLD: [[usize; 4]; 10] = [
+    [1, 11, 11, 5],
+    [2, 12, 12, 12],
+    [3, 13, 4, 13],
+    [14, 13, 13, 13],
+    [14, 13, 13, 13],
+    [11, 6, 11, 11],
+    [11, 11, 11, 7],
+    [8, 13, 11, 11],
+    [9, 11, 13, 13],
+    [13, 13, 11, 11],
 ];
 
 // The pairs of the word where the frame ends with those that wait.
-const ENDED: [u8; 10] = [0, 1, 2, 3, 3, 1, 1, 1, 1, 3];
+const ENDED: [usize; 10] = [0, 1, 2, 3, 3, 1, 1, 1, 1, 3];
 
 fn told(waits: usize, pair: usize) -> usize
     requires { ⌜ (waits < 10) × (pair < 4) ⌝ }
     ensures { λ r. ⌜ r ≡ toldNumber (told (waitAt waits) (twoOf pair)) ⌝ }
 {
-    TOLD[4 * waits + pair] as usize
+    let by_pair = TOLD[waits];
+    by_pair[pair]
 }
 
 fn ended(waits: usize) -> usize
     requires { ⌜ waits < 10 ⌝ }
     ensures { λ r. ⌜ r ≡ ended (waitAt waits) ⌝ }
 {
-    ENDED[waits] as usize
+    ENDED[waits]
 }
 
 // Pair p of a frame.
