@@ -1,11 +1,11 @@
 -- Document 02, W-212: number, place and bits of every frame. Assumes nothing.
 use mathlib.Core.Path.{_≡_, refl, sym, ap, subst, _∙_}
 use mathlib.Core.Bool.{Bool, true, false, cond}
-use mathlib.Core.List.{List}
+use mathlib.Core.List.{List, _++_}
 use Prim.Native.Nat.{ℕ, _*_, _<_, _≤_}
 use native.Mathlib.Decide.{decLt, ℕ-discrete}
 use native.Mathlib.Omega.{arith}
-use lib.ListN.{length}
+use lib.ListN.{length, take, drop, take-append-drop}
 use Rattle.answer.specs.declared.Answer.the-variants.{Done}
 use Rattle.answer.specs.Answer.{numberOf, placeOf, isDone}
 use Rattle.answer.proofs.Tests.{number-zero}
@@ -17,7 +17,7 @@ use Rattle.frame_bits.specs.FrameBits.{frameBits}
 use Rattle.frame_bits.proofs.FrameBits.{length-frame-bits}
 use Rattle.word_needs.specs.Needed.{mostNeeded}
 use Rattle.word_needs.specs.Promise.{Most}
-use Rattle.word_needs.proofs.Statements.{most-it, most-bit-before, most-two, most-twelve}
+use Rattle.word_needs.proofs.Statements.{most-it, most-bit-before, most-two, most-twelve, meeting, most-met}
 use Rattle.look_ahead.specs.Outcome.{frameAnswer, outcome}
 use Rattle.look_ahead.specs.Promise.{RightFrame, MostBits, ReportsExactly}
 use Rattle.look_ahead.proofs.Outcome.{frame-done, frame-right, frame-21, frame-8}
@@ -57,6 +57,14 @@ module _ (b : Bool) (row : List ℕ) (dc : ℕ) where
       },
       (omega (arith, bits-are, most-two b ds some), omega (arith, bits-are, most-twelve b ds)),
     )
+
+    -- a frame that begins with 110111000001 needs 12 bits
+    pub meets : take 12 (frameBits row dc) ≡ meeting → outcome b row dc .bits ≡ 12
+    unfolding ds
+    meets e =
+        let l = drop 12 (frameBits row dc) in
+        let whole : frameBits row dc ≡ meeting ++ l = sym (take-append-drop 12 (frameBits row dc)) ∙ ap (λ (k : List ℕ). k ++ l) e in
+        bits-are ∙ ap (λ (k : List ℕ). 2 * mostNeeded b (pairs k)) whole ∙ most-met b (pairs l)
 
   -- ---- refused
 
