@@ -53,14 +53,14 @@ larger-assoc l m n =
 -- ---- the loop
 
 -- the words before pair p need `most` at most
-pub record Counting (ds : List Two) (most p : ℕ) : Type 0 where
+pub record MostSoFar (ds : List Two) (most p : ℕ) : Type 0 where
   pub together : (b : Bool) → larger most (mostNeeded b (drop p ds)) ≡ mostNeeded b ds
   pub inside : p ≤ 634
 
-pub counting-none : (ds : List Two) → Counting ds 0 0
+pub counting-none : (ds : List Two) → MostSoFar ds 0 0
 counting-none ds = record { together = λ b. larger-none (mostNeeded b ds) .0; inside = omega arith }
 
-module _ (ds : List Two) (size : length ds ≡ 634) (most p : ℕ) (a : Counting ds most p) where
+module _ (ds : List Two) (size : length ds ≡ 634) (most p : ℕ) (a : MostSoFar ds most p) where
   pub counting-all : 634 ≤ p → (b : Bool) → most ≡ mostNeeded b ds
   counting-all h b =
       sym (larger-none most .1)
@@ -84,7 +84,7 @@ module _ (ds : List Two) (size : length ds ≡ 634) (most p : ℕ) (a : Counting
     pub count-most : p + count ≤ 634
     count-most = omega (arith, ap (λ (v : Walked). v .size) there, size-most (getD ds p d00) (drop (suc p) ds), length-drop (suc p) ds)
 
-    pub counting-more : Counting ds next (p + count)
+    pub counting-more : MostSoFar ds next (p + count)
     counting-more =
         record {
           together = λ b.

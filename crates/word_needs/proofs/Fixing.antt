@@ -22,37 +22,37 @@ use Rattle.word_needs.specs.Promise.{Fixes, Needs}
 module _ (p q r s : Bool) where
   pub all-four : (p && (q && (r && s))) ≡ true → (p ≡ true) × (q ≡ true) × (r ≡ true) × (s ≡ true)
   all-four e =
-      let behind = and-right p (q && (r && s)) e in
-      let last = and-right q (r && s) behind in
-      (and-left p (q && (r && s)) e, and-left q (r && s) behind, and-left r s last, and-right r s last)
+      let rest = and-right p (q && (r && s)) e in
+      let last = and-right q (r && s) rest in
+      (and-left p (q && (r && s)) e, and-left q (r && s) rest, and-left r s last, and-right r s last)
 
   pub four-all : p ≡ true → q ≡ true → r ≡ true → s ≡ true → (p && (q && (r && s))) ≡ true
   four-all e f g h = and-true p (q && (r && s)) e (and-true q (r && s) f (and-true r s g h))
 
 module _ (n : ℕ) (passes : List Two → Bool) where
-  behind : Two → Bool
-  behind d = every n (λ l. passes (d ∷ l))
+  everyBehind : Two → Bool
+  everyBehind d = every n (λ l. passes (d ∷ l))
 
-  fronts : every (suc n) passes ≡ true → (d : Two) → behind d ≡ true
-  unfolding every behind
-  fronts e d00 = all-four (behind d00) (behind d01) (behind d10) (behind d11) e .0
-  fronts e d01 = all-four (behind d00) (behind d01) (behind d10) (behind d11) e .1
-  fronts e d10 = all-four (behind d00) (behind d01) (behind d10) (behind d11) e .2
-  fronts e d11 = all-four (behind d00) (behind d01) (behind d10) (behind d11) e .3
+  fronts : every (suc n) passes ≡ true → (d : Two) → everyBehind d ≡ true
+  unfolding every everyBehind
+  fronts e d00 = all-four (everyBehind d00) (everyBehind d01) (everyBehind d10) (everyBehind d11) e .0
+  fronts e d01 = all-four (everyBehind d00) (everyBehind d01) (everyBehind d10) (everyBehind d11) e .1
+  fronts e d10 = all-four (everyBehind d00) (everyBehind d01) (everyBehind d10) (everyBehind d11) e .2
+  fronts e d11 = all-four (everyBehind d00) (everyBehind d01) (everyBehind d10) (everyBehind d11) e .3
 
 pub every-at : (n : ℕ) (passes : List Two → Bool) → every n passes ≡ true → (l : List Two) → length l ≡ n → passes l ≡ true
-unfolding every behind
+unfolding every everyBehind
 every-at zero passes e [] h = e
 every-at zero passes e (d ∷ l) h = absurd (omega arith)
 every-at (suc n) passes e [] h = absurd (omega arith)
 every-at (suc n) passes e (d ∷ l) h = every-at n (λ l. passes (d ∷ l)) (fronts n passes e d) l (omega arith)
 
 pub every-of : (n : ℕ) (passes : List Two → Bool) → ((l : List Two) → length l ≡ n → passes l ≡ true) → every n passes ≡ true
-unfolding every behind
+unfolding every everyBehind
 every-of zero passes each = each [] refl
 every-of (suc n) passes each =
     let of : (d : Two) → every n (λ l. passes (d ∷ l)) ≡ true = λ d. every-of n (λ l. passes (d ∷ l)) (λ l h. each (d ∷ l) (ap suc h)) in
-    four-all (behind n passes d00) (behind n passes d01) (behind n passes d10) (behind n passes d11) (of d00) (of d01) (of d10) (of d11)
+    four-all (everyBehind n passes d00) (everyBehind n passes d01) (everyBehind n passes d10) (everyBehind n passes d11) (of d00) (of d01) (of d10) (of d11)
 
 -- ---- the test of a number of pairs
 

@@ -13,7 +13,7 @@ use Rattle.modulation.specs.Machine.{Wait, w, w00, w0000, w000000, w000010, w11
 use Rattle.modulation.specs.Bits.{bits}
 use Rattle.modulation.proofs.Machine.{next-000000, next-000010, next-11}
 use Rattle.word_needs.specs.Needed.{rowTaken, wordBits}
-use Rattle.word_needs.specs.steps.Walk.{Told, wait, word, told, ended}
+use Rattle.word_needs.specs.steps.Walk.{Told, wait, word, told, sizeAtEnd}
 
 -- ---- pairs that fix the row
 
@@ -81,80 +81,80 @@ plain-end b (d01 ∷ d11 ∷ d ∷ ds) h = absurd (omega arith)
 -- ---- a pair more
 
 -- how many pairs have to be behind those that wait, so that the frame's end does not decide
-abbrev pub behind : Wait → ℕ
-behind w = 4
-behind w00 = 0
-behind w0000 = 0
-behind w000000 = 0
-behind w000010 = 0
-behind w11 = 3
-behind w1101 = 2
-behind w110111 = 1
-behind w11011100 = 0
-behind w1101110000 = 0
+abbrev pub leftBehind : Wait → ℕ
+leftBehind w = 4
+leftBehind w00 = 0
+leftBehind w0000 = 0
+leftBehind w000000 = 0
+leftBehind w000010 = 0
+leftBehind w11 = 3
+leftBehind w1101 = 2
+leftBehind w110111 = 1
+leftBehind w11011100 = 0
+leftBehind w1101110000 = 0
 
-pub record Waits (s t : Wait) (d : Two) : Type 0 where
+pub record WaitsOn (s t : Wait) (d : Two) : Type 0 where
   pub front : waiting t ≡ waiting s ++ d ∷ []
-  pub less : behind t ≤ behind s - 1
+  pub less : leftBehind t ≤ leftBehind s - 1
 
 -- the same of what a pair more tells
-abbrev pub behindTold : Told → ℕ
-behindTold (wait t) = behind t
-behindTold (word m) = 0
+abbrev pub leftTold : Told → ℕ
+leftTold (wait t) = leftBehind t
+leftTold (word m) = 0
 
 -- what the table tells is so
-abbrev pub Says : Told → Wait → Two → Type 0
-Says (wait t) s d = Waits s t d
-Says (word m) s d = Fixed (waiting s ++ d ∷ []) m
+abbrev pub Tells : Told → Wait → Two → Type 0
+Tells (wait t) s d = WaitsOn s t d
+Tells (word m) s d = Fixed (waiting s ++ d ∷ []) m
 
-waits : {s t : Wait} {d : Two} → waiting t ≡ waiting s ++ d ∷ [] → behind t ≤ behind s - 1 → Waits s t d
-waits e h = record { front = e; less = h }
+waits-on : {s t : Wait} {d : Two} → waiting t ≡ waiting s ++ d ∷ [] → leftBehind t ≤ leftBehind s - 1 → WaitsOn s t d
+waits-on e h = record { front = e; less = h }
 
-pub says : (s : Wait) (d : Two) → Says (told s d) s d
+pub tells : (s : Wait) (d : Two) → Tells (told s d) s d
 unfolding modulateFrom
-says w d00 = waits refl (omega arith)
-says w d01 = always-row 10 (λ b more. refl) refl
-says w d10 = always-row 11 (λ b more. refl) refl
-says w d11 = waits refl (omega arith)
-says w00 d00 = waits refl (omega arith)
-says w00 d01 = always-row 7 (λ b more. refl) refl
-says w00 d10 = always-row 8 (λ b more. refl) refl
-says w00 d11 = always-row 9 (λ b more. refl) refl
-says w0000 d00 = waits refl (omega arith)
-says w0000 d01 = always-row 3 (λ b more. refl) refl
-says w0000 d10 = waits refl (omega arith)
-says w0000 d11 = always-row 5 (λ b more. refl) refl
-says w000000 d00 = always-row 0 (λ b more. refl) refl
-says w000000 d01 = always-row 2 (λ b more. refl) refl
-says w000000 d10 = always-row 2 (λ b more. refl) refl
-says w000000 d11 = always-row 2 (λ b more. refl) refl
-says w000010 d00 = always-row 1 (λ b more. refl) refl
-says w000010 d01 = always-row 4 (λ b more. refl) refl
-says w000010 d10 = always-row 4 (λ b more. refl) refl
-says w000010 d11 = always-row 4 (λ b more. refl) refl
-says w11 d00 = row-of-11 (λ b more. other-11 b more .0)
-says w11 d01 = waits refl (omega arith)
-says w11 d10 = row-of-11 (λ b more. other-11 b more .1)
-says w11 d11 = row-of-11 (λ b more. other-11 b more .2)
-says w1101 d00 = row-of-11 (λ b more. other-1101 b more .0)
-says w1101 d01 = row-of-11 (λ b more. other-1101 b more .1)
-says w1101 d10 = row-of-11 (λ b more. other-1101 b more .2)
-says w1101 d11 = waits refl (omega arith)
-says w110111 d00 = waits refl (omega arith)
-says w110111 d01 = always-row 6 (λ b more. substituted b (d01 ∷ more) refl) refl
-says w110111 d10 = row-of-11 (λ b more. plain b (d10 ∷ more) refl)
-says w110111 d11 = row-of-11 (λ b more. plain b (d11 ∷ more) (next-11 false more))
-says w11011100 d00 = waits refl (omega arith)
-says w11011100 d01 = row-of-11 (λ b more. plain b (d00 ∷ d01 ∷ more) refl)
-says w11011100 d10 = always-row 6 (λ b more. substituted b (d00 ∷ d10 ∷ more) refl) refl
-says w11011100 d11 = always-row 6 (λ b more. substituted b (d00 ∷ d11 ∷ more) refl) refl
-says w1101110000 d00 = always-row 6 (λ b more. substituted b (d00 ∷ d00 ∷ d00 ∷ more) (next-000000 false more)) refl
-says w1101110000 d01 = always-row 6 (λ b more. substituted b (d00 ∷ d00 ∷ d01 ∷ more) refl) refl
-says w1101110000 d10 = row-of-11 (λ b more. plain b (d00 ∷ d00 ∷ d10 ∷ more) (next-000010 false more))
-says w1101110000 d11 = row-of-11 (λ b more. plain b (d00 ∷ d00 ∷ d11 ∷ more) refl)
+tells w d00 = waits-on refl (omega arith)
+tells w d01 = always-row 10 (λ b more. refl) refl
+tells w d10 = always-row 11 (λ b more. refl) refl
+tells w d11 = waits-on refl (omega arith)
+tells w00 d00 = waits-on refl (omega arith)
+tells w00 d01 = always-row 7 (λ b more. refl) refl
+tells w00 d10 = always-row 8 (λ b more. refl) refl
+tells w00 d11 = always-row 9 (λ b more. refl) refl
+tells w0000 d00 = waits-on refl (omega arith)
+tells w0000 d01 = always-row 3 (λ b more. refl) refl
+tells w0000 d10 = waits-on refl (omega arith)
+tells w0000 d11 = always-row 5 (λ b more. refl) refl
+tells w000000 d00 = always-row 0 (λ b more. refl) refl
+tells w000000 d01 = always-row 2 (λ b more. refl) refl
+tells w000000 d10 = always-row 2 (λ b more. refl) refl
+tells w000000 d11 = always-row 2 (λ b more. refl) refl
+tells w000010 d00 = always-row 1 (λ b more. refl) refl
+tells w000010 d01 = always-row 4 (λ b more. refl) refl
+tells w000010 d10 = always-row 4 (λ b more. refl) refl
+tells w000010 d11 = always-row 4 (λ b more. refl) refl
+tells w11 d00 = row-of-11 (λ b more. other-11 b more .0)
+tells w11 d01 = waits-on refl (omega arith)
+tells w11 d10 = row-of-11 (λ b more. other-11 b more .1)
+tells w11 d11 = row-of-11 (λ b more. other-11 b more .2)
+tells w1101 d00 = row-of-11 (λ b more. other-1101 b more .0)
+tells w1101 d01 = row-of-11 (λ b more. other-1101 b more .1)
+tells w1101 d10 = row-of-11 (λ b more. other-1101 b more .2)
+tells w1101 d11 = waits-on refl (omega arith)
+tells w110111 d00 = waits-on refl (omega arith)
+tells w110111 d01 = always-row 6 (λ b more. substituted b (d01 ∷ more) refl) refl
+tells w110111 d10 = row-of-11 (λ b more. plain b (d10 ∷ more) refl)
+tells w110111 d11 = row-of-11 (λ b more. plain b (d11 ∷ more) (next-11 false more))
+tells w11011100 d00 = waits-on refl (omega arith)
+tells w11011100 d01 = row-of-11 (λ b more. plain b (d00 ∷ d01 ∷ more) refl)
+tells w11011100 d10 = always-row 6 (λ b more. substituted b (d00 ∷ d10 ∷ more) refl) refl
+tells w11011100 d11 = always-row 6 (λ b more. substituted b (d00 ∷ d11 ∷ more) refl) refl
+tells w1101110000 d00 = always-row 6 (λ b more. substituted b (d00 ∷ d00 ∷ d00 ∷ more) (next-000000 false more)) refl
+tells w1101110000 d01 = always-row 6 (λ b more. substituted b (d00 ∷ d00 ∷ d01 ∷ more) refl) refl
+tells w1101110000 d10 = row-of-11 (λ b more. plain b (d00 ∷ d00 ∷ d10 ∷ more) (next-000010 false more))
+tells w1101110000 d11 = row-of-11 (λ b more. plain b (d00 ∷ d00 ∷ d11 ∷ more) refl)
 
 -- the frame ends with those that wait
-pub at-end : (s : Wait) (b : Bool) → length (rowTaken b (waiting s) .pairs) ≡ ended s
+pub at-end : (s : Wait) (b : Bool) → length (rowTaken b (waiting s) .pairs) ≡ sizeAtEnd s
 unfolding modulateFrom
 at-end w b = refl
 at-end w00 b = refl
@@ -208,25 +208,25 @@ opened l x y f g e differ n h =
     given x f b t = ap (wordBits b) (sym (append-assoc l x t)) ∙ ap (λ (r : Row). bits (r .groups)) (f .taken b t)
 
 pub open-front : (n : ℕ) → 0 < n → Open [] n
-unfolding says always-row
-open-front n p = opened [] (d01 ∷ []) (d10 ∷ []) (says w d01) (says w d10) refl (λ b. refl) n (omega arith)
+unfolding tells always-row
+open-front n p = opened [] (d01 ∷ []) (d10 ∷ []) (tells w d01) (tells w d10) refl (λ b. refl) n (omega arith)
 
-pub open-at : (s : Wait) (n : ℕ) → behind s ≤ n → 0 < n → Open (waiting s) n
-unfolding says always-row longer row-of-11
+pub open-at : (s : Wait) (n : ℕ) → leftBehind s ≤ n → 0 < n → Open (waiting s) n
+unfolding tells always-row longer row-of-11
 open-at w n h p = open-front n p
-open-at w00 n h p = opened (waiting w00) (d01 ∷ []) (d10 ∷ []) (says w00 d01) (says w00 d10) refl (λ b. refl) n (omega arith)
-open-at w0000 n h p = opened (waiting w0000) (d01 ∷ []) (d11 ∷ []) (says w0000 d01) (says w0000 d11) refl (λ b. refl) n (omega arith)
-open-at w000000 n h p = opened (waiting w000000) (d00 ∷ []) (d01 ∷ []) (says w000000 d00) (says w000000 d01) refl (λ b. refl) n (omega arith)
-open-at w000010 n h p = opened (waiting w000010) (d00 ∷ []) (d01 ∷ []) (says w000010 d00) (says w000010 d01) refl (λ b. refl) n (omega arith)
+open-at w00 n h p = opened (waiting w00) (d01 ∷ []) (d10 ∷ []) (tells w00 d01) (tells w00 d10) refl (λ b. refl) n (omega arith)
+open-at w0000 n h p = opened (waiting w0000) (d01 ∷ []) (d11 ∷ []) (tells w0000 d01) (tells w0000 d11) refl (λ b. refl) n (omega arith)
+open-at w000000 n h p = opened (waiting w000000) (d00 ∷ []) (d01 ∷ []) (tells w000000 d00) (tells w000000 d01) refl (λ b. refl) n (omega arith)
+open-at w000010 n h p = opened (waiting w000010) (d00 ∷ []) (d01 ∷ []) (tells w000010 d00) (tells w000010 d01) refl (λ b. refl) n (omega arith)
 open-at w11 n h p =
-    opened (waiting w11) (d01 ∷ d11 ∷ d01 ∷ []) (d00 ∷ d00 ∷ d00 ∷ []) (says w110111 d01) (longer (says w11 d00) (d00 ∷ d00 ∷ [])) refl
+    opened (waiting w11) (d01 ∷ d11 ∷ d01 ∷ []) (d00 ∷ d00 ∷ d00 ∷ []) (tells w110111 d01) (longer (tells w11 d00) (d00 ∷ d00 ∷ [])) refl
     (λ b. elim b [ true ↦ refl | false ↦ refl ]) n (omega arith)
 open-at w1101 n h p =
-    opened (waiting w1101) (d11 ∷ d01 ∷ []) (d00 ∷ d00 ∷ []) (says w110111 d01) (longer (says w1101 d00) (d00 ∷ [])) refl
+    opened (waiting w1101) (d11 ∷ d01 ∷ []) (d00 ∷ d00 ∷ []) (tells w110111 d01) (longer (tells w1101 d00) (d00 ∷ [])) refl
     (λ b. elim b [ true ↦ refl | false ↦ refl ]) n (omega arith)
 open-at w110111 n h p =
-    opened (waiting w110111) (d01 ∷ []) (d10 ∷ []) (says w110111 d01) (says w110111 d10) refl (λ b. elim b [ true ↦ refl | false ↦ refl ]) n (omega arith)
+    opened (waiting w110111) (d01 ∷ []) (d10 ∷ []) (tells w110111 d01) (tells w110111 d10) refl (λ b. elim b [ true ↦ refl | false ↦ refl ]) n (omega arith)
 open-at w11011100 n h p =
-    opened (waiting w11011100) (d10 ∷ []) (d01 ∷ []) (says w11011100 d10) (says w11011100 d01) refl (λ b. elim b [ true ↦ refl | false ↦ refl ]) n (omega arith)
+    opened (waiting w11011100) (d10 ∷ []) (d01 ∷ []) (tells w11011100 d10) (tells w11011100 d01) refl (λ b. elim b [ true ↦ refl | false ↦ refl ]) n (omega arith)
 open-at w1101110000 n h p =
-    opened (waiting w1101110000) (d00 ∷ []) (d10 ∷ []) (says w1101110000 d00) (says w1101110000 d10) refl (λ b. elim b [ true ↦ refl | false ↦ refl ]) n (omega arith)
+    opened (waiting w1101110000) (d00 ∷ []) (d10 ∷ []) (tells w1101110000 d00) (tells w1101110000 d10) refl (λ b. elim b [ true ↦ refl | false ↦ refl ]) n (omega arith)

@@ -15,7 +15,7 @@ use Rattle.modulation.specs.Bits.{bits}
 use Rattle.modulation.proofs.Bits.{bits-append}
 use Rattle.modulation.proofs.Fronts.{two-injective, starts-split}
 use Rattle.modulation.proofs.Words.{row-size, drop-behind, some-row}
-use Rattle.word_needs.specs.Needed.{rowTaken, needed, Start, startsFrom, wordStarts, larger, most, mostNeeded}
+use Rattle.word_needs.specs.Needed.{rowTaken, needed, WordStart, startsFrom, wordStarts, larger, most, mostNeeded}
 use Rattle.word_needs.specs.Promise.{nowhere, wordsBits}
 use Rattle.word_needs.specs.steps.Walk.{walkWord}
 use Rattle.word_needs.proofs.Walk.{walk-is}
@@ -95,24 +95,24 @@ pub larger-right : (m n : ℕ) → n ≤ larger m n
 larger-right m n = elim (decLt m n) [ yes h ↦ rw (lt-ltb m n h) (omega arith) | no h ↦ rw (le-ltb m n (omega arith)) (omega arith) ]
 
 -- no word needs more
-pub most-bound : (l : List Start) (i : ℕ) → i < length l → needed (getD l i nowhere .bit) (getD l i nowhere .left) ≤ most l
+pub most-bound : (l : List WordStart) (i : ℕ) → i < length l → needed (getD l i nowhere .bit) (getD l i nowhere .left) ≤ most l
 unfolding most
 most-bound [] i h = absurd (not-suc-le-zero h)
 most-bound (s ∷ l) zero h = larger-left (needed (s .bit) (s .left)) (most l)
 most-bound (s ∷ l) (suc i) h = omega (arith, most-bound l i (le-of-suc-le-suc h), larger-right (needed (s .bit) (s .left)) (most l))
 
 -- and one needs it
-pub record Met (l : List Start) : Type 0 where
+pub record MostMet (l : List WordStart) : Type 0 where
   pub index : ℕ
   pub below : index < length l
   pub needs : needed (getD l index nowhere .bit) (getD l index nowhere .left) ≡ most l
 
-pub most-met : (s : Start) (l : List Start) → Met (s ∷ l)
+pub most-met : (s : WordStart) (l : List WordStart) → MostMet (s ∷ l)
 unfolding most
 most-met s [] = record { index = 0; below = omega arith; needs = rw (le-ltb (needed (s .bit) (s .left)) 0 (omega arith)) refl }
 most-met s (t ∷ l) = either (most-met t l)
   where
-    either : Met (t ∷ l) → Met (s ∷ t ∷ l)
+    either : MostMet (t ∷ l) → MostMet (s ∷ t ∷ l)
     either m =
         let n = needed (s .bit) (s .left) in
         elim (decLt n (most (t ∷ l))) [
@@ -121,7 +121,7 @@ most-met s (t ∷ l) = either (most-met t l)
         ]
 
 -- a frame that is not empty has a first word
-pub first-word : (b : Bool) (d : Two) (ds : List Two) → Met (wordStarts b (d ∷ ds))
+pub first-word : (b : Bool) (d : Two) (ds : List Two) → MostMet (wordStarts b (d ∷ ds))
 unfolding startsFrom
 first-word b d ds =
     let r = rowTaken b (d ∷ ds) in

@@ -14,9 +14,9 @@ use Rattle.modulation.specs.Machine.{Wait, w, w00, w0000, w000000, w000010, w11
 use Rattle.modulation.specs.Bits.{bits}
 use Rattle.word_needs.specs.Needed.{rowTaken, wordBits, needed}
 use Rattle.word_needs.specs.Promise.{Fixes}
-use Rattle.word_needs.specs.steps.Walk.{Told, wait, word, told, ended, Walked, walked, onward, walk, endsPlain, walkWord}
+use Rattle.word_needs.specs.steps.Walk.{Told, wait, word, told, sizeAtEnd, Walked, walked, onward, walk, endsPlain, walkWord}
 use Rattle.word_needs.proofs.Fixing.{all-fix, more-fix, needed-is, needed-only}
-use Rattle.word_needs.proofs.Rows.{Fixed, behind, behindTold, Says, says, at-end, Open, open-front, open-at, plain-end}
+use Rattle.word_needs.proofs.Rows.{Fixed, leftBehind, leftTold, Tells, tells, at-end, Open, open-front, open-at, plain-end}
 
 -- no fewer than n pairs fix the word
 pub record AtLeast (b : Bool) (ds : List Two) (n : ℕ) : Type 0 where
@@ -70,8 +70,8 @@ module _ (b : Bool) where
     long : length (waiting s ++ d ∷ []) ≡ suc (length (waiting s))
     long = omega (arith, length-append (waiting s) (d ∷ []))
 
-    step : (t : Told) → Says t s d → behindTold t ≤ length ds → AtLeast b (waiting s ++ d ∷ ds) (suc (length (waiting s)))
-        → ((u : Wait) → behind u ≤ length ds → AtLeast b (waiting u ++ ds) (length (waiting u)) → Walks b (waiting u ++ ds) (walk u (length (waiting u)) ds))
+    step : (t : Told) → Tells t s d → leftTold t ≤ length ds → AtLeast b (waiting s ++ d ∷ ds) (suc (length (waiting s)))
+        → ((u : Wait) → leftBehind u ≤ length ds → AtLeast b (waiting u ++ ds) (length (waiting u)) → Walks b (waiting u ++ ds) (walk u (length (waiting u)) ds))
         → Walks b (waiting s ++ d ∷ ds) (onward t (length (waiting s)) (λ u. walk u (suc (length (waiting s))) ds))
     step (wait u) y room least on =
         let same : waiting u ++ ds ≡ waiting s ++ d ∷ ds = ap (λ (l : List Two). l ++ ds) (y .front) ∙ snoc in
@@ -91,7 +91,7 @@ module _ (b : Bool) where
             (subst (Fixes b ((waiting s ++ d ∷ []) ++ ds)) long (fixed-fixes (waiting s ++ d ∷ []) m ds y))
 
   -- the frame ends
-  stop : (s : Wait) → AtLeast b (waiting s ++ []) (length (waiting s)) → Walks b (waiting s ++ []) (walked (length (waiting s)) (ended s))
+  stop : (s : Wait) → AtLeast b (waiting s ++ []) (length (waiting s)) → Walks b (waiting s ++ []) (walked (length (waiting s)) (sizeAtEnd s))
   stop s least =
       let none = append-none (waiting s) in
       record {
@@ -101,22 +101,22 @@ module _ (b : Bool) where
         size = ap (λ (l : List Two). length (rowTaken b l .pairs)) none ∙ at-end s b;
       }
 
-  pub walk-from : (ds : List Two) (s : Wait) → behind s ≤ length ds → AtLeast b (waiting s ++ ds) (length (waiting s))
+  pub walk-from : (ds : List Two) (s : Wait) → leftBehind s ≤ length ds → AtLeast b (waiting s ++ ds) (length (waiting s))
       → Walks b (waiting s ++ ds) (walk s (length (waiting s)) ds)
   walk-from [] s h least = stop s least
   walk-from (d ∷ ds) s h least =
-      step s d ds (told s d) (says s d) (room (told s d) (says s d)) (at-least (waiting s) (d ∷ ds) (open-at s (suc (length ds)) h (omega arith)))
+      step s d ds (told s d) (tells s d) (room (told s d) (tells s d)) (at-least (waiting s) (d ∷ ds) (open-at s (suc (length ds)) h (omega arith)))
       (λ u l more. walk-from ds u l more)
     where
-      room : (t : Told) → Says t s d → behindTold t ≤ length ds
+      room : (t : Told) → Tells t s d → leftTold t ≤ length ds
       room (wait u) y = omega (arith, y .less)
       room (word m) y = omega arith
 
   -- ---- the word
 
-  from-front : (d : Two) (ds : List Two) → behindTold (told w d) ≤ length ds → Walks b (d ∷ ds) (walk w 0 (d ∷ ds))
+  from-front : (d : Two) (ds : List Two) → leftTold (told w d) ≤ length ds → Walks b (d ∷ ds) (walk w 0 (d ∷ ds))
   from-front d ds room =
-      step w d ds (told w d) (says w d) room (at-least [] (d ∷ ds) (open-front (suc (length ds)) (omega arith)))
+      step w d ds (told w d) (tells w d) room (at-least [] (d ∷ ds) (open-front (suc (length ds)) (omega arith)))
       (λ u l more. walk-from ds u l more)
 
   -- no word is fixed before its first pair
@@ -181,9 +181,9 @@ pub record Front (ds : List Two) : Type 0 where
 
 front-of : (ds : List Two) (s : Wait) → 6 ≤ length (waiting s) + length ds → Front (waiting s ++ ds)
 front-of [] s h = absurd (omega (arith, waiting-size s))
-front-of (d ∷ ds) s h = one-more (told s d) (says s d) (λ u l. front-of ds u l)
+front-of (d ∷ ds) s h = one-more (told s d) (tells s d) (λ u l. front-of ds u l)
   where
-    one-more : (t : Told) → Says t s d → ((u : Wait) → 6 ≤ length (waiting u) + length ds → Front (waiting u ++ ds)) → Front (waiting s ++ d ∷ ds)
+    one-more : (t : Told) → Tells t s d → ((u : Wait) → 6 ≤ length (waiting u) + length ds → Front (waiting u ++ ds)) → Front (waiting s ++ d ∷ ds)
     one-more (wait u) y on =
         subst Front (ap (λ (l : List Two). l ++ ds) (y .front) ∙ append-assoc (waiting s) (d ∷ []) ds)
         (on u (omega (arith, ap length (y .front), length-append (waiting s) (d ∷ []))))
@@ -235,9 +235,9 @@ module _ (b : Bool) (ds es : List Two) (same : take 6 ds ≡ take 6 es) where
 
 walk-most : (ds : List Two) (s : Wait) → walk s (length (waiting s)) ds .needs ≤ 6
 walk-most [] s = omega (arith, waiting-size s)
-walk-most (d ∷ ds) s = one-more (told s d) (says s d) (λ u. walk-most ds u)
+walk-most (d ∷ ds) s = one-more (told s d) (tells s d) (λ u. walk-most ds u)
   where
-    one-more : (t : Told) → Says t s d → ((u : Wait) → walk u (length (waiting u)) ds .needs ≤ 6)
+    one-more : (t : Told) → Tells t s d → ((u : Wait) → walk u (length (waiting u)) ds .needs ≤ 6)
         → onward t (length (waiting s)) (λ u. walk u (suc (length (waiting s))) ds) .needs ≤ 6
     one-more (wait u) y on =
         subst (λ (n : ℕ). walk u n ds .needs ≤ 6) (ap length (y .front) ∙ omega (arith, length-append (waiting s) (d ∷ []))) (on u)

@@ -39,12 +39,12 @@ needed b ds = first (length ds) (fixedBy b ds)
 -- ---- the words of a frame
 
 -- where a word begins: the bit before it, and the pairs that are left of the frame
-pub record Start : Type 0 where
+pub record WordStart : Type 0 where
   pub bit : Bool
   pub left : List Two
 
 -- the words that begin in ds, of which the first k pairs belong to the word before; b is the bit before
-unfoldable pub startsFrom : List Two → ℕ → Bool → List Start
+unfoldable pub startsFrom : List Two → ℕ → Bool → List WordStart
 startsFrom [] k b = []
 startsFrom (d ∷ ds) (suc k) b = startsFrom ds k b
 startsFrom (d ∷ ds) zero b =
@@ -52,13 +52,13 @@ startsFrom (d ∷ ds) zero b =
     record { bit = b; left = d ∷ ds } ∷ startsFrom ds (length (r .pairs) - 1) (lastBit false (r .groups))
 
 -- the words of the frame with the pairs ds, after the bit b
-abbrev pub wordStarts : Bool → List Two → List Start
+abbrev pub wordStarts : Bool → List Two → List WordStart
 wordStarts b ds = startsFrom ds 0 b
 
 abbrev pub larger : ℕ → ℕ → ℕ
 larger m n = cond (ltb m n) n m
 
-unfoldable pub most : List Start → ℕ
+unfoldable pub most : List WordStart → ℕ
 most [] = 0
 most (s ∷ l) = larger (needed (s .bit) (s .left)) (most l)
 

@@ -6,7 +6,7 @@ use Prim.Native.Nat.{ℕ, _<_, _≤_}
 use lib.ListN.{length, getD, take}
 use Rattle.modulation.specs.Modulation.{Two}
 use Rattle.modulation.specs.Bits.{pairs}
-use Rattle.word_needs.specs.Needed.{wordBits, Start, wordStarts}
+use Rattle.word_needs.specs.Needed.{wordBits, WordStart, wordStarts}
 
 -- how far ahead of its start a word's modulation bits reach, in bits
 abbrev pub farthest : ℕ
@@ -30,15 +30,15 @@ pub record Needs (b : Bool) (ds : List Two) (k : ℕ) : Type 0 where
 -- ---- the words of a frame
 
 -- the words' modulation bits, one behind the other
-unfoldable pub wordsBits : List Start → List ℕ
+unfoldable pub wordsBits : List WordStart → List ℕ
 wordsBits [] = []
 wordsBits (s ∷ l) = wordBits (s .bit) (s .left) ++ wordsBits l
 
 -- where no word begins
-abbrev pub nowhere : Start
+abbrev pub nowhere : WordStart
 nowhere = record { bit = false; left = [] }
 
-abbrev pub startAt : Bool → List Two → ℕ → Start
+abbrev pub startAt : Bool → List Two → ℕ → WordStart
 startAt b ds i = getD (wordStarts b ds) i nowhere
 
 -- no word of the frame needs more than k pairs, and one needs them

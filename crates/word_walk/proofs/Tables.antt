@@ -7,7 +7,7 @@ use Rattle.laws.specs.Tabulate.{tabulate}
 use Rattle.laws.proofs.Tabulate.{getD-tabulate}
 use Rattle.modulation.specs.Machine.{waitAt}
 use Rattle.modulation.specs.steps.Pairs.{twoOf}
-use Rattle.word_needs.specs.steps.Walk.{told, toldNumber, ended}
+use Rattle.word_needs.specs.steps.Walk.{told, toldNumber, sizeAtEnd}
 
 -- ---- what a pair tells
 
@@ -24,12 +24,12 @@ told-is n d hn hd =
 
 -- ---- where the frame ends
 
-unfoldable pub endedAt : ℕ → ℕ
-endedAt k = ended (waitAt k)
+unfoldable pub sizeAtEndOf : ℕ → ℕ
+sizeAtEndOf k = sizeAtEnd (waitAt k)
 
-unfoldable pub endedTable : List ℕ
-endedTable = tabulate 10 endedAt
+unfoldable pub endTable : List ℕ
+endTable = tabulate 10 sizeAtEndOf
 
-pub ended-is : (n : ℕ) → n < 10 → getD endedTable n 0 ≡ ended (waitAt n)
-unfolding endedTable endedAt
-ended-is n h = getD-tabulate 10 endedAt n 0 h
+pub at-end-is : (n : ℕ) → n < 10 → getD endTable n 0 ≡ sizeAtEnd (waitAt n)
+unfolding endTable sizeAtEndOf
+at-end-is n h = getD-tabulate 10 sizeAtEndOf n 0 h

@@ -12,7 +12,7 @@ use lib.Seq.{drop-cons}
 use Rattle.modulation.specs.Modulation.{Two, d00, d01, d10, d11, twoNumber}
 use Rattle.modulation.specs.Machine.{Wait, w, w00, w0000, w000000, w000010, w11, w1101, w110111, w11011100, w1101110000, waitNumber, waitAt}
 use Rattle.modulation.specs.steps.Pairs.{twoOf}
-use Rattle.word_needs.specs.steps.Walk.{Told, wait, word, told, toldNumber, ended, walked, onward, walk, endsPlain, walkWord}
+use Rattle.word_needs.specs.steps.Walk.{Told, wait, word, told, toldNumber, sizeAtEnd, walked, onward, walk, endsPlain, walkWord}
 
 -- ---- numbers of what waits and of pairs
 
@@ -53,9 +53,9 @@ module _ (ds : List Two) (size : length ds ≡ 634) (p waits n : ℕ) (a : Walki
   waits-below = omega (arith, a .number, wait-back (a .state) .1)
 
   -- the frame ends
-  pub walking-ended : 634 ≤ p + n → walked n (ended (waitAt waits)) ≡ walk w 0 (drop p ds)
-  walking-ended h =
-      ap (λ (s : Wait). walked n (ended s)) (ap waitAt (a .number) ∙ wait-back (a .state) .0)
+  pub walking-end : 634 ≤ p + n → walked n (sizeAtEnd (waitAt waits)) ≡ walk w 0 (drop p ds)
+  walking-end h =
+      ap (λ (s : Wait). walked n (sizeAtEnd s)) (ap waitAt (a .number) ∙ wait-back (a .state) .0)
       ∙ sym (a .same ∙ ap (walk (a .state) n) (drop-of-length-le ds {i = p + n} (omega arith)))
 
   -- a pair more

@@ -7,13 +7,13 @@ ghost use Rattle.modulation.specs.Machine.{w, waitAt};
 ghost use Rattle.modulation.specs.Bits.{pairs};
 ghost use Rattle.modulation.specs.steps.Pairs.{twoOf};
 ghost use Rattle.modulation.specs.steps.Words.{bitsIn, Words};
-ghost use Rattle.word_needs.specs.steps.Walk.{told, toldNumber, ended, walk, endsPlain, walkWord};
+ghost use Rattle.word_needs.specs.steps.Walk.{told, toldNumber, sizeAtEnd, walk, endsPlain, walkWord};
 
 // The pairs of a frame's 1,268 bits.
 pub const PAIRS: usize = 634;
 
 // The pairs that a word needs, and those that it has.
-pub struct Word {
+pub struct Walked {
     pub needs: usize,
     pub size: usize,
 }
@@ -34,7 +34,7 @@ const TOLD: [[usize; 4]; 10] = [
 ];
 
 // The pairs of the word where the frame ends with those that wait.
-const ENDED: [usize; 10] = [0, 1, 2, 3, 3, 1, 1, 1, 1, 3];
+const SIZE_AT_END: [usize; 10] = [0, 1, 2, 3, 3, 1, 1, 1, 1, 3];
 
 fn told(waits: usize, pair: usize) -> usize
     requires { ⌜ (waits < 10) × (pair < 4) ⌝ }
@@ -44,11 +44,11 @@ fn told(waits: usize, pair: usize) -> usize
     by_pair[pair]
 }
 
-fn ended(waits: usize) -> usize
+fn size_at_end(waits: usize) -> usize
     requires { ⌜ waits < 10 ⌝ }
-    ensures { λ r. ⌜ r ≡ ended (waitAt waits) ⌝ }
+    ensures { λ r. ⌜ r ≡ sizeAtEnd (waitAt waits) ⌝ }
 {
-    ENDED[waits]
+    SIZE_AT_END[waits]
 }
 
 // Pair p of a frame.
@@ -61,7 +61,7 @@ fn pair_at(words: &[u64; 29], p: usize) -> usize
 }
 
 // From pair p on until the word is fixed, or the frame ends.
-fn walk(words: &[u64; 29], p: usize) -> Word
+fn walk(words: &[u64; 29], p: usize) -> Walked
     requires { ⌜ Words (now words) × (p < 634) ⌝ }
     ensures { λ r. ⌜ record { needs = r .needs; size = r .size } ≡ walk w 0 (drop p (pairs (bitsIn (now (words .entry))))) ⌝ }
 {
@@ -71,16 +71,16 @@ fn walk(words: &[u64; 29], p: usize) -> Word
         let next = told(waits, pair_at(words, p + n));
         n += 1;
         if 10 <= next {
-            return Word {
+            return Walked {
                 needs: n,
                 size: next - 10,
             };
         }
         waits = next;
     }
-    Word {
+    Walked {
         needs: n,
-        size: ended(waits),
+        size: size_at_end(waits),
     }
 }
 
@@ -96,12 +96,12 @@ fn ends_plain(words: &[u64; 29], p: usize) -> bool
 }
 
 // The word that begins at pair p.
-pub fn word_at(words: &[u64; 29], p: usize) -> Word
+pub fn word_at(words: &[u64; 29], p: usize) -> Walked
     requires { ⌜ Words (now words) × (p < 634) ⌝ }
     ensures { λ r. ⌜ record { needs = r .needs; size = r .size } ≡ walkWord (drop p (pairs (bitsIn (now (words .entry))))) ⌝ }
 {
     if ends_plain(words, p) {
-        return Word { needs: 1, size: 1 };
+        return Walked { needs: 1, size: 1 };
     }
     walk(words, p)
 }

@@ -4,13 +4,13 @@ use native.Mathlib.Omega.{arith}
 use Rattle.modulation.specs.Bits.{pairs}
 use Rattle.modulation.specs.steps.Words.{bitsIn}
 use Rattle.word_walk.proofs.Pairs.{pair-count}
-use Rattle.look_ahead.proofs.Counting.{Counting, counting-none, count-some, count-most, counting-more, counting-all, counting-six}
+use Rattle.look_ahead.proofs.Counting.{MostSoFar, counting-none, count-some, count-most, counting-more, counting-all, counting-six}
 use borrow.Author.Needs.{needs}
 use Rattle.look_ahead.proofs.most_pairs.Statement.{statement}
 use Rattle.look_ahead.proofs.most_pairs.Tie as tie
 
 abbrev Inv-loop : tie.InvT-loop
-Inv-loop words most₀ p₀ most p = Counting (pairs (bitsIn words)) most p
+Inv-loop words most₀ p₀ most p = MostSoFar (pairs (bitsIn words)) most p
 
 abbrev μ-loop : tie.MeasureT-loop
 μ-loop words most₀ p₀ most p = 634 - p

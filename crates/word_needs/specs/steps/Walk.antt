@@ -56,17 +56,17 @@ told w1101110000 d10 = word 1
 told w1101110000 d11 = word 1
 
 -- the frame ends with what waits: the word's pairs
-abbrev pub ended : Wait → ℕ
-ended w = 0
-ended w00 = 1
-ended w0000 = 2
-ended w000000 = 3
-ended w000010 = 3
-ended w11 = 1
-ended w1101 = 1
-ended w110111 = 1
-ended w11011100 = 1
-ended w1101110000 = 3
+abbrev pub sizeAtEnd : Wait → ℕ
+sizeAtEnd w = 0
+sizeAtEnd w00 = 1
+sizeAtEnd w0000 = 2
+sizeAtEnd w000000 = 3
+sizeAtEnd w000010 = 3
+sizeAtEnd w11 = 1
+sizeAtEnd w1101 = 1
+sizeAtEnd w110111 = 1
+sizeAtEnd w11011100 = 1
+sizeAtEnd w1101110000 = 3
 
 -- the pairs that a word needs, and those that it has
 pub record Walked : Type 0 where
@@ -82,7 +82,7 @@ onward (word m) n rest = walked (suc n) m
 
 -- n pairs wait, these; ds are behind them
 abbrev pub walk : Wait → ℕ → List Two → Walked
-walk s n [] = walked n (ended s)
+walk s n [] = walked n (sizeAtEnd s)
 walk s n (d ∷ ds) = onward (told s d) n (λ t. walk t (suc n) ds)
 
 -- 11 with two pairs or fewer behind it: it is not substituted, whatever they are

@@ -8,7 +8,7 @@ use Rattle.modulation.specs.Bits.{pairs}
 use Rattle.modulation.specs.steps.Words.{bitsIn}
 use Rattle.word_needs.specs.steps.Walk.{walked}
 use Rattle.word_walk.proofs.Pairs.{pair-count}
-use Rattle.word_walk.proofs.Walking.{Walking, walking-none, waits-below, walking-ended, walking-fixed, walking-more, two-back}
+use Rattle.word_walk.proofs.Walking.{Walking, walking-none, waits-below, walking-end, walking-fixed, walking-more, two-back}
 use borrow.Author.Needs.{needs}
 use Rattle.word_walk.proofs.steps.walk.Statement.{statement}
 use Rattle.word_walk.proofs.steps.walk.Tie as tie
@@ -64,8 +64,8 @@ loop-again c =
     walking-more (pairs (bitsIn ws)) (pair-count ws) (at .before .args .p) (at .loop .waits) (at .loop .n) (at .loop .inv) (search needs)
     (pair .pair-at .result) (told .told .result) (pair .pair-at .ensures) (told .told .ensures) (search needs)
 
-ended-requires : tie.Need-ended-requires Inv-loop μ-loop
-ended-requires c κs =
+size-at-end-requires : tie.Need-size-at-end-requires Inv-loop μ-loop
+size-at-end-requires c κs =
     let at = c .before in
     let ws = at .before .args .words .now in
     waits-below (pairs (bitsIn ws)) (pair-count ws) (at .before .args .p) (at .loop .waits) (at .loop .n) (at .loop .inv)
@@ -74,8 +74,8 @@ returns-2 : tie.Need-returns-2 Inv-loop μ-loop
 returns-2 c =
     let at = c .before .before in
     let ws = at .before .args .words .now in
-    ap (walked (at .loop .n)) (c .ended .ensures)
-    ∙ walking-ended (pairs (bitsIn ws)) (pair-count ws) (at .before .args .p) (at .loop .waits) (at .loop .n) (at .loop .inv) (search needs)
+    ap (walked (at .loop .n)) (c .size-at-end .ensures)
+    ∙ walking-end (pairs (bitsIn ws)) (pair-count ws) (at .before .args .p) (at .loop .waits) (at .loop .n) (at .loop .inv) (search needs)
 
 pub walk-spec : {M : Type 1} → statement M
 walk-spec =
@@ -92,5 +92,5 @@ walk-spec =
     returns
     loop-less
     loop-again
-    ended-requires
+    size-at-end-requires
     returns-2)
