@@ -12,7 +12,7 @@ use Rattle.laws.proofs.Finite.{both, both-left, both-right}
 use Rattle.modulation.specs.Modulation.{Two, twoNumber, Three, m000, m001, m010, m011, m100, m101, m110, m111, threeNumber, starts, Modulated, modulate}
 use Rattle.modulation.specs.steps.Pairs.{twoOf}
 use Rattle.modulation.specs.Machine.{Wait, w, w00, w0000, w000000, w000010, w11, w1101, w110111, w11011100, w1101110000, waitNumber, waitAt, Step, step, stop, put, machine}
-use Rattle.modulation.proofs.Machine.{machine-is}
+use Rattle.modulation.proofs.Machine.{machine-is, wait-back}
 use Rattle.laws.proofs.Booleans.{T-true, true-T, beq-same, implies, given}
 use Rattle.modulation.proofs.Fronts.{three-injective, starts-split}
 use Rattle.automaton.specs.Automaton.{transitions, ends, start, next, valueAdded, ending, stateAfter, numberAfter, accepts, numberRead, onto}
@@ -183,18 +183,6 @@ abbrev moved : Met → Three → Met
 moved m g = at (to m g) (given-now m g .to) (given-now m g .bit) (grown m g % 4 ^ unfed (to m g)) (drop (length (given-now m g .out)) (m .lag ++ g ∷ []))
 
 -- ---- meetings compared
-
-wait-back : (x : Wait) → waitAt (waitNumber x) ≡ x
-wait-back w = refl
-wait-back w00 = refl
-wait-back w0000 = refl
-wait-back w000000 = refl
-wait-back w000010 = refl
-wait-back w11 = refl
-wait-back w1101 = refl
-wait-back w110111 = refl
-wait-back w11011100 = refl
-wait-back w1101110000 = refl
 
 wait-injective : (x y : Wait) → waitNumber x ≡ waitNumber y → x ≡ y
 wait-injective x y e = sym (wait-back x) ∙ ap waitAt e ∙ wait-back y

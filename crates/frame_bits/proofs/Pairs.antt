@@ -4,31 +4,15 @@ use mathlib.Core.Path.{_≡_, refl, sym, ap, ap₂, _∙_}
 use Prim.Native.Nat.{ℕ, zero, suc, _+_, _*_, _/_, _%_, _<_, _≤_}
 use native.Mathlib.Omega.{arith}
 use lib.ListN.{length, getD, take, drop, length-drop}
-use lib.Seq.{ext-getD, getD-take, getD-drop, length-take-le, take-all, take-nil, drop-nil}
+use lib.Seq.{ext-getD, getD-take, getD-drop, length-take-le, take-all}
 use Rattle.laws.specs.Tabulate.{tabulate}
 use Rattle.bits.specs.Bits.{bitsOfNumber}
 use Rattle.bits.proofs.Number.{length-bits-of, getD-bits-of}
 use Rattle.modulation.specs.Modulation.{Two}
 use Rattle.modulation.specs.Bits.{two, pairs}
+use Rattle.modulation.proofs.Bits.{pairs-take, pairs-drop}
 use Rattle.modulation.specs.steps.Pairs.{twoOf, nibblePairs, bytePairs}
 use Rattle.frame_bits.specs.steps.Words.{Word, LastTwo}
-
--- ---- pairs of a part
-
-twice : (n : ℕ) → 2 * suc n ≡ suc (suc (2 * n))
-twice n = omega arith
-
-pub pairs-take : (n : ℕ) (l : List ℕ) → take n (pairs l) ≡ pairs (take (2 * n) l)
-pairs-take zero l = refl
-pairs-take (suc n) [] = ap pairs (sym (take-nil (2 * suc n)))
-pairs-take (suc n) (x ∷ []) = sym (ap (λ (k : ℕ). pairs (take k (x ∷ []))) (twice n) ∙ ap (λ (l : List ℕ). pairs (x ∷ l)) (take-nil (suc (2 * n))))
-pairs-take (suc n) (x ∷ y ∷ l) = ap (λ (m : List Two). two x y ∷ m) (pairs-take n l) ∙ sym (ap (λ (k : ℕ). pairs (take k (x ∷ y ∷ l))) (twice n))
-
-pairs-drop : (n : ℕ) (l : List ℕ) → drop n (pairs l) ≡ pairs (drop (2 * n) l)
-pairs-drop zero l = refl
-pairs-drop (suc n) [] = ap pairs (sym (drop-nil (2 * suc n)))
-pairs-drop (suc n) (x ∷ []) = sym (ap (λ (k : ℕ). pairs (drop k (x ∷ []))) (twice n) ∙ ap pairs (drop-nil (suc (2 * n))))
-pairs-drop (suc n) (x ∷ y ∷ l) = pairs-drop n l ∙ sym (ap (λ (k : ℕ). pairs (drop k (x ∷ y ∷ l))) (twice n))
 
 -- ---- pairs of a number
 

@@ -1,11 +1,15 @@
 -- Document 02, W-212: number, place and bits of every frame. Assumes nothing.
 use mathlib.Core.Path.{_≡_, refl, sym, ap, subst, _∙_}
 use mathlib.Core.Bool.{Bool, true, false, cond}
-use mathlib.Core.List.{List, _++_}
-use Prim.Native.Nat.{ℕ, _*_, _<_, _≤_}
+use mathlib.Core.List.{List, _∷_, _++_}
+use Prim.Native.Nat.{ℕ, _-_, _*_, _<_, _≤_}
 use native.Mathlib.Decide.{decLt, ℕ-discrete}
 use native.Mathlib.Omega.{arith}
-use lib.ListN.{length, take, drop, take-append-drop}
+use lib.ListN.{length, getD, take, drop, take-append-drop}
+use lib.Seq.{ext-getD, getD-take, length-take-le}
+use Rattle.laws.proofs.Finite.{all, equal-below}
+use Rattle.bits.specs.Bits.{bitAt, bitsOf}
+use Rattle.bits.proofs.Bits.{getD-bits}
 use Rattle.answer.specs.declared.Answer.the-variants.{Done}
 use Rattle.answer.specs.Answer.{numberOf, placeOf, isDone}
 use Rattle.answer.proofs.Tests.{number-zero}
@@ -13,11 +17,11 @@ use Rattle.sizes.specs.Sizes.{rowSize}
 use Rattle.modulation.specs.Modulation.{Two}
 use Rattle.modulation.specs.Bits.{pairs}
 use Rattle.modulation.proofs.Bits.{length-pairs}
-use Rattle.frame_bits.specs.FrameBits.{frameBits}
-use Rattle.frame_bits.proofs.FrameBits.{length-frame-bits}
-use Rattle.word_needs.specs.Needed.{mostNeeded}
-use Rattle.word_needs.specs.Promise.{Most}
-use Rattle.word_needs.proofs.Statements.{most-it, most-bit-before, most-two, most-twelve, meeting, most-met}
+use Rattle.frame_bits.specs.FrameBits.{group, frameBits}
+use Rattle.frame_bits.proofs.FrameBits.{length-frame-bits, getD-frame-bits, data-bit}
+use Rattle.word_needs.specs.Needed.{wordStarts, startsFrom, mostNeeded}
+use Rattle.word_needs.specs.Promise.{startAt, Most}
+use Rattle.word_needs.proofs.Statements.{most-it, most-bit-before, most-two, most-twelve, meeting, met-in-frame}
 use Rattle.look_ahead.specs.Outcome.{frameAnswer, outcome}
 use Rattle.look_ahead.specs.Promise.{RightFrame, MostBits, ReportsExactly}
 use Rattle.look_ahead.proofs.Outcome.{frame-done, frame-right, frame-21, frame-8}
@@ -58,13 +62,15 @@ module _ (b : Bool) (row : List ℕ) (dc : ℕ) where
       (omega (arith, bits-are, most-two b ds some), omega (arith, bits-are, most-twelve b ds)),
     )
 
-    -- a frame that begins with 110111000001 needs 12 bits
-    pub meets : take 12 (frameBits row dc) ≡ meeting → outcome b row dc .bits ≡ 12
+    twice : {n : ℕ} → 2 * mostNeeded b (pairs (frameBits row dc)) ≡ n → outcome b row dc .bits ≡ n
     unfolding ds
-    meets e =
-        let l = drop 12 (frameBits row dc) in
-        let whole : frameBits row dc ≡ meeting ++ l = sym (take-append-drop 12 (frameBits row dc)) ∙ ap (λ (k : List ℕ). k ++ l) e in
-        bits-are ∙ ap (λ (k : List ℕ). 2 * mostNeeded b (pairs k)) whole ∙ most-met b (pairs l)
+    twice e = bits-are ∙ e
+
+    -- 110111000001 at some word's start: the frame needs 12 bits
+    pub meets : (i : ℕ) → i < length (wordStarts b (pairs (frameBits row dc))) → (more : List Two) → startAt b (pairs (frameBits row dc)) i .left ≡ pairs meeting ++ more
+        → outcome b row dc .bits ≡ 12
+    unfolding ds
+    meets i h more e = bits-are ∙ met-in-frame b ds i h more e
 
   -- ---- refused
 
@@ -99,3 +105,34 @@ module _ (b : Bool) (row : List ℕ) (dc : ℕ) where
     where
       accepted : numberOf (outcome b row dc .answer) ≡ 0 → RightFrame (length row) dc
       accepted e = frame-done (length row) dc (ap isDone (sym answer-is ∙ number-zero (outcome b row dc .answer) e))
+
+-- ---- a frame that meets the bound: its bytes begin DCh, 10h
+
+module _ (l : List ℕ) (dc : ℕ) where
+  abbrev shown : List ℕ
+  shown = 0xDC ∷ 0x10 ∷ l
+
+  front : take 12 (frameBits shown dc) ≡ meeting
+  unfolding all
+  front =
+      let long : length (take 12 (frameBits shown dc)) ≡ 12 = length-take-le 12 (frameBits shown dc) (omega (arith, length-frame-bits shown dc)) in
+      ext-getD 0 (take 12 (frameBits shown dc)) meeting long (λ j h. at j (omega (arith, long)))
+    where
+      at : (j : ℕ) → j < 12 → getD (take 12 (frameBits shown dc)) j 0 ≡ getD meeting j 0
+      at j h =
+          let same : j - group j ≡ j = omega arith in
+          getD-take 12 (frameBits shown dc) j 0 h
+          ∙ getD-frame-bits shown dc j (omega arith)
+          ∙ data-bit shown dc j (λ e. omega arith)
+          ∙ ap (λ (k : ℕ). getD (bitsOf shown) k 0) same
+          ∙ getD-bits shown j (omega arith)
+          ∙ equal-below 12 (bitAt shown) (λ k. getD meeting k 0) tt j h
+
+  pub shown-needs-12 : (b : Bool) → RightFrame (length shown) dc → outcome b shown dc .bits ≡ 12
+  unfolding startsFrom
+  shown-needs-12 b right =
+      let more = drop 12 (frameBits shown dc) in
+      let whole : pairs (frameBits shown dc) ≡ pairs meeting ++ pairs more =
+      ap pairs (sym (take-append-drop 12 (frameBits shown dc)) ∙ ap (λ (k : List ℕ). k ++ more) front)
+      in
+      twice b shown dc right (ap (λ (ds : List Two). 2 * mostNeeded b ds) whole ∙ met-in-frame b (pairs meeting ++ pairs more) 0 (omega arith) (pairs more) refl)

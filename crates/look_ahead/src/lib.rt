@@ -2,13 +2,13 @@
 use answer::Answer;
 ghost use mathlib.Core.Bool.{Bool};
 ghost use mathlib.Core.Path.{_≡_};
-ghost use Prim.Native.Nat.{_*_, _≤_};
+ghost use Prim.Native.Nat.{_*_, _≤_, max};
 ghost use lib.ListN.{length};
 ghost use Rattle.sizes.specs.Sizes.{rowSize};
 ghost use Rattle.modulation.specs.Bits.{pairs};
 ghost use Rattle.modulation.specs.steps.Words.{bitsIn, Words};
 ghost use Rattle.frame_bits.specs.FrameBits.{frameBits};
-ghost use Rattle.word_needs.specs.Needed.{larger, mostNeeded};
+ghost use Rattle.word_needs.specs.Needed.{mostNeeded};
 ghost use Rattle.look_ahead.specs.Outcome.{dcAnswer, frameAnswer, outcome};
 
 // What is answered, and the most bits that any word of the frame needs, 0 under a refusal.
@@ -17,8 +17,8 @@ pub struct Ahead {
     pub bits: u32,
 }
 
-fn larger(m: usize, n: usize) -> usize
-    ensures { λ r. ⌜ r ≡ larger m n ⌝ }
+fn max(m: usize, n: usize) -> usize
+    ensures { λ r. ⌜ r ≡ max m n ⌝ }
 {
     if m < n {
         return n;
@@ -35,7 +35,7 @@ fn most_pairs(words: &[u64; 29]) -> usize
     let mut p = 0;
     while p < word_walk::steps::PAIRS {
         let word = word_walk::steps::word_at(words, p);
-        most = larger(most, word.needs);
+        most = max(most, word.needs);
         p += word.size;
     }
     most
@@ -68,8 +68,8 @@ fn judge(size: usize, dc: u32) -> Answer
     row.and_then(judge_dc(dc))
 }
 
-// The most bits that any word of a frame needs, the frame given by its 155 bytes and dc word. 0, or 21 for other than 155 bytes, then 8 for a
-// dc word above 0FFFFFFFh; the number of bits is then 0. It is the same for both values of the bit before the frame.
+// The most bits that any word of a frame needs, the frame given by its 155 bytes and dc word. The answer is 0, 21 for other than 155 bytes,
+// else 8 for a dc word above 0FFFFFFFh; under 21 and 8 the number of bits is 0. It is the same for both values of the bit before the frame.
 pub fn most_needed(row: &[u8], dc: u32) -> Ahead
     ensures { λ r. ⌜ ((b : Bool) → record { answer = r .answer; bits = r .bits } ≡ outcome b (now (row .entry)) dc) ⌝ }
 {

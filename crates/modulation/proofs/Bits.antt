@@ -3,7 +3,7 @@ use mathlib.Core.List.{List, [], _∷_, _++_}
 use mathlib.Core.Path.{_≡_, refl, sym, ap, ap₂, _∙_}
 use Prim.Native.Nat.{ℕ, zero, suc, _+_, _*_, _<_, _/_, _%_}
 use native.Mathlib.Omega.{arith}
-use lib.ListN.{length, take, drop}
+use lib.ListN.{length, getD, take, drop}
 use lib.Seq.{take-nil, drop-nil}
 use Rattle.laws.proofs.Finite.{all, all₂, equal-below₂}
 use Rattle.bits.specs.Bits.{Bits, threeOf}
@@ -72,6 +72,35 @@ pairs-dataBits (d ∷ ds) = ap₂ _∷_ (two-back d) (pairs-dataBits ds)
 pub two-number : (x y : ℕ) → x < 2 → y < 2 → twoNumber (two x y) ≡ 2 * x + y
 unfolding all all₂
 two-number x y hx hy = equal-below₂ 2 2 (λ x y. twoNumber (two x y)) (λ x y. 2 * x + y) tt x y hx hy
+
+-- ---- pairs of a part
+
+twice : (n : ℕ) → 2 * suc n ≡ suc (suc (2 * n))
+twice n = omega arith
+
+pub pairs-take : (n : ℕ) (l : List ℕ) → take n (pairs l) ≡ pairs (take (2 * n) l)
+pairs-take zero l = refl
+pairs-take (suc n) [] = ap pairs (sym (take-nil (2 * suc n)))
+pairs-take (suc n) (x ∷ []) = sym (ap (λ (k : ℕ). pairs (take k (x ∷ []))) (twice n) ∙ ap (λ (l : List ℕ). pairs (x ∷ l)) (take-nil (suc (2 * n))))
+pairs-take (suc n) (x ∷ y ∷ l) = ap (λ (m : List Two). two x y ∷ m) (pairs-take n l) ∙ sym (ap (λ (k : ℕ). pairs (take k (x ∷ y ∷ l))) (twice n))
+
+pub pairs-drop : (n : ℕ) (l : List ℕ) → drop n (pairs l) ≡ pairs (drop (2 * n) l)
+pairs-drop zero l = refl
+pairs-drop (suc n) [] = ap pairs (sym (drop-nil (2 * suc n)))
+pairs-drop (suc n) (x ∷ []) = sym (ap (λ (k : ℕ). pairs (drop k (x ∷ []))) (twice n) ∙ ap pairs (drop-nil (suc (2 * n))))
+pairs-drop (suc n) (x ∷ y ∷ l) = pairs-drop n l ∙ sym (ap (λ (k : ℕ). pairs (drop k (x ∷ y ∷ l))) (twice n))
+
+pub getD-pairs : (l : List ℕ) (p : ℕ) → 2 * p + 1 < length l → getD (pairs l) p d00 ≡ two (getD l (2 * p) 0) (getD l (2 * p + 1) 0)
+getD-pairs [] p h = absurd (omega arith)
+getD-pairs (x ∷ []) p h = absurd (omega arith)
+getD-pairs (x ∷ y ∷ l) zero h = refl
+getD-pairs (x ∷ y ∷ l) (suc p) h =
+    let even : suc (suc (2 * p)) ≡ 2 * suc p = omega arith in
+    let odd : suc (suc (2 * p + 1)) ≡ 2 * suc p + 1 = omega arith in
+    getD-pairs l p (omega arith)
+    ∙ ap₂ two (ap (λ (k : ℕ). getD (x ∷ y ∷ l) k 0) even) (ap (λ (k : ℕ). getD (x ∷ y ∷ l) k 0) odd)
+
+-- ---- and back
 
 -- an even number of bits comes back from its pairs
 pub dataBits-pairs : (l : List ℕ) → length l % 2 ≡ 0 → Bits l → dataBits (pairs l) ≡ l

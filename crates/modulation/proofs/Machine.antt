@@ -2,8 +2,10 @@
 use mathlib.Core.Bool.{Bool, true, false, true≢false}
 use mathlib.Core.List.{List, [], _∷_, _++_}
 use mathlib.Core.Path.{_≡_, refl, ap, _∙_, sym}
+use Prim.Native.Nat.{_<_}
+use native.Mathlib.Omega.{arith}
 use Rattle.modulation.specs.Modulation.{Two, d00, d01, d10, d11, Modulated, startsWith010, modulateFrom, modulate}
-use Rattle.modulation.specs.Machine.{Wait, w, w00, w0000, w000000, w000010, w11, w1101, w110111, w11011100, w1101110000, waiting, plain, substituted, step, stop, put, machine}
+use Rattle.modulation.specs.Machine.{Wait, w, w00, w0000, w000000, w000010, w11, w1101, w110111, w11011100, w1101110000, waiting, waitNumber, waitAt, plain, substituted, step, stop, put, machine}
 
 -- ---- whether the next modulation bits are 010
 
@@ -65,6 +67,32 @@ next-11 true (d10 ∷ ds) = refl
 next-11 false (d10 ∷ ds) = refl
 next-11 true (d11 ∷ ds) = refl
 next-11 false (d11 ∷ ds) = refl
+
+-- ---- what waits, by its number
+
+pub wait-back : (s : Wait) → waitAt (waitNumber s) ≡ s
+wait-back w = refl
+wait-back w00 = refl
+wait-back w0000 = refl
+wait-back w000000 = refl
+wait-back w000010 = refl
+wait-back w11 = refl
+wait-back w1101 = refl
+wait-back w110111 = refl
+wait-back w11011100 = refl
+wait-back w1101110000 = refl
+
+pub wait-below : (s : Wait) → waitNumber s < 10
+wait-below w = omega arith
+wait-below w00 = omega arith
+wait-below w0000 = omega arith
+wait-below w000000 = omega arith
+wait-below w000010 = omega arith
+wait-below w11 = omega arith
+wait-below w1101 = omega arith
+wait-below w110111 = omega arith
+wait-below w11011100 = omega arith
+wait-below w1101110000 = omega arith
 
 -- ---- the machine gives what the definition gives
 

@@ -31,8 +31,11 @@ fn images() {
     print_answer(Answer::Sector(31));
 }
 
-fn columns() {
+fn frames() {
     print_answer(Answer::WrongRow);
+}
+
+fn columns() {
     print_answer(Answer::WrongColumn);
 }
 
@@ -82,6 +85,7 @@ fn tallies() {
 fn main() {
     lengths_and_psn();
     images();
+    frames();
     columns();
     sheets();
     queues();

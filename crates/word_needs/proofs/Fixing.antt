@@ -20,13 +20,13 @@ use Rattle.word_needs.specs.Promise.{Fixes, Needs}
 -- ---- every list of n pairs
 
 module _ (p q r s : Bool) where
-  pub all-four : (p && (q && (r && s))) ≡ true → (p ≡ true) × (q ≡ true) × (r ≡ true) × (s ≡ true)
+  all-four : (p && (q && (r && s))) ≡ true → (p ≡ true) × (q ≡ true) × (r ≡ true) × (s ≡ true)
   all-four e =
       let rest = and-right p (q && (r && s)) e in
       let last = and-right q (r && s) rest in
       (and-left p (q && (r && s)) e, and-left q (r && s) rest, and-left r s last, and-right r s last)
 
-  pub four-all : p ≡ true → q ≡ true → r ≡ true → s ≡ true → (p && (q && (r && s))) ≡ true
+  four-all : p ≡ true → q ≡ true → r ≡ true → s ≡ true → (p && (q && (r && s))) ≡ true
   four-all e f g h = and-true p (q && (r && s)) e (and-true q (r && s) f (and-true r s g h))
 
 module _ (n : ℕ) (passes : List Two → Bool) where
@@ -107,7 +107,7 @@ module _ (b : Bool) (ds : List Two) where
             let found = first-holds (length ds) (fixedBy b ds) h in
             record {
               fixes = test-fixes _ (omega arith) (found .0);
-              least = λ j below f. absurd (false≢true (sym (found .1 .fails j below) ∙ fixes-test j (omega arith) f));
+              least = λ j below f. false≢true (sym (found .1 .fails j below) ∙ fixes-test j (omega arith) f);
             }
         | no h ↦
             let past : length ds ≤ first (length ds) (fixedBy b ds) = omega arith in
@@ -115,7 +115,7 @@ module _ (b : Bool) (ds : List Two) where
             record {
               fixes = subst (Fixes b ds) (sym end) all-fix;
               least = λ j below f.
-                  absurd (false≢true (sym (first-all (length ds) (fixedBy b ds) past j (omega arith)) ∙ fixes-test j (omega arith) f));
+                  false≢true (sym (first-all (length ds) (fixedBy b ds) past j (omega arith)) ∙ fixes-test j (omega arith) f);
             }
       ]
 

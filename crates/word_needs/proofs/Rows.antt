@@ -3,9 +3,9 @@
 use mathlib.Core.Path.{_≡_, refl, sym, ap, _∙_}
 use mathlib.Core.Bool.{Bool, true, false, cond, false≢true}
 use mathlib.Core.List.{List, [], _∷_, _++_, append-assoc}
-use Prim.Native.Nat.{ℕ, zero, suc, _+_, _-_, _<_, _≤_}
+use Prim.Native.Nat.{ℕ, _+_, _-_, _<_, _≤_}
 use native.Mathlib.Omega.{arith}
-use lib.ListN.{length, length-append}
+use lib.ListN.{length, length-append, replicate, length-replicate}
 use Rattle.laws.specs.Same.{same}
 use Rattle.laws.proofs.Same.{same-refl}
 use Rattle.modulation.specs.Modulation.{Two, d00, d01, d10, d11, Row, rowAt, startsWith010, modulateFrom, modulate}
@@ -13,7 +13,7 @@ use Rattle.modulation.specs.Machine.{Wait, w, w00, w0000, w000000, w000010, w11
 use Rattle.modulation.specs.Bits.{bits}
 use Rattle.modulation.proofs.Machine.{next-000000, next-000010, next-11}
 use Rattle.word_needs.specs.Needed.{rowTaken, wordBits}
-use Rattle.word_needs.specs.steps.Walk.{Told, wait, word, told, sizeAtEnd}
+use Rattle.word_needs.specs.steps.Walk.{Told, wait, wordOf, told, sizeAtEnd}
 
 -- ---- pairs that fix the row
 
@@ -23,7 +23,7 @@ pub record Fixed (l : List Two) (m : ℕ) : Type 0 where
   pub taken : (b : Bool) (more : List Two) → rowTaken b (l ++ more) ≡ row b
   pub size : (b : Bool) → length (row b .pairs) ≡ m
 
-pub longer : {l : List Two} {m : ℕ} → Fixed l m → (k : List Two) → Fixed (l ++ k) m
+longer : {l : List Two} {m : ℕ} → Fixed l m → (k : List Two) → Fixed (l ++ k) m
 longer {l} f k =
     record {
       row = f .row;
@@ -42,14 +42,14 @@ row-of-11 : {l : List Two} → ((b : Bool) (more : List Two) → rowTaken b (l +
 row-of-11 taken = record { row = row-11; taken = taken; size = λ b. elim b [ true ↦ refl | false ↦ refl ] }
 
 -- 110111 where 010 follows, and where it does not
-substituted : (b : Bool) (ds : List Two) → startsWith010 (modulate false ds .groups) ≡ true → rowTaken b (d11 ∷ d01 ∷ d11 ∷ ds) ≡ rowAt 6
+row-substituted : (b : Bool) (ds : List Two) → startsWith010 (modulate false ds .groups) ≡ true → rowTaken b (d11 ∷ d01 ∷ d11 ∷ ds) ≡ rowAt 6
 unfolding modulateFrom
-substituted b ds e = rw e
+row-substituted b ds e = rw e
 
-plain : (b : Bool) (ds : List Two) → startsWith010 (modulate false ds .groups) ≡ false → rowTaken b (d11 ∷ d01 ∷ d11 ∷ ds) ≡ row-11 b
+row-plain : (b : Bool) (ds : List Two) → startsWith010 (modulate false ds .groups) ≡ false → rowTaken b (d11 ∷ d01 ∷ d11 ∷ ds) ≡ row-11 b
 unfolding modulateFrom
-plain true ds e = rw e
-plain false ds e = rw e
+row-plain true ds e = rw e
+row-plain false ds e = rw e
 
 -- 11 before all other pairs
 other-11 : (b : Bool) (ds : List Two) → (rowTaken b (d11 ∷ d00 ∷ ds) ≡ row-11 b) × (rowTaken b (d11 ∷ d10 ∷ ds) ≡ row-11 b) × (rowTaken b (d11 ∷ d11 ∷ ds) ≡ row-11 b)
@@ -75,7 +75,7 @@ plain-end false (d01 ∷ []) h = refl
 plain-end b (d01 ∷ d00 ∷ ds) h = other-1101 b ds .0
 plain-end b (d01 ∷ d01 ∷ ds) h = other-1101 b ds .1
 plain-end b (d01 ∷ d10 ∷ ds) h = other-1101 b ds .2
-plain-end b (d01 ∷ d11 ∷ []) h = plain b [] refl
+plain-end b (d01 ∷ d11 ∷ []) h = row-plain b [] refl
 plain-end b (d01 ∷ d11 ∷ d ∷ ds) h = absurd (omega arith)
 
 -- ---- a pair more
@@ -100,12 +100,12 @@ pub record WaitsOn (s t : Wait) (d : Two) : Type 0 where
 -- the same of what a pair more tells
 abbrev pub leftTold : Told → ℕ
 leftTold (wait t) = leftBehind t
-leftTold (word m) = 0
+leftTold (wordOf m) = 0
 
 -- what the table tells is so
 abbrev pub Tells : Told → Wait → Two → Type 0
 Tells (wait t) s d = WaitsOn s t d
-Tells (word m) s d = Fixed (waiting s ++ d ∷ []) m
+Tells (wordOf m) s d = Fixed (waiting s ++ d ∷ []) m
 
 waits-on : {s t : Wait} {d : Two} → waiting t ≡ waiting s ++ d ∷ [] → leftBehind t ≤ leftBehind s - 1 → WaitsOn s t d
 waits-on e h = record { front = e; less = h }
@@ -141,17 +141,17 @@ tells w1101 d01 = row-of-11 (λ b more. other-1101 b more .1)
 tells w1101 d10 = row-of-11 (λ b more. other-1101 b more .2)
 tells w1101 d11 = waits-on refl (omega arith)
 tells w110111 d00 = waits-on refl (omega arith)
-tells w110111 d01 = always-row 6 (λ b more. substituted b (d01 ∷ more) refl) refl
-tells w110111 d10 = row-of-11 (λ b more. plain b (d10 ∷ more) refl)
-tells w110111 d11 = row-of-11 (λ b more. plain b (d11 ∷ more) (next-11 false more))
+tells w110111 d01 = always-row 6 (λ b more. row-substituted b (d01 ∷ more) refl) refl
+tells w110111 d10 = row-of-11 (λ b more. row-plain b (d10 ∷ more) refl)
+tells w110111 d11 = row-of-11 (λ b more. row-plain b (d11 ∷ more) (next-11 false more))
 tells w11011100 d00 = waits-on refl (omega arith)
-tells w11011100 d01 = row-of-11 (λ b more. plain b (d00 ∷ d01 ∷ more) refl)
-tells w11011100 d10 = always-row 6 (λ b more. substituted b (d00 ∷ d10 ∷ more) refl) refl
-tells w11011100 d11 = always-row 6 (λ b more. substituted b (d00 ∷ d11 ∷ more) refl) refl
-tells w1101110000 d00 = always-row 6 (λ b more. substituted b (d00 ∷ d00 ∷ d00 ∷ more) (next-000000 false more)) refl
-tells w1101110000 d01 = always-row 6 (λ b more. substituted b (d00 ∷ d00 ∷ d01 ∷ more) refl) refl
-tells w1101110000 d10 = row-of-11 (λ b more. plain b (d00 ∷ d00 ∷ d10 ∷ more) (next-000010 false more))
-tells w1101110000 d11 = row-of-11 (λ b more. plain b (d00 ∷ d00 ∷ d11 ∷ more) refl)
+tells w11011100 d01 = row-of-11 (λ b more. row-plain b (d00 ∷ d01 ∷ more) refl)
+tells w11011100 d10 = always-row 6 (λ b more. row-substituted b (d00 ∷ d10 ∷ more) refl) refl
+tells w11011100 d11 = always-row 6 (λ b more. row-substituted b (d00 ∷ d11 ∷ more) refl) refl
+tells w1101110000 d00 = always-row 6 (λ b more. row-substituted b (d00 ∷ d00 ∷ d00 ∷ more) (next-000000 false more)) refl
+tells w1101110000 d01 = always-row 6 (λ b more. row-substituted b (d00 ∷ d00 ∷ d01 ∷ more) refl) refl
+tells w1101110000 d10 = row-of-11 (λ b more. row-plain b (d00 ∷ d00 ∷ d10 ∷ more) (next-000010 false more))
+tells w1101110000 d11 = row-of-11 (λ b more. row-plain b (d00 ∷ d00 ∷ d11 ∷ more) refl)
 
 -- the frame ends with those that wait
 pub at-end : (s : Wait) (b : Bool) → length (rowTaken b (waiting s) .pairs) ≡ sizeAtEnd s
@@ -178,22 +178,13 @@ pub record Open (l : List Two) (n : ℕ) : Type 0 where
   pub unlike : (b : Bool) → wordBits b (l ++ one) ≡ wordBits b (l ++ other) → ⊥
 
 unlike-lists : (k l : List ℕ) → same k l ≡ false → k ≡ l → ⊥
-unlike-lists k l e p = absurd (false≢true (sym e ∙ ap (same k) (sym p) ∙ same-refl k))
-
-filled : ℕ → List Two
-filled zero = []
-filled (suc n) = d01 ∷ filled n
-
-length-filled : (n : ℕ) → length (filled n) ≡ n
-unfolding filled
-length-filled zero = refl
-length-filled (suc n) = ap suc (length-filled n)
+unlike-lists k l e p = false≢true (sym e ∙ ap (same k) (sym p) ∙ same-refl k)
 
 opened : (l x y : List Two) {m k : ℕ} (f : Fixed (l ++ x) m) (g : Fixed (l ++ y) k) → length x ≡ length y
     → ((b : Bool) → same (bits (f .row b .groups)) (bits (g .row b .groups)) ≡ false) → (n : ℕ) → length x ≤ n → Open l n
 opened l x y f g e differ n h =
-    let t = filled (n - length x) in
-    let long = length-filled (n - length x) in
+    let t = replicate (n - length x) d01 in
+    let long = length-replicate (n - length x) d01 in
     record {
       one = x ++ t;
       other = y ++ t;

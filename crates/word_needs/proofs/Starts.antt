@@ -3,11 +3,10 @@
 use mathlib.Core.Path.{_≡_, refl, sym, ap, ap₂, _∙_}
 use mathlib.Core.Bool.{Bool, false}
 use mathlib.Core.List.{List, [], _∷_, _++_}
-use Prim.Native.Nat.{ℕ, zero, suc, _+_, _-_, _<_, _≤_}
+use Prim.Native.Nat.{ℕ, zero, suc, _-_, _<_, _≤_, max}
 use native.Mathlib.Nat.{not-suc-le-zero, le-of-suc-le-suc}
 use native.Mathlib.Decide.{decLt}
 use native.Mathlib.Omega.{arith}
-use borrow.Author.Tests.{lt-ltb, le-ltb}
 use lib.ListN.{length, getD, drop, length-append}
 use Rattle.laws.proofs.Booleans.{and-left}
 use Rattle.modulation.specs.Modulation.{Two, twoNumber, starts, lastBit, modulateFrom, modulate}
@@ -15,7 +14,7 @@ use Rattle.modulation.specs.Bits.{bits}
 use Rattle.modulation.proofs.Bits.{bits-append}
 use Rattle.modulation.proofs.Fronts.{two-injective, starts-split}
 use Rattle.modulation.proofs.Words.{row-size, drop-behind, some-row}
-use Rattle.word_needs.specs.Needed.{rowTaken, needed, WordStart, startsFrom, wordStarts, larger, most, mostNeeded}
+use Rattle.word_needs.specs.Needed.{rowTaken, needed, WordStart, startsFrom, wordStarts, most, mostNeeded}
 use Rattle.word_needs.specs.Promise.{nowhere, wordsBits}
 use Rattle.word_needs.specs.steps.Walk.{walkWord}
 use Rattle.word_needs.proofs.Walk.{walk-is}
@@ -46,7 +45,7 @@ most-from [] k b c = refl
 most-from (d ∷ ds) (suc k) b c = most-from ds k b c
 most-from (d ∷ ds) zero b c =
     let next : Bool → Bool = λ b. lastBit false (rowTaken b (d ∷ ds) .groups) in
-    ap₂ larger (needed-bit b c d ds)
+    ap₂ max (needed-bit b c d ds)
     (most-from ds (length (rowTaken b (d ∷ ds) .pairs) - 1) (next b) (next c)
     ∙ ap (λ (n : ℕ). most (startsFrom ds (n - 1) (next c))) (size-bit b c d ds))
 
@@ -59,6 +58,18 @@ skip [] (suc k) b = refl
 skip (d ∷ ds) zero b = refl
 skip (d ∷ ds) (suc k) b = skip ds k b
 
+-- the next word begins behind the pairs of the first
+pub starts-next : (b : Bool) (d : Two) (ds : List Two)
+    → wordStarts b (d ∷ ds)
+    ≡ record { bit = b; left = d ∷ ds } ∷ wordStarts (lastBit false (rowTaken b (d ∷ ds) .groups)) (drop (length (rowTaken b (d ∷ ds) .pairs)) (d ∷ ds))
+unfolding startsFrom
+starts-next b d ds =
+    let r = rowTaken b (d ∷ ds) in
+    let n = length (r .pairs) in
+    let c = lastBit false (r .groups) in
+    ap (λ (l : List WordStart). record { bit = b; left = d ∷ ds } ∷ l)
+    (skip ds (n - 1) c ∙ ap (wordStarts c) (drop-behind d ds n (row-size (some-row b d ds) .1)))
+
 module _ (d : Two) (ds : List Two) where
   pub size-some : 1 ≤ walkWord (d ∷ ds) .size
   size-some = omega (arith, walk-is false d ds .size, row-size (some-row false d ds) .1)
@@ -70,13 +81,13 @@ module _ (d : Two) (ds : List Two) where
       omega (arith, walk-is false d ds .size, ap length stands, length-append (r .pairs) (drop (length (r .pairs)) (d ∷ ds)))
 
   -- from a word's start on, and from the next
-  pub most-word : (b : Bool) → mostNeeded b (d ∷ ds) ≡ larger (walkWord (d ∷ ds) .needs) (mostNeeded b (drop (walkWord (d ∷ ds) .size) (d ∷ ds)))
+  pub most-word : (b : Bool) → mostNeeded b (d ∷ ds) ≡ max (walkWord (d ∷ ds) .needs) (mostNeeded b (drop (walkWord (d ∷ ds) .size) (d ∷ ds)))
   unfolding startsFrom most
   most-word b =
       let r = rowTaken b (d ∷ ds) in
       let n = length (r .pairs) in
       let is = walk-is b d ds in
-      ap₂ larger (is .needs)
+      ap₂ max (is .needs)
       (most-from ds (n - 1) (lastBit false (r .groups)) b
       ∙ ap most (skip ds (n - 1) b)
       ∙ ap (λ (l : List Two). mostNeeded b l) (drop-behind d ds n (row-size (some-row b d ds) .1))
@@ -88,18 +99,12 @@ pub most-none : (b : Bool) → mostNeeded b [] ≡ 0
 unfolding startsFrom most
 most-none b = refl
 
-pub larger-left : (m n : ℕ) → m ≤ larger m n
-larger-left m n = elim (decLt m n) [ yes h ↦ rw (lt-ltb m n h) (omega arith) | no h ↦ rw (le-ltb m n (omega arith)) (omega arith) ]
-
-pub larger-right : (m n : ℕ) → n ≤ larger m n
-larger-right m n = elim (decLt m n) [ yes h ↦ rw (lt-ltb m n h) (omega arith) | no h ↦ rw (le-ltb m n (omega arith)) (omega arith) ]
-
 -- no word needs more
 pub most-bound : (l : List WordStart) (i : ℕ) → i < length l → needed (getD l i nowhere .bit) (getD l i nowhere .left) ≤ most l
 unfolding most
 most-bound [] i h = absurd (not-suc-le-zero h)
-most-bound (s ∷ l) zero h = larger-left (needed (s .bit) (s .left)) (most l)
-most-bound (s ∷ l) (suc i) h = omega (arith, most-bound l i (le-of-suc-le-suc h), larger-right (needed (s .bit) (s .left)) (most l))
+most-bound (s ∷ l) zero h = omega arith
+most-bound (s ∷ l) (suc i) h = omega (arith, most-bound l i (le-of-suc-le-suc h))
 
 -- and one needs it
 pub record MostMet (l : List WordStart) : Type 0 where
@@ -107,17 +112,16 @@ pub record MostMet (l : List WordStart) : Type 0 where
   pub below : index < length l
   pub needs : needed (getD l index nowhere .bit) (getD l index nowhere .left) ≡ most l
 
-pub most-met : (s : WordStart) (l : List WordStart) → MostMet (s ∷ l)
+some-most : (s : WordStart) (l : List WordStart) → MostMet (s ∷ l)
 unfolding most
-most-met s [] = record { index = 0; below = omega arith; needs = rw (le-ltb (needed (s .bit) (s .left)) 0 (omega arith)) refl }
-most-met s (t ∷ l) = either (most-met t l)
+some-most s [] = record { index = 0; below = omega arith; needs = omega arith }
+some-most s (t ∷ l) = either (some-most t l)
   where
     either : MostMet (t ∷ l) → MostMet (s ∷ t ∷ l)
     either m =
-        let n = needed (s .bit) (s .left) in
-        elim (decLt n (most (t ∷ l))) [
-          | yes h ↦ record { index = suc (m .index); below = omega (arith, m .below); needs = rw (lt-ltb n (most (t ∷ l)) h) (m .needs) }
-          | no h ↦ record { index = 0; below = omega arith; needs = rw (le-ltb n (most (t ∷ l)) (omega arith)) refl }
+        elim (decLt (needed (s .bit) (s .left)) (most (t ∷ l))) [
+          | yes h ↦ record { index = suc (m .index); below = omega (arith, m .below); needs = m .needs ∙ omega arith }
+          | no h ↦ record { index = 0; below = omega arith; needs = omega arith }
         ]
 
 -- a frame that is not empty has a first word
@@ -125,7 +129,7 @@ pub first-word : (b : Bool) (d : Two) (ds : List Two) → MostMet (wordStarts b 
 unfolding startsFrom
 first-word b d ds =
     let r = rowTaken b (d ∷ ds) in
-    most-met (record { bit = b; left = d ∷ ds }) (startsFrom ds (length (r .pairs) - 1) (lastBit false (r .groups)))
+    some-most (record { bit = b; left = d ∷ ds }) (startsFrom ds (length (r .pairs) - 1) (lastBit false (r .groups)))
 
 pub words-are : (b : Bool) (ds : List Two) → wordsBits (wordStarts b ds) ≡ bits (modulate b ds .groups)
 words-are b ds = words-from ds 0 b

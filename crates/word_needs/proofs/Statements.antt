@@ -1,4 +1,5 @@
--- Document 02, W-212: what is promised of the bits that a word needs. Assumes nothing.
+-- Document 02, W-212: what is promised of the bits that a word needs. That their number is the least, and the only such, stands in proofs/Fixing
+-- (`needed-is`, `needed-only`); that the words make the frame, in proofs/Starts (`starts-next`, `words-are`). Assumes nothing.
 use mathlib.Core.Path.{_≡_, refl, sym, ap, subst, _∙_}
 use mathlib.Core.Bool.{Bool, false, true≢false}
 use mathlib.Core.List.{List, [], _∷_, _++_}
@@ -10,24 +11,17 @@ use lib.ListN.{length}
 use Rattle.laws.specs.First.{first}
 use Rattle.laws.specs.Same.{same}
 use Rattle.laws.proofs.Same.{same-refl}
-use Rattle.modulation.specs.Modulation.{Two, d00, d01, d11, modulateFrom, modulate}
+use Rattle.modulation.specs.Modulation.{Two, d00, d01, d11, modulateFrom}
 use Rattle.modulation.specs.Bits.{pairs, bits}
-use Rattle.frame_bits.proofs.Pairs.{pairs-take}
+use Rattle.modulation.proofs.Bits.{pairs-take}
 use Rattle.word_needs.specs.Needed.{wordBits, needed, wordStarts, startsFrom, most, mostNeeded}
-use Rattle.word_needs.specs.Promise.{farthest, ReachAtMost, Needs, wordsBits, startAt, Most}
+use Rattle.word_needs.specs.Promise.{farthest, ReachAtMost, Needs, startAt, Most}
 use Rattle.word_needs.specs.steps.Walk.{walkWord}
 use Rattle.word_needs.proofs.Fixing.{all-fix, needed-is, needed-only}
 use Rattle.word_needs.proofs.Walk.{walk-is, needed-some, walk-word-most, six-fix}
 use Rattle.word_needs.proofs.Starts.{needed-bit, most-from, most-none, most-bound, first-word, words-are}
 
 -- ---- the number
-
--- it is the least that fixes the word, and the only such number
-pub needs-it : (b : Bool) (ds : List Two) → Needs b ds (needed b ds)
-needs-it b ds = needed-is b ds
-
-pub only-it : (b : Bool) (ds : List Two) (k : ℕ) → Needs b ds k → needed b ds ≡ k
-only-it b ds k n = needed-only b ds k n
 
 -- the bit before never matters
 pub bit-before : (b c : Bool) (ds : List Two) → needed b ds ≡ needed c ds
@@ -79,10 +73,6 @@ end-known b = ap (λ (n : ℕ). 2 * n) (walk-is b d11 (d01 ∷ d11 ∷ []) .need
 
 -- ---- the words of a frame
 
--- one behind the other they are its modulation bits
-pub words-make : (b : Bool) (ds : List Two) → wordsBits (wordStarts b ds) ≡ bits (modulate b ds .groups)
-words-make b ds = words-are b ds
-
 -- the most that any of them needs
 pub most-it : (b : Bool) (ds : List Two) → 0 < length ds → Most b ds (mostNeeded b ds)
 most-it b [] h = absurd (omega arith)
@@ -115,13 +105,9 @@ most-twelve b (d ∷ ds) =
     let s = startAt b (d ∷ ds) (m .index) in
     omega (arith, m .needs, needs-twelve (s .bit) (s .left))
 
--- a frame that begins with 110111000001
-pub most-met : (b : Bool) (more : List Two) → 2 * mostNeeded b (pairs meeting ++ more) ≡ farthest
-unfolding startsFrom most
-most-met b more =
-    omega (
-      arith,
-      most-twelve b (pairs meeting ++ more),
-      bound-met b more,
-      most-bound (wordStarts b (pairs meeting ++ more)) 0 (omega arith),
-    )
+-- a frame in which 110111000001 stands at some word's start
+pub met-in-frame : (b : Bool) (ds : List Two) (i : ℕ) → i < length (wordStarts b ds) → (more : List Two) → startAt b ds i .left ≡ pairs meeting ++ more
+    → 2 * mostNeeded b ds ≡ farthest
+met-in-frame b ds i h more e =
+    let s = startAt b ds i in
+    omega (arith, most-twelve b ds, ap (needed (s .bit)) e, bound-met (s .bit) more, most-bound (wordStarts b ds) i h)

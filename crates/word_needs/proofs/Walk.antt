@@ -2,19 +2,19 @@
 -- however long the frame is (`six-fix`). Assumes nothing.
 use mathlib.Core.Path.{_≡_, refl, sym, ap, subst, _∙_}
 use mathlib.Core.Bool.{Bool, true, false, cond}
-use mathlib.Core.List.{List, [], _∷_, _++_, append-assoc}
+use mathlib.Core.List.{List, [], _∷_, _++_, append-assoc, append-nil}
 use Prim.Native.Nat.{ℕ, suc, _+_, _-_, _<_, _≤_}
 use native.Mathlib.Decide.{decLt}
 use native.Mathlib.Omega.{arith}
 use borrow.Author.Tests.{lt-ltb, le-ltb}
-use lib.ListN.{length, take, drop, length-append, take-append-drop}
+use lib.ListN.{length, getD, take, drop, length-append, take-append-drop}
 use lib.Seq.{take-at, take-all, take-take, length-take-le}
 use Rattle.modulation.specs.Modulation.{Two, d00, d01, d10, d11, Row}
 use Rattle.modulation.specs.Machine.{Wait, w, w00, w0000, w000000, w000010, w11, w1101, w110111, w11011100, w1101110000, waiting}
 use Rattle.modulation.specs.Bits.{bits}
 use Rattle.word_needs.specs.Needed.{rowTaken, wordBits, needed}
 use Rattle.word_needs.specs.Promise.{Fixes}
-use Rattle.word_needs.specs.steps.Walk.{Told, wait, word, told, sizeAtEnd, Walked, walked, onward, walk, endsPlain, walkWord}
+use Rattle.word_needs.specs.steps.Walk.{Told, wait, wordOf, told, sizeAtEnd, Walked, walked, onward, walk, endsPlain, walkWord}
 use Rattle.word_needs.proofs.Fixing.{all-fix, more-fix, needed-is, needed-only}
 use Rattle.word_needs.proofs.Rows.{Fixed, leftBehind, leftTold, Tells, tells, at-end, Open, open-front, open-at, plain-end}
 
@@ -26,14 +26,6 @@ pub record AtLeast (b : Bool) (ds : List Two) (n : ℕ) : Type 0 where
 pub record Walks (b : Bool) (ds : List Two) (v : Walked) : Type 0 where
   pub needs : needed b ds ≡ v .needs
   pub size : length (rowTaken b ds .pairs) ≡ v .size
-
-abbrev headOr : List Two → Two
-headOr [] = d00
-headOr (d ∷ l) = d
-
-append-none : (l : List Two) → l ++ [] ≡ l
-append-none [] = refl
-append-none (d ∷ l) = ap (λ (k : List Two). d ∷ k) (append-none l)
 
 module _ (b : Bool) where
   -- pairs behind which it is open do not fix the word
@@ -70,16 +62,16 @@ module _ (b : Bool) where
     long : length (waiting s ++ d ∷ []) ≡ suc (length (waiting s))
     long = omega (arith, length-append (waiting s) (d ∷ []))
 
-    step : (t : Told) → Tells t s d → leftTold t ≤ length ds → AtLeast b (waiting s ++ d ∷ ds) (suc (length (waiting s)))
+    walk-step : (t : Told) → Tells t s d → leftTold t ≤ length ds → AtLeast b (waiting s ++ d ∷ ds) (suc (length (waiting s)))
         → ((u : Wait) → leftBehind u ≤ length ds → AtLeast b (waiting u ++ ds) (length (waiting u)) → Walks b (waiting u ++ ds) (walk u (length (waiting u)) ds))
         → Walks b (waiting s ++ d ∷ ds) (onward t (length (waiting s)) (λ u. walk u (suc (length (waiting s))) ds))
-    step (wait u) y room least on =
+    walk-step (wait u) y room least on =
         let same : waiting u ++ ds ≡ waiting s ++ d ∷ ds = ap (λ (l : List Two). l ++ ds) (y .front) ∙ snoc in
         let count : length (waiting u) ≡ suc (length (waiting s)) = ap length (y .front) ∙ long in
         subst (λ (l : List Two). Walks b l (walk u (suc (length (waiting s))) ds)) same
         (subst (λ (n : ℕ). Walks b (waiting u ++ ds) (walk u n ds)) count
         (on u room (subst (λ (n : ℕ). AtLeast b (waiting u ++ ds) n) (sym count) (subst (λ (l : List Two). AtLeast b l (suc (length (waiting s)))) (sym same) least))))
-    step (word m) y room least on =
+    walk-step (wordOf m) y room least on =
         record {
           needs = needed-only b (waiting s ++ d ∷ ds) (suc (length (waiting s))) (record { fixes = fix; least = least .fewer });
           size = ap (λ (l : List Two). length (rowTaken b l .pairs)) (sym snoc) ∙ ap (λ (r : Row). length (r .pairs)) (y .taken b ds) ∙ y .size b;
@@ -91,9 +83,9 @@ module _ (b : Bool) where
             (subst (Fixes b ((waiting s ++ d ∷ []) ++ ds)) long (fixed-fixes (waiting s ++ d ∷ []) m ds y))
 
   -- the frame ends
-  stop : (s : Wait) → AtLeast b (waiting s ++ []) (length (waiting s)) → Walks b (waiting s ++ []) (walked (length (waiting s)) (sizeAtEnd s))
-  stop s least =
-      let none = append-none (waiting s) in
+  walk-stop : (s : Wait) → AtLeast b (waiting s ++ []) (length (waiting s)) → Walks b (waiting s ++ []) (walked (length (waiting s)) (sizeAtEnd s))
+  walk-stop s least =
+      let none = append-nil (waiting s) in
       record {
         needs =
             needed-only b (waiting s ++ []) (length (waiting s))
@@ -103,20 +95,20 @@ module _ (b : Bool) where
 
   pub walk-from : (ds : List Two) (s : Wait) → leftBehind s ≤ length ds → AtLeast b (waiting s ++ ds) (length (waiting s))
       → Walks b (waiting s ++ ds) (walk s (length (waiting s)) ds)
-  walk-from [] s h least = stop s least
+  walk-from [] s h least = walk-stop s least
   walk-from (d ∷ ds) s h least =
-      step s d ds (told s d) (tells s d) (room (told s d) (tells s d)) (at-least (waiting s) (d ∷ ds) (open-at s (suc (length ds)) h (omega arith)))
+      walk-step s d ds (told s d) (tells s d) (room (told s d) (tells s d)) (at-least (waiting s) (d ∷ ds) (open-at s (suc (length ds)) h (omega arith)))
       (λ u l more. walk-from ds u l more)
     where
       room : (t : Told) → Tells t s d → leftTold t ≤ length ds
       room (wait u) y = omega (arith, y .less)
-      room (word m) y = omega arith
+      room (wordOf m) y = omega arith
 
   -- ---- the word
 
   from-front : (d : Two) (ds : List Two) → leftTold (told w d) ≤ length ds → Walks b (d ∷ ds) (walk w 0 (d ∷ ds))
   from-front d ds room =
-      step w d ds (told w d) (tells w d) room (at-least [] (d ∷ ds) (open-front (suc (length ds)) (omega arith)))
+      walk-step w d ds (told w d) (tells w d) room (at-least [] (d ∷ ds) (open-front (suc (length ds)) (omega arith)))
       (λ u l more. walk-from ds u l more)
 
   -- no word is fixed before its first pair
@@ -141,7 +133,7 @@ module _ (b : Bool) where
           given : (es : List Two) → length es ≡ suc (length ds) → take 1 es ≡ d11 ∷ [] → wordBits b es ≡ wordBits b (d11 ∷ ds)
           given [] long front = absurd (omega arith)
           given (e ∷ es) long front =
-              ap (λ (x : Two). wordBits b (x ∷ es)) (ap (λ (l : List Two). headOr l) front)
+              ap (λ (x : Two). wordBits b (x ∷ es)) (ap (λ (l : List Two). getD l 0 d00) front)
               ∙ ap (λ (r : Row). bits (r .groups)) (plain-end b es (omega arith) ∙ sym (plain-end b ds h))
 
   pub walk-is : (d : Two) (ds : List Two) → Walks b (d ∷ ds) (walkWord (d ∷ ds))
@@ -187,7 +179,7 @@ front-of (d ∷ ds) s h = one-more (told s d) (tells s d) (λ u l. front-of ds u
     one-more (wait u) y on =
         subst Front (ap (λ (l : List Two). l ++ ds) (y .front) ∙ append-assoc (waiting s) (d ∷ []) ds)
         (on u (omega (arith, ap length (y .front), length-append (waiting s) (d ∷ []))))
-    one-more (word m) y on =
+    one-more (wordOf m) y on =
         record {
           front = waiting s ++ d ∷ [];
           rest = ds;
@@ -241,7 +233,7 @@ walk-most (d ∷ ds) s = one-more (told s d) (tells s d) (λ u. walk-most ds u)
         → onward t (length (waiting s)) (λ u. walk u (suc (length (waiting s))) ds) .needs ≤ 6
     one-more (wait u) y on =
         subst (λ (n : ℕ). walk u n ds .needs ≤ 6) (ap length (y .front) ∙ omega (arith, length-append (waiting s) (d ∷ []))) (on u)
-    one-more (word m) y on = omega (arith, waiting-size s)
+    one-more (wordOf m) y on = omega (arith, waiting-size s)
 
 pub walk-word-most : (ds : List Two) → walkWord ds .needs ≤ 6
 walk-word-most ds = elim (endsPlain ds) as (λ x. cond x (walked 1 1) (walk w 0 ds) .needs ≤ 6) [ true ↦ omega arith | false ↦ walk-most ds w ]

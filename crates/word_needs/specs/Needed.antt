@@ -1,8 +1,7 @@
 -- Document 02, W-212: how many bits of a frame, from a word's start on, its modulation bits need. Counted in pairs.
-use mathlib.Core.Bool.{Bool, false, _&&_, cond}
+use mathlib.Core.Bool.{Bool, false, _&&_}
 use mathlib.Core.List.{List, [], _∷_, _++_}
-use Prim.Native.Nat.{ℕ, zero, suc, _-_}
-use lib.Dec.{ltb}
+use Prim.Native.Nat.{ℕ, zero, suc, _-_, max}
 use lib.ListN.{length, take}
 use Rattle.laws.specs.First.{first}
 use Rattle.laws.specs.Same.{same}
@@ -55,12 +54,9 @@ startsFrom (d ∷ ds) zero b =
 abbrev pub wordStarts : Bool → List Two → List WordStart
 wordStarts b ds = startsFrom ds 0 b
 
-abbrev pub larger : ℕ → ℕ → ℕ
-larger m n = cond (ltb m n) n m
-
 unfoldable pub most : List WordStart → ℕ
 most [] = 0
-most (s ∷ l) = larger (needed (s .bit) (s .left)) (most l)
+most (s ∷ l) = max (needed (s .bit) (s .left)) (most l)
 
 -- the most that any word of the frame needs
 abbrev pub mostNeeded : Bool → List Two → ℕ

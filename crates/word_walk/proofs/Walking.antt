@@ -10,29 +10,18 @@ use lib.Dec.{ltb}
 use lib.ListN.{length, getD, drop, length-drop, drop-of-length-le}
 use lib.Seq.{drop-cons}
 use Rattle.modulation.specs.Modulation.{Two, d00, d01, d10, d11, twoNumber}
-use Rattle.modulation.specs.Machine.{Wait, w, w00, w0000, w000000, w000010, w11, w1101, w110111, w11011100, w1101110000, waitNumber, waitAt}
+use Rattle.modulation.specs.Machine.{Wait, w, waitNumber, waitAt}
+use Rattle.modulation.proofs.Machine.{wait-back, wait-below}
 use Rattle.modulation.specs.steps.Pairs.{twoOf}
-use Rattle.word_needs.specs.steps.Walk.{Told, wait, word, told, toldNumber, sizeAtEnd, walked, onward, walk, endsPlain, walkWord}
+use Rattle.word_needs.specs.steps.Walk.{Told, wait, wordOf, told, toldNumber, sizeAtEnd, walked, onward, walk, endsPlain, walkWord}
 
--- ---- numbers of what waits and of pairs
+-- ---- pairs by their numbers
 
-wait-back : (s : Wait) → (waitAt (waitNumber s) ≡ s) × (waitNumber s < 10)
-wait-back w = (refl, omega arith)
-wait-back w00 = (refl, omega arith)
-wait-back w0000 = (refl, omega arith)
-wait-back w000000 = (refl, omega arith)
-wait-back w000010 = (refl, omega arith)
-wait-back w11 = (refl, omega arith)
-wait-back w1101 = (refl, omega arith)
-wait-back w110111 = (refl, omega arith)
-wait-back w11011100 = (refl, omega arith)
-wait-back w1101110000 = (refl, omega arith)
-
-pub two-back : (d : Two) → (twoOf (twoNumber d) ≡ d) × (twoNumber d < 4)
-two-back d00 = (refl, omega arith)
-two-back d01 = (refl, omega arith)
-two-back d10 = (refl, omega arith)
-two-back d11 = (refl, omega arith)
+pub two-of-back : (d : Two) → (twoOf (twoNumber d) ≡ d) × (twoNumber d < 4)
+two-of-back d00 = (refl, omega arith)
+two-of-back d01 = (refl, omega arith)
+two-of-back d10 = (refl, omega arith)
+two-of-back d11 = (refl, omega arith)
 
 -- ---- the loop
 
@@ -50,12 +39,12 @@ walking-none ds p h =
 
 module _ (ds : List Two) (size : length ds ≡ 634) (p waits n : ℕ) (a : Walking ds p waits n) where
   pub waits-below : waits < 10
-  waits-below = omega (arith, a .number, wait-back (a .state) .1)
+  waits-below = omega (arith, a .number, wait-below (a .state))
 
   -- the frame ends
   pub walking-end : 634 ≤ p + n → walked n (sizeAtEnd (waitAt waits)) ≡ walk w 0 (drop p ds)
   walking-end h =
-      ap (λ (s : Wait). walked n (sizeAtEnd s)) (ap waitAt (a .number) ∙ wait-back (a .state) .0)
+      ap (λ (s : Wait). walked n (sizeAtEnd s)) (ap waitAt (a .number) ∙ wait-back (a .state))
       ∙ sym (a .same ∙ ap (walk (a .state) n) (drop-of-length-le ds {i = p + n} (omega arith)))
 
   -- a pair more
@@ -67,15 +56,15 @@ module _ (ds : List Two) (size : length ds ≡ 634) (p waits n : ℕ) (a : Walki
     unfolding d
     tells-it =
         tells
-        ∙ ap₂ (λ (s : Wait) (e : Two). toldNumber (told s e)) (ap waitAt (a .number) ∙ wait-back (a .state) .0) (ap twoOf is ∙ two-back (getD ds (p + n) d00) .0)
+        ∙ ap₂ (λ (s : Wait) (e : Two). toldNumber (told s e)) (ap waitAt (a .number) ∙ wait-back (a .state)) (ap twoOf is ∙ two-of-back (getD ds (p + n) d00) .0)
 
     goes : walk w 0 (drop p ds) ≡ onward (told (a .state) d) n (λ t. walk t (suc n) (drop (suc (p + n)) ds))
     unfolding d
     goes = a .same ∙ ap (walk (a .state) n) (drop-cons ds (p + n) d00 (omega arith))
 
     by-word : (t : Told) → next ≡ toldNumber t → 10 ≤ next → walked (n + 1) (next - 10) ≡ onward t n (λ t. walk t (suc n) (drop (suc (p + n)) ds))
-    by-word (wait t) e l = absurd (omega (arith, wait-back t .1))
-    by-word (word m) e l =
+    by-word (wait t) e l = absurd (omega (arith, wait-below t))
+    by-word (wordOf m) e l =
         let one : n + 1 ≡ suc n = omega arith in
         let rest : next - 10 ≡ m = omega arith in
         ap₂ walked one rest
@@ -88,7 +77,7 @@ module _ (ds : List Two) (size : length ds ≡ 634) (p waits n : ℕ) (a : Walki
         let one : suc n ≡ n + 1 = omega arith in
         let on : suc (p + n) ≡ p + (n + 1) = omega arith in
         record { state = t; number = e; same = g ∙ ap₂ (λ (m k : ℕ). walk t m (drop k ds)) one on; inside = omega arith }
-    by-wait (word m) e l g = absurd (omega arith)
+    by-wait (wordOf m) e l g = absurd (omega arith)
 
     pub walking-more : next < 10 → Walking ds p next (n + 1)
     walking-more l = by-wait (told (a .state) d) tells-it l goes

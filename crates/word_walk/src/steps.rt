@@ -19,7 +19,7 @@ pub struct Walked {
 }
 
 // The pairs that wait for more are numbered: none, 00, 0000, 000000, 000010, 11, 1101, 110111, 11011100, 1101110000. For each the next pair
-// tells what waits then, or 10 and the pairs of the word, which is fixed.
+// tells what waits then, or 10 plus the number of the word's pairs, which is fixed then.
 const TOLD: [[usize; 4]; 10] = [
     [1, 11, 11, 5],
     [2, 12, 12, 12],
@@ -51,7 +51,7 @@ fn size_at_end(waits: usize) -> usize
     SIZE_AT_END[waits]
 }
 
-// Pair p of a frame.
+// Pair p of a frame. A word of 46 bits has 23 pairs; ten of the first do not count.
 fn pair_at(words: &[u64; 29], p: usize) -> usize
     requires { ⌜ Words (now words) × (p < 634) ⌝ }
     ensures { λ r. ⌜ r ≡ twoNumber (getD (pairs (bitsIn (now (words .entry)))) p d00) ⌝ }

@@ -21,29 +21,33 @@ loop-holds c = counting-none (pairs (bitsIn (c .args .words .now)))
 word-at-requires : tie.Need-word-at-requires Inv-loop μ-loop
 word-at-requires c κs = search needs
 
-larger-requires : tie.Need-larger-requires Inv-loop μ-loop
-larger-requires c κs = search needs
+max-requires : tie.Need-max-requires Inv-loop μ-loop
+max-requires c κs = search needs
 
 add-p : tie.Need-add-p Inv-loop μ-loop
 add-p c =
     let word = c .before .before in
     let at = word .before .before in
     let ws = at .before .args .words .now in
-    omega (arith, count-most (pairs (bitsIn ws)) (pair-count ws) (at .loop .most) (at .loop .p) (at .loop .inv) (search needs) (word .word-at .result .needs) (word .word-at .result .size) (c .before .larger .result) (word .word-at .ensures) (c .before .larger .ensures))
+    let walked = word .word-at .result in
+    omega (arith, count-most (pairs (bitsIn ws)) (pair-count ws) (at .loop .most) (at .loop .p) (at .loop .inv) (search needs) (walked .needs) (walked .size) (word .word-at .ensures))
 
 loop-less : tie.Need-loop-less Inv-loop μ-loop
 loop-less c =
     let word = c .before .before in
     let at = word .before .before in
     let ws = at .before .args .words .now in
-    omega (arith, count-some (pairs (bitsIn ws)) (pair-count ws) (at .loop .most) (at .loop .p) (at .loop .inv) (search needs) (word .word-at .result .needs) (word .word-at .result .size) (c .before .larger .result) (word .word-at .ensures) (c .before .larger .ensures))
+    let walked = word .word-at .result in
+    omega (arith, count-some (pairs (bitsIn ws)) (pair-count ws) (at .loop .most) (at .loop .p) (at .loop .inv) (search needs) (walked .needs) (walked .size) (word .word-at .ensures))
 
 loop-again : tie.Need-loop-again Inv-loop μ-loop
 loop-again c =
     let word = c .before .before in
     let at = word .before .before in
     let ws = at .before .args .words .now in
-    counting-more (pairs (bitsIn ws)) (pair-count ws) (at .loop .most) (at .loop .p) (at .loop .inv) (search needs) (word .word-at .result .needs) (word .word-at .result .size) (c .before .larger .result) (word .word-at .ensures) (c .before .larger .ensures)
+    let walked = word .word-at .result in
+    counting-more (pairs (bitsIn ws)) (pair-count ws) (at .loop .most) (at .loop .p) (at .loop .inv) (search needs) (walked .needs) (walked .size) (word .word-at .ensures)
+    (c .before .max .result) (c .before .max .ensures)
 
 returns : tie.Need-returns Inv-loop μ-loop
 returns c =
@@ -61,7 +65,7 @@ most-pairs-spec =
     μ-loop
     loop-holds
     word-at-requires
-    larger-requires
+    max-requires
     add-p
     loop-less
     loop-again

@@ -8,7 +8,7 @@ use Rattle.modulation.specs.Bits.{pairs}
 use Rattle.modulation.specs.steps.Words.{bitsIn}
 use Rattle.word_needs.specs.steps.Walk.{walked}
 use Rattle.word_walk.proofs.Pairs.{pair-count}
-use Rattle.word_walk.proofs.Walking.{Walking, walking-none, waits-below, walking-end, walking-fixed, walking-more, two-back}
+use Rattle.word_walk.proofs.Walking.{Walking, walking-none, waits-below, walking-end, walking-fixed, walking-more, two-of-back}
 use borrow.Author.Needs.{needs}
 use Rattle.word_walk.proofs.steps.walk.Statement.{statement}
 use Rattle.word_walk.proofs.steps.walk.Tie as tie
@@ -37,7 +37,7 @@ told-requires c κs =
     let ws = at .before .args .words .now in
     let p = at .before .args .p in (
       waits-below (pairs (bitsIn ws)) (pair-count ws) p (at .loop .waits) (at .loop .n) (at .loop .inv),
-      omega (arith, c .pair-at .ensures, two-back (getD (pairs (bitsIn ws)) (p + at .loop .n) d00) .1),
+      omega (arith, c .pair-at .ensures, two-of-back (getD (pairs (bitsIn ws)) (p + at .loop .n) d00) .1),
     )
 
 add-n : tie.Need-add-n Inv-loop μ-loop
