@@ -1,12 +1,12 @@
 /* BD-RE clusters (ISO/IEC 30193:2021, clause 13) written, strictly read and marked, parity of columns, sheets of PSNs, a queue of four
- * benches: the functions of libbdre.a.
+ * benches, how far ahead the modulator reads: the functions of libbdre.a.
  *
  * A slice is a pointer and the number of its elements. Two things are asked of a caller, here and nowhere else: each pointer is valid
  * (not null, even for 0 elements) for that many elements, and a slice that a call writes overlaps no other slice of that call. Every
  * length, number and content gets an answer. Nothing is kept from call to call, so threads may call at the same time.
  *
  * Stack that a call takes, in bytes (measured by bench/stack; 128 KiB are the limit): write 86,368, read 90,016, mark 90,112,
- * a conversion 40, parity 66,240, sheet 584, record 336. No memory is allocated.
+ * a conversion 40, parity 66,240, sheet 584, record 336, ahead 000. No memory is allocated.
  *
  * `number` is 0 where it is done, else it says what was refused; the place is 0 unless one is named; at 6 and 7 of a sheet it is the entry.
  *
@@ -18,6 +18,7 @@
  *    6  the PSN is no multiple of 32            14  no PSN in a data zone has these 16 address unit numbers
  *    7  the PSN lies in no data zone            15  the parity of LDC column `place` is wrong
  *    8  dc word `place` is above 0FFFFFFFh      16  the error-detection code of sector `place` is wrong
+ *   21  row is not 155 bytes long
  *   22  the data are not 1 to 223 bytes, or the parity slice is not 32 bytes long
  *   23  the sheet has not 1 to 64 PSNs
  *   24  entry `place` of the sheet has the PSN of an earlier one
@@ -37,7 +38,7 @@ extern "C" {
 #endif
 
 /* The version of this interface, for a libbdre.a of the same version; README.md, 'Versions'. */
-#define BDRE_VERSION "2.2.0"
+#define BDRE_VERSION "2.3.0"
 
 #define BDRE_USER 65536      /* user data: 32 sectors of 2,048 bytes */
 #define BDRE_SIDE 592        /* side data: 16 flag bytes, then 32 x 18 bytes of user control data */
@@ -48,6 +49,7 @@ extern "C" {
 #define BDRE_PARITY 32       /* the parity bytes of a column */
 #define BDRE_SHEET 64        /* the most PSNs of a sheet */
 #define BDRE_BENCHES 4       /* the benches that share a queue */
+#define BDRE_ROW 155         /* row: the bytes of a frame */
 
 struct bdre_answer {
     uint32_t number;
@@ -90,6 +92,12 @@ struct bdre_handled {
     size_t place;  /* 0 */
     uint8_t bench; /* the bench served, 255 where none is waiting; 0 for a submit and on refusal */
     uint32_t psn;  /* of the order served; else 0 */
+};
+
+struct bdre_ahead_answer {
+    uint32_t number;
+    size_t place;  /* 0 */
+    uint32_t bits; /* 0 unless number is 0 */
 };
 
 /* Writes the image of a cluster, from its user data, the PSN of its first sector, its side data, its dc words and # of its first frame
@@ -137,6 +145,12 @@ struct bdre_answer bdre_sheet(const uint32_t *psns, size_t count);
  * it. Where none is waiting nothing changes. Else the first that fits, and the queue is as it was, a waiting order given back as 1: 26, a short, long or
  * unknown record; 27, the bench is above 3; 28, it has a waiting order; 6 or 7 for the PSN. */
 struct bdre_handled bdre_handle_record(struct bdre_queue queue, const uint8_t *record, size_t record_length);
+
+/* How far ahead the modulator reads in a frame, given by its 155 bytes and its dc word. 0: bits is the most that any word of it needs, 2 to 12. A word
+ * needs the least number of frame bits, counted from its start in whole pairs, after which no further bits, up to the frame's end, could change its
+ * modulation bits; what is before the frame makes no difference. Else the first that fits: 21, the row is not 155 bytes long; 8, the dc word is above
+ * 0FFFFFFFh. */
+struct bdre_ahead_answer bdre_ahead(const uint8_t *row, size_t row_length, uint32_t dc);
 
 #ifdef __cplusplus
 }

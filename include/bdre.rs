@@ -1,8 +1,9 @@
 //! BD-RE clusters (ISO/IEC 30193:2021, clause 13) written, strictly read and marked, parity of columns, sheets of PSNs, a queue of four
-//! benches: safe calls of the functions of libbdre.a. Nothing is asked of the caller. bdre.h lists the numbers that are answered.
+//! benches, how far ahead the modulator reads: safe calls of the functions of libbdre.a. Nothing is asked of the caller. bdre.h lists the numbers that are
+//! answered.
 
 /// The version of this interface, for a libbdre.a of the same version; README.md, 'Versions'.
-pub const VERSION: &str = "2.2.0";
+pub const VERSION: &str = "2.3.0";
 /// User data: 32 sectors of 2,048 bytes.
 pub const USER: usize = 65_536;
 /// Side data: 16 flag bytes, then 32 x 18 bytes of user control data.
@@ -21,6 +22,8 @@ pub const PARITY: usize = 32;
 pub const SHEET: usize = 64;
 /// The benches that share a queue.
 pub const BENCHES: usize = 4;
+/// Row: the bytes of a frame.
+pub const ROW: usize = 155;
 
 #[repr(C)]
 #[derive(Clone, Copy, Debug, PartialEq, Eq)]
@@ -93,8 +96,18 @@ pub struct Handled {
     pub psn: u32,
 }
 
+#[repr(C)]
+#[derive(Clone, Copy, Debug, PartialEq, Eq)]
+pub struct AheadAnswer {
+    pub number: u32,
+    /// 0.
+    pub place: usize,
+    /// 0 unless `number` is 0.
+    pub bits: u32,
+}
+
 mod c {
-    use super::{Answer, Conversion, Handled, Marking, Queue, ReadAnswer};
+    use super::{AheadAnswer, Answer, Conversion, Handled, Marking, Queue, ReadAnswer};
 
     #[link(name = "bdre", kind = "static")]
     extern "C" {
@@ -148,6 +161,7 @@ mod c {
         pub fn bdre_parity(data: *const u8, data_length: usize, parity: *mut u8, parity_length: usize) -> Answer;
         pub fn bdre_sheet(psns: *const u32, count: usize) -> Answer;
         pub fn bdre_handle_record(queue: Queue, record: *const u8, record_length: usize) -> Handled;
+        pub fn bdre_ahead(row: *const u8, row_length: usize, dc: u32) -> AheadAnswer;
     }
 }
 
@@ -275,4 +289,12 @@ pub fn sheet(psns: &[u32]) -> Answer {
 /// is above 3; 28, it has a waiting order; 6 or 7 for the PSN.
 pub fn handle_record(queue: Queue, record: &[u8]) -> Handled {
     unsafe { c::bdre_handle_record(queue, record.as_ptr(), record.len()) }
+}
+
+/// How far ahead the modulator reads in a frame, given by its 155 bytes and its dc word. 0: `bits` is the most that any word of it needs, 2 to 12. A word
+/// needs the least number of frame bits, counted from its start in whole pairs, after which no further bits, up to the frame's end, could change its
+/// modulation bits; what is before the frame makes no difference. Else the first that fits: 21, the row is not 155 bytes long; 8, the dc word is above
+/// 0FFFFFFFh.
+pub fn ahead(row: &[u8], dc: u32) -> AheadAnswer {
+    unsafe { c::bdre_ahead(row.as_ptr(), row.len(), dc) }
 }

@@ -1,4 +1,5 @@
 //! What the programs in bin/ share: compare and soak (the library against the reference), measure (time) and stack.
+pub mod ahead;
 #[path = "../../include/bdre.rs"]
 pub mod bdre;
 pub mod both;

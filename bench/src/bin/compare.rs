@@ -1,12 +1,14 @@
 //! Compares the library with the reference, and says how much was compared. Stops at the first difference, with status 1.
 //! Damaged images are read by both paths of the reference; bin/soak reads many more by the fast one alone.
 //! With the word `short`: fewer of each, and the reference's plain path, which is slow, on some clusters only.
+use bench::ahead::{each_frame, random_frame, Frame};
 use bench::bdre::{self, Queue, BENCHES, COLUMN_DATA, DC, IMAGE, PARITY, SHEET, SIDE, USER, WORK};
 use bench::both::{self, agree};
 use bench::clusters::{Cluster, Filled, Lent, LARGEST, ZONES};
 use bench::damage::{damage, Written};
 use bench::queues::{self, each_record, random_queue, random_record, SERVE};
 use bench::random::Random;
+use bench::reference::ahead::Ahead;
 use bench::reference::columns;
 use bench::reference::fast::Fast;
 use bench::reference::plain;
@@ -335,6 +337,38 @@ fn queue_runs(r: &Random, runs: usize) {
     agree(OUTCOMES.iter().all(often), || "an answer was rare".into());
 }
 
+// ---- how far ahead the modulator reads
+
+/// Number and bits of the answers that occur.
+const AHEAD: [(u32, u32); 8] = [(0, 2), (0, 4), (0, 6), (0, 8), (0, 10), (0, 12), (8, 0), (21, 0)];
+
+/// How often each was answered. Behind a row stand other bytes, which are not its own.
+fn read_ahead(r: &Random, reference: &Ahead, frames: impl Iterator<Item = Frame>) -> BTreeMap<(u32, u32), usize> {
+    let mut calls = BTreeMap::new();
+    for Frame { row, dc } in frames {
+        let room = [&row[..], &r.bytes(2)].concat();
+        let a = bdre::ahead(&room[..row.len()], dc);
+        let b = reference.ahead(&row, dc);
+        let bits = a.bits as usize;
+        agree((a.number, a.place, [bits, bits]) == b, || {
+            format!("row {row:02X?}, dc word {dc:08X}: ahead {a:?}, by the reference {b:?}")
+        });
+        *calls.entry((a.number, a.bits)).or_insert(0) += 1;
+    }
+    calls
+}
+
+fn ahead(r: &Random, count: usize) {
+    let reference = Ahead::new();
+    let each = read_ahead(r, &reference, each_frame(r).into_iter());
+    println!("ahead, each end, word and length: answered by number and bits {each:?} times");
+    agree(each.keys().eq(&AHEAD), || "an answer did not occur".into());
+    let random = read_ahead(r, &reference, (0..count).map(|_| random_frame(r)));
+    println!("ahead, {count} random frames: {random:?}");
+    let often = |answer| random.get(answer).map_or(false, |&calls| calls >= count / 50);
+    agree(AHEAD.iter().all(often), || "an answer was rare".into());
+}
+
 // ---- clusters and images
 
 fn clusters(r: &Random, fast: &mut Fast, count: usize, plain_every: usize) {
@@ -411,6 +445,7 @@ fn main() {
     each_queue(r);
     each_flag(r);
     queue_runs(r, if short { 100 } else { 2000 });
+    ahead(r, if short { 2000 } else { 20_000 });
     clusters(r, &mut fast, if short { 30 } else { 240 }, if short { 4 } else { 1 });
     damaged(r, &mut fast, if short { 200 } else { 2000 }, if short { 10 } else { 1 });
     marks(r, &mut fast, if short { 30 } else { 300 });

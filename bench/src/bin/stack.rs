@@ -1,6 +1,7 @@
 //! Measures how many bytes of stack each operation of the library takes, over calls with every answer, and fails above 128 KiB.
 //! A call runs on a painted stack of its own; what it took ends at the deepest byte that is no longer paint. Each runs under two paints, so
 //! that a byte written in the colour of one shows under the other. What passes the arguments, some hundred bytes, is counted too.
+use bench::ahead::{self, random_frame};
 use bench::bdre::{self, DC, IMAGE, SIDE, USER, WORK};
 use bench::clusters::{Cluster, Filled, Lent, LARGEST, ZONES};
 use bench::damage::{damage, Written};
@@ -185,6 +186,15 @@ fn queues(stack: &mut Stack, r: &Random) -> usize {
     handle.most(&queues::ANSWERS)
 }
 
+fn aheads(stack: &mut Stack, r: &Random) -> usize {
+    let mut ahead = Operation::new("ahead");
+    for _ in 0..400 {
+        let frame = random_frame(r);
+        ahead.run(stack, || bdre::ahead(&frame.row, frame.dc).number);
+    }
+    ahead.most(&ahead::ANSWERS)
+}
+
 fn main() {
     let r = &Random::new(0x57AC);
     let stack = &mut Stack(vec![0; ROOM]);
@@ -195,7 +205,8 @@ fn main() {
         .max(conversions(stack))
         .max(parities(stack, r))
         .max(sheets(stack, r))
-        .max(queues(stack, r));
+        .max(queues(stack, r))
+        .max(aheads(stack, r));
     println!("at most {most}; {LIMIT} are allowed");
     if most > LIMIT {
         std::process::exit(1);

@@ -3,8 +3,10 @@ use answer_numbers::Answered;
 use answer_numbers::Converted;
 use answer_numbers::Marking;
 use answer_numbers::ReadAnswered;
+use export_ahead::AheadNumbers;
 use export_queue::HandledNumbers;
 use export_queue::QueueNumbers;
+ghost use mathlib.Core.Bool.{Bool};
 ghost use mathlib.Core.Path.{_≡_};
 ghost use mathlib.Core.Logic.{_↔_};
 ghost use Rattle.writer.specs.Outcome as writer;
@@ -27,6 +29,8 @@ ghost use Rattle.address_sheet.specs.Promise.{RightSheet};
 ghost use Rattle.export_sheet.specs.Exported.{givenPsn};
 ghost use Rattle.order_queue.specs.Queue.{handled};
 ghost use Rattle.export_queue.specs.Exported.{queueGiven, handledSeen};
+ghost use Rattle.look_ahead.specs.Outcome as look_ahead;
+ghost use Rattle.export_ahead.specs.Exported.{aheadSeen};
 
 // Writes the image of a cluster.
 #[no_mangle]
@@ -141,4 +145,12 @@ pub extern "C" fn bdre_handle_record(queue: QueueNumbers, bytes: &[u8]) -> Handl
     ensures { λ r. ⌜ r ≡ handledSeen (handled (queueGiven queue) (now (bytes .entry))) ⌝ }
 {
     export_queue::handle_record(queue, bytes)
+}
+
+// The most bits that any word of a frame needs; the same for both values of the bit before the frame.
+#[no_mangle]
+pub extern "C" fn bdre_ahead(row: &[u8], dc: u32) -> AheadNumbers
+    ensures { λ r. ⌜ ((b : Bool) → r ≡ aheadSeen (look_ahead.outcome b (now (row .entry)) dc)) ⌝ }
+{
+    export_ahead::most_needed(row, dc)
 }

@@ -1,0 +1,2 @@
+-- The parts that are returned.
+mod Exported
