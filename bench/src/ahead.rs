@@ -10,7 +10,7 @@ pub const ANSWERS: [u32; 3] = [0, 8, 21];
 
 const BITS: usize = 1268;
 
-/// A word that needs all that one can.
+/// A word that needs the most that one can, and what fixes it.
 const LONGEST: &str = "110111000001";
 
 /// Of the last two the lowest byte, or the lowest two, are those of 155.
@@ -26,12 +26,12 @@ fn frame(bits: &[u8]) -> Frame {
     Frame { row, dc }
 }
 
-/// `n` bits as a number.
+/// A number in `n` bits.
 fn bits(number: usize, n: usize) -> Vec<u8> {
     (0..n).rev().map(|i| (number >> i & 1) as u8).collect()
 }
 
-/// In bits from `at` on stands `piece`, as far as the frame goes; else it has words of two bits that need no others.
+/// From bit `at` on stands `piece`, as far as the frame goes; before and behind it are words of two bits that need no others.
 fn alone(r: &Random, piece: &[u8], at: usize) -> Frame {
     let mut all: Vec<u8> = (0..BITS / 2).flat_map(|_| r.pick(&[[0, 1], [1, 0]])).collect();
     for (bit, &given) in all[at..].iter_mut().zip(piece) {
@@ -40,7 +40,7 @@ fn alone(r: &Random, piece: &[u8], at: usize) -> Frame {
     frame(&all)
 }
 
-/// The start of a word, if the words before are of two bits.
+/// The first bit of a pair.
 fn place(r: &Random) -> usize {
     2 * r.below(BITS / 2)
 }
