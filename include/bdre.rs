@@ -295,6 +295,6 @@ pub fn handle_record(queue: Queue, record: &[u8]) -> Handled {
 /// needs the least number of frame bits, counted from its start in whole pairs, after which no further bits, up to the frame's end, could change its
 /// modulation bits; what is before the frame makes no difference. Else the first that fits: 21, the row is not 155 bytes long; 8, the dc word is above
 /// 0FFFFFFFh.
-pub fn ahead(row: &[u8], dc: u32) -> AheadAnswer {
+pub fn most_needed(row: &[u8], dc: u32) -> AheadAnswer {
     unsafe { c::bdre_ahead(row.as_ptr(), row.len(), dc) }
 }

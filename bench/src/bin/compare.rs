@@ -347,8 +347,8 @@ fn read_ahead(r: &Random, reference: &Ahead, frames: impl Iterator<Item = Frame>
     let mut calls = BTreeMap::new();
     for Frame { row, dc } in frames {
         let room = [&row[..], &r.bytes(2)].concat();
-        let a = bdre::ahead(&room[..row.len()], dc);
-        let b = reference.ahead(&row, dc);
+        let a = bdre::most_needed(&room[..row.len()], dc);
+        let b = reference.most_needed(&row, dc);
         let bits = a.bits as usize;
         agree((a.number, a.place, [bits, bits]) == b, || {
             format!("row {row:02X?}, dc word {dc:08X}: ahead {a:?}, by the reference {b:?}")

@@ -186,13 +186,13 @@ fn queues(stack: &mut Stack, r: &Random) -> usize {
     handle.most(&queues::ANSWERS)
 }
 
-fn aheads(stack: &mut Stack, r: &Random) -> usize {
-    let mut ahead = Operation::new("ahead");
+fn frames(stack: &mut Stack, r: &Random) -> usize {
+    let mut needed = Operation::new("most_needed");
     for _ in 0..400 {
         let frame = random_frame(r);
-        ahead.run(stack, || bdre::ahead(&frame.row, frame.dc).number);
+        needed.run(stack, || bdre::most_needed(&frame.row, frame.dc).number);
     }
-    ahead.most(&ahead::ANSWERS)
+    needed.most(&ahead::ANSWERS)
 }
 
 fn main() {
@@ -206,7 +206,7 @@ fn main() {
         .max(parities(stack, r))
         .max(sheets(stack, r))
         .max(queues(stack, r))
-        .max(aheads(stack, r));
+        .max(frames(stack, r));
     println!("at most {most}; {LIMIT} are allowed");
     if most > LIMIT {
         std::process::exit(1);

@@ -48,7 +48,7 @@ impl Ahead {
     }
 
     /// Number and place, and bits for either bit before the frame.
-    pub fn ahead(&self, row: &[u8], dc: u32) -> (u32, usize, [usize; 2]) {
+    pub fn most_needed(&self, row: &[u8], dc: u32) -> (u32, usize, [usize; 2]) {
         if row.len() != 155 {
             return (21, 0, [0; 2]);
         }
