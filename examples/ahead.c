@@ -4,7 +4,7 @@
 #include <stdio.h>
 
 static void ahead(const char *name, const uint8_t *row, size_t length, uint32_t dc) {
-    struct bdre_ahead_answer answer = bdre_ahead(row, length, dc);
+    struct bdre_ahead answer = bdre_most_needed(row, length, dc);
     printf("%s: %u, place %zu, bits %u\n", name, (unsigned)answer.number, answer.place, (unsigned)answer.bits);
 }
 

@@ -94,7 +94,7 @@ struct bdre_handled {
     uint32_t psn;  /* of the order served; else 0 */
 };
 
-struct bdre_ahead_answer {
+struct bdre_ahead {
     uint32_t number;
     size_t place;  /* 0 */
     uint32_t bits; /* 0 unless number is 0 */
@@ -150,7 +150,7 @@ struct bdre_handled bdre_handle_record(struct bdre_queue queue, const uint8_t *r
  * needs the least number of frame bits, counted from its start in whole pairs, after which no further bits, up to the frame's end, could change its
  * modulation bits; what is before the frame makes no difference. Else the first that fits: 21, the row is not 155 bytes long; 8, the dc word is above
  * 0FFFFFFFh. */
-struct bdre_ahead_answer bdre_ahead(const uint8_t *row, size_t row_length, uint32_t dc);
+struct bdre_ahead bdre_most_needed(const uint8_t *row, size_t row_length, uint32_t dc);
 
 #ifdef __cplusplus
 }

@@ -98,7 +98,7 @@ pub struct Handled {
 
 #[repr(C)]
 #[derive(Clone, Copy, Debug, PartialEq, Eq)]
-pub struct AheadAnswer {
+pub struct Ahead {
     pub number: u32,
     /// 0.
     pub place: usize,
@@ -107,7 +107,7 @@ pub struct AheadAnswer {
 }
 
 mod c {
-    use super::{AheadAnswer, Answer, Conversion, Handled, Marking, Queue, ReadAnswer};
+    use super::{Ahead, Answer, Conversion, Handled, Marking, Queue, ReadAnswer};
 
     #[link(name = "bdre", kind = "static")]
     extern "C" {
@@ -161,7 +161,7 @@ mod c {
         pub fn bdre_parity(data: *const u8, data_length: usize, parity: *mut u8, parity_length: usize) -> Answer;
         pub fn bdre_sheet(psns: *const u32, count: usize) -> Answer;
         pub fn bdre_handle_record(queue: Queue, record: *const u8, record_length: usize) -> Handled;
-        pub fn bdre_ahead(row: *const u8, row_length: usize, dc: u32) -> AheadAnswer;
+        pub fn bdre_most_needed(row: *const u8, row_length: usize, dc: u32) -> Ahead;
     }
 }
 
@@ -295,6 +295,6 @@ pub fn handle_record(queue: Queue, record: &[u8]) -> Handled {
 /// needs the least number of frame bits, counted from its start in whole pairs, after which no further bits, up to the frame's end, could change its
 /// modulation bits; what is before the frame makes no difference. Else the first that fits: 21, the row is not 155 bytes long; 8, the dc word is above
 /// 0FFFFFFFh.
-pub fn most_needed(row: &[u8], dc: u32) -> AheadAnswer {
-    unsafe { c::bdre_ahead(row.as_ptr(), row.len(), dc) }
+pub fn most_needed(row: &[u8], dc: u32) -> Ahead {
+    unsafe { c::bdre_most_needed(row.as_ptr(), row.len(), dc) }
 }

@@ -149,7 +149,7 @@ pub extern "C" fn bdre_handle_record(queue: QueueNumbers, bytes: &[u8]) -> Handl
 
 // The most bits that any word of a frame needs; the same for both values of the bit before the frame.
 #[no_mangle]
-pub extern "C" fn bdre_ahead(row: &[u8], dc: u32) -> AheadNumbers
+pub extern "C" fn bdre_most_needed(row: &[u8], dc: u32) -> AheadNumbers
     ensures { λ r. ⌜ ((b : Bool) → r ≡ aheadSeen (look_ahead.outcome b (now (row .entry)) dc)) ⌝ }
 {
     export_ahead::most_needed(row, dc)
