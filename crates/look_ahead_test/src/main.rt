@@ -23,10 +23,7 @@ fn dc_word(record: &[u8]) -> u32 {
 fn vector() {
     let mut record = [0u8; 159];
     io::read_full(0, &mut record);
-    print(look_ahead::most_needed(
-        compare::part(&record, 4, 159),
-        dc_word(&record),
-    ));
+    print(look_ahead::most_needed(compare::part(&record, 4, 159), dc_word(&record)));
 }
 
 fn vectors() {
