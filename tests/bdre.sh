@@ -59,7 +59,7 @@ builds() {
     rm -f "$room/asked"
     run_once "bdre tally" 1 env PATH="$room/tools" "$room/home/bdre" tally
     if [ -n "$2" ]; then
-        [ "$(cat "$room/asked")" = 'check encode decode mark sheet queue tally' ] || fail "$title: rt was asked for something else"
+        [ "$(cat "$room/asked")" = 'check encode decode mark sheet queue tally ahead' ] || fail "$title: rt was asked for something else"
     elif [ -e "$room/asked" ]; then
         fail "$title: rt was asked for nothing new"
     fi

@@ -1,4 +1,4 @@
-# Bad arguments and files, for each program that has several and each file (sheet.sh and queue.sh have their own): what is said, and that nothing is left.
+# Bad arguments and files, for each program that has several and each file (sheet.sh, queue.sh and ahead.sh have their own): what is said, and that nothing is left.
 wrong_usage='usage: a PSN is eight hexadecimal digits'
 
 usage_of() {

@@ -2,7 +2,7 @@
 use texts::Text;
 ghost use Rattle.io.specs.Counts.{Counts};
 
-// The first size of the bytes. A text has no more than fit (proofs/Words of `report`, `sheet_report` and `queue_report`; `tallying`, proofs/Table).
+// The first size of the bytes. A text has no more than fit (proofs/Words of `report`, `sheet_report`, `queue_report` and `ahead_report`; `tallying`, proofs/Table).
 fn write(bytes: &[u8], size: usize) -> bool {
     if size <= bytes.len() {
         return io::write_all(1, &bytes[..size]);

@@ -1,0 +1,2 @@
+-- What is printed for a frame.
+pub mod Said
