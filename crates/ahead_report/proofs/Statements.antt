@@ -23,7 +23,7 @@ use Rattle.look_ahead.specs.Outcome.{Outcome, outcome}
 use Rattle.look_ahead.proofs.Statements.{reports-exactly}
 use Rattle.ahead_report.specs.Said.{outcomeText, aheadText}
 
--- FOR A DC WORD AND A ROW, THE OUTCOME OF THE OPERATION IS PRINTED
+-- FOR A DC WORD AND A ROW THE OPERATION'S OUTCOME IS PRINTED
 pub frame-text : (b : Bool) (row : List ℕ) (dc : ℕ) → length row ≡ rowSize → dc < 2 ^ 32 → aheadText b (fourBytes dc ++ row) ≡ outcomeText (outcome b row dc)
 unfolding aheadText
 frame-text b row dc size small =
@@ -47,20 +47,20 @@ no-refusal n a e =
     omega (arith, ap length (both .1), length-append (decimal (placeOf a)) (10 ∷ meaning a))
 
 -- of numbers that have room
-tells : (o p : Outcome) → placeOf (o .answer) < 10 ^ 20 → placeOf (p .answer) < 10 ^ 20 → o .bits < 10 ^ 20 → p .bits < 10 ^ 20 → outcomeText o ≡ outcomeText p
+outcome-told : (o p : Outcome) → placeOf (o .answer) < 10 ^ 20 → placeOf (p .answer) < 10 ^ 20 → o .bits < 10 ^ 20 → p .bits < 10 ^ 20 → outcomeText o ≡ outcomeText p
     → (o .answer ≡ p .answer) × (numberOf (o .answer) ≡ 0 → o .bits ≡ p .bits)
-tells o p place place' few few' e = by (isDone (o .answer)) (isDone (p .answer)) refl refl e
+outcome-told o p place place′ few few′ e = by (isDone (o .answer)) (isDone (p .answer)) refl refl e
   where
     by : (s t : Bool) → isDone (o .answer) ≡ s → isDone (p .answer) ≡ t
         → cond s (decimal (o .bits) ++ the "\n") (answerText (o .answer)) ≡ cond t (decimal (p .bits) ++ the "\n") (answerText (p .answer))
         → (o .answer ≡ p .answer) × (numberOf (o .answer) ≡ 0 → o .bits ≡ p .bits)
     by true true hs ht e = (
       done-is (o .answer) hs ∙ sym (done-is (p .answer) ht),
-      λ z. decimal-same 20 (o .bits) (p .bits) few few' (split (decimal-digits 20 (o .bits)) (decimal-digits 20 (p .bits)) 10 10 [] [] (omega arith) (omega arith) e .0),
+      λ z. decimal-same 20 (o .bits) (p .bits) few few′ (split (decimal-digits 20 (o .bits)) (decimal-digits 20 (p .bits)) 10 10 [] [] (omega arith) (omega arith) e .0),
     )
     by true false hs ht e = absurd (no-refusal (o .bits) (p .answer) e)
     by false true hs ht e = absurd (no-refusal (p .bits) (o .answer) (sym e))
-    by false false hs ht e = (answers-differ (o .answer) (p .answer) place place' e, λ z. absurd (done-not (o .answer) hs (number-zero (o .answer) z)))
+    by false false hs ht e = (answers-differ (o .answer) (p .answer) place place′ e, λ z. absurd (done-not (o .answer) hs (number-zero (o .answer) z)))
 
 -- the place is 0, and the bits are 12 at most
 place-small : (b : Bool) (row : List ℕ) (dc : ℕ) → placeOf (outcome b row dc .answer) < 10 ^ 20
@@ -74,13 +74,13 @@ bits-small b row dc =
     ]
 
 -- THE TEXT TELLS THE ANSWER AND THE NUMBER OF BITS
-pub text-tells : (b : Bool) (row row' : List ℕ) (dc dc' : ℕ) → outcomeText (outcome b row dc) ≡ outcomeText (outcome b row' dc')
-    → (outcome b row dc .answer ≡ outcome b row' dc' .answer) × (outcome b row dc .bits ≡ outcome b row' dc' .bits)
-text-tells b row row' dc dc' e =
-    let both = tells (outcome b row dc) (outcome b row' dc') (place-small b row dc) (place-small b row' dc') (bits-small b row dc) (bits-small b row' dc') e in (
+pub text-tells : (b : Bool) (row row′ : List ℕ) (dc dc′ : ℕ) → outcomeText (outcome b row dc) ≡ outcomeText (outcome b row′ dc′)
+    → (outcome b row dc .answer ≡ outcome b row′ dc′ .answer) × (outcome b row dc .bits ≡ outcome b row′ dc′ .bits)
+text-tells b row row′ dc dc′ e =
+    let both = outcome-told (outcome b row dc) (outcome b row′ dc′) (place-small b row dc) (place-small b row′ dc′) (bits-small b row dc) (bits-small b row′ dc′) e in (
       both .0,
       elim (ℕ-discrete (numberOf (outcome b row dc .answer)) 0) [
         | yes z ↦ both .1 z
-        | no z ↦ reports-exactly b row dc .refused z ∙ sym (reports-exactly b row' dc' .refused (λ y. z (ap numberOf (both .0) ∙ y)))
+        | no z ↦ reports-exactly b row dc .refused z ∙ sym (reports-exactly b row′ dc′ .refused (λ y. z (ap numberOf (both .0) ∙ y)))
       ],
     )

@@ -66,7 +66,7 @@ module _ (b : Bool) (row : List ℕ) (dc : ℕ) where
     unfolding ds
     twice e = bits-are ∙ e
 
-    -- 110111000001 at some word's start: the frame needs 12 bits
+    -- WITH 110111000001 AT SOME WORD'S START A FRAME NEEDS 12 BITS
     pub meets : (i : ℕ) → i < length (wordStarts b (pairs (frameBits row dc))) → (more : List Two) → startAt b (pairs (frameBits row dc)) i .left ≡ pairs meeting ++ more
         → outcome b row dc .bits ≡ 12
     unfolding ds
@@ -88,6 +88,7 @@ module _ (b : Bool) (row : List ℕ) (dc : ℕ) where
         | no e ↦ other e
       ]
 
+  -- NUMBER, PLACE AND BITS OF EVERY FRAME
   pub reports-exactly : ReportsExactly row dc (numberOf (outcome b row dc .answer)) (placeOf (outcome b row dc .answer)) (outcome b row dc .bits)
   reports-exactly =
       record {
@@ -128,6 +129,7 @@ module _ (l : List ℕ) (dc : ℕ) where
           ∙ getD-bits shown j (omega arith)
           ∙ equal-below 12 (bitAt shown) (λ k. getD meeting k 0) tt j h
 
+  -- SUCH A FRAME IS ACCEPTED WITH 12 BITS
   pub shown-needs-12 : (b : Bool) → RightFrame (length shown) dc → outcome b shown dc .bits ≡ 12
   unfolding startsFrom
   shown-needs-12 b right =

@@ -99,6 +99,7 @@ module _ (b : Bool) (ds : List Two) where
 
   -- ---- the least
 
+  -- IT IS THE LEAST NUMBER OF PAIRS THAT FIXES THE WORD, AND THE ONLY SUCH
   pub needed-is : Needs b ds (needed b ds)
   unfolding needed
   needed-is =

@@ -23,7 +23,7 @@ use Rattle.word_needs.proofs.Starts.{needed-bit, most-from, most-none, 
 
 -- ---- the number
 
--- the bit before never matters
+-- THE BIT BEFORE NEVER MATTERS
 pub bit-before : (b c : Bool) (ds : List Two) → needed b ds ≡ needed c ds
 unfolding needed first
 bit-before b c [] = refl
@@ -42,7 +42,7 @@ within-frame b ds =
 
 -- ---- the bound
 
--- a word's modulation bits depend on the bit before it and on 12 bits from its start on, or on all that are left
+-- A WORD'S MODULATION BITS DEPEND ON THE BIT BEFORE IT AND ON 12 BITS FROM ITS START ON, OR ON ALL THAT ARE LEFT
 pub reach-twelve : ReachAtMost farthest
 reach-twelve = record { fixed = λ b l m e. six-fix b (pairs l) (pairs m) (pairs-take 6 l ∙ ap pairs e ∙ sym (pairs-take 6 m)) }
 
@@ -50,7 +50,7 @@ pub needs-twelve : (b : Bool) (ds : List Two) → 2 * needed b ds ≤ farthest
 needs-twelve b [] = omega (arith, within-frame b [])
 needs-twelve b (d ∷ ds) = omega (arith, walk-is b d ds .needs, walk-word-most (d ∷ ds))
 
--- 110111000001 at a word's start meets it, whatever follows
+-- 110111000001 AT A WORD'S START MEETS IT, WHATEVER FOLLOWS
 abbrev pub meeting : List ℕ
 meeting = 1 ∷ 1 ∷ 0 ∷ 1 ∷ 1 ∷ 1 ∷ 0 ∷ 0 ∷ 0 ∷ 0 ∷ 0 ∷ 1 ∷ []
 
@@ -67,13 +67,13 @@ ten-fails reach =
     let other : List ℕ = 1 ∷ 1 ∷ 0 ∷ 1 ∷ 1 ∷ 1 ∷ 0 ∷ 0 ∷ 0 ∷ 0 ∷ 1 ∷ 0 ∷ [] in
     true≢false (sym (same-refl (wordBits false (pairs meeting))) ∙ ap (same (wordBits false (pairs meeting))) (reach .fixed false meeting other refl))
 
--- the frame's end counts as known: 110111 as its last six bits needs two
+-- THE FRAME'S END COUNTS AS KNOWN: 110111 AS ITS LAST SIX BITS NEEDS 2
 pub end-known : (b : Bool) → 2 * needed b (d11 ∷ d01 ∷ d11 ∷ []) ≡ 2
 end-known b = ap (λ (n : ℕ). 2 * n) (walk-is b d11 (d01 ∷ d11 ∷ []) .needs)
 
 -- ---- the words of a frame
 
--- the most that any of them needs
+-- THE MOST THAT ANY OF THEM NEEDS
 pub most-it : (b : Bool) (ds : List Two) → 0 < length ds → Most b ds (mostNeeded b ds)
 most-it b [] h = absurd (omega arith)
 most-it b (d ∷ ds) h =
@@ -89,7 +89,7 @@ pub only-most : (b : Bool) (ds : List Two) (j k : ℕ) → Most b ds j → Most 
 only-most b ds j k p q =
     omega (arith, q .bound (p .met .0) (p .met .1 .0) j (p .met .1 .1), p .bound (q .met .0) (q .met .1 .0) k (q .met .1 .1))
 
--- it is the same after both bits, 2 bits at least and 12 at most
+-- IT IS THE SAME AFTER BOTH BITS, 2 BITS AT LEAST AND 12 AT MOST
 pub most-bit-before : (b c : Bool) (ds : List Two) → mostNeeded b ds ≡ mostNeeded c ds
 most-bit-before b c ds = most-from ds 0 b c
 
