@@ -19,7 +19,7 @@ use Rattle.word_needs.specs.Promise.{farthest, ReachAtMost, Needs, start
 use Rattle.word_needs.specs.steps.Walk.{walkWord}
 use Rattle.word_needs.proofs.Fixing.{all-fix, needed-is, needed-only}
 use Rattle.word_needs.proofs.Walk.{walk-is, needed-some, walk-word-most, six-fix}
-use Rattle.word_needs.proofs.Starts.{needed-bit, most-from, most-none, most-bound, first-word, words-are}
+use Rattle.word_needs.proofs.Starts.{needed-bit, most-from, most-none, most-bound, first-word}
 
 -- ---- the number
 
