@@ -143,6 +143,7 @@ done
 lines "$wrong_row" >"$room/say"
 begin "ahead: a byte more, later"
 run_once ahead 0 sh -c '{ cat "$1" && sleep 0.2 && printf x; } | "$2"' - "$room/frame" "$program"
+run_once 'bdre ahead' 1 sh -c '{ cat "$1" && sleep 0.2 && printf x; } | "$2" ahead' - "$room/frame" "$bdre"
 begin "ahead: an endless input"
 run_once ahead 0 sh -c 'yes 2>/dev/null | "$1"' - "$program"
 run_once 'bdre ahead' 1 sh -c 'yes 2>/dev/null | "$1" ahead' - "$bdre"

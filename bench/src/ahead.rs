@@ -10,7 +10,7 @@ pub const ANSWERS: [u32; 3] = [0, 8, 21];
 
 const BITS: usize = 1268;
 
-/// A word that needs the most that one can, and what fixes it.
+/// A word that needs as many bits as any can, with the bits that fix it.
 const LONGEST: &str = "110111000001";
 
 /// Of the last two the lowest byte, or the lowest two, are those of 155.

@@ -17,8 +17,20 @@ use Rattle.texts.specs.Numbers.{decimal}
 use Rattle.texts.proofs.Texts.{from-blank}
 use Rattle.texts.proofs.Numbers.{decimal-short}
 use Rattle.report.specs.Words.{answerText}
+use Rattle.report.proofs.Words.{answer-short}
 use Rattle.look_ahead.specs.Outcome.{Outcome, outcome}
 use Rattle.ahead_report.specs.Said.{outcomeText, aheadText}
+
+bits-short : (n : ℕ) → length (decimal n ++ the "\n") ≤ 256
+bits-short n = omega (arith, length-append (decimal n) (the "\n"), decimal-short 20 n)
+
+-- it has room
+pub outcome-short : (o : Outcome) → length (outcomeText o) ≤ 256
+outcome-short o = by (isDone (o .answer))
+  where
+    by : (t : Bool) → length (cond t (decimal (o .bits) ++ the "\n") (answerText (o .answer))) ≤ 256
+    by true = bits-short (o .bits)
+    by false = answer-short (o .answer)
 
 -- ---- of an outcome; t is whether its answer is 0
 
@@ -31,8 +43,7 @@ module _ (a : Answer) (n : ℕ) {t : Bool} (ht : t ≡ isDone a) where
 
   pub bits-said : {b r : Text} → t ≡ true → b ≡ blankText → r ≡ added b (decimal n ++ the "\n") → r ≡ textOf (outcomeText own)
   bits-said {b} {r} e hb hr =
-      let short : length (decimal n ++ the "\n") ≤ 256 = omega (arith, length-append (decimal n) (the "\n"), decimal-short 20 n) in
-      from-blank (decimal n ++ the "\n") r short (hr ∙ ap (λ (x : Text). added x (decimal n ++ the "\n")) hb) ∙ ap textOf (own-text true e)
+      from-blank (decimal n ++ the "\n") r (bits-short n) (hr ∙ ap (λ (x : Text). added x (decimal n ++ the "\n")) hb) ∙ ap textOf (own-text true e)
 
   pub refusal-said : {r : Text} → t ≡ false → r ≡ textOf (answerText a) → r ≡ textOf (outcomeText own)
   refusal-said {r} e hr = hr ∙ ap textOf (own-text false e)

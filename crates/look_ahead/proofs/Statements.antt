@@ -62,9 +62,9 @@ module _ (b : Bool) (row : List ℕ) (dc : ℕ) where
       (omega (arith, bits-are, most-two b ds some), omega (arith, bits-are, most-twelve b ds)),
     )
 
-    twice : {n : ℕ} → 2 * mostNeeded b (pairs (frameBits row dc)) ≡ n → outcome b row dc .bits ≡ n
+    bits-from : {n : ℕ} → 2 * mostNeeded b (pairs (frameBits row dc)) ≡ n → outcome b row dc .bits ≡ n
     unfolding ds
-    twice e = bits-are ∙ e
+    bits-from e = bits-are ∙ e
 
     -- WITH 110111000001 AT SOME WORD'S START A FRAME NEEDS 12 BITS
     pub meets : (i : ℕ) → i < length (wordStarts b (pairs (frameBits row dc))) → (more : List Two) → startAt b (pairs (frameBits row dc)) i .left ≡ pairs meeting ++ more
@@ -137,4 +137,4 @@ module _ (l : List ℕ) (dc : ℕ) where
       let whole : pairs (frameBits shown dc) ≡ pairs meeting ++ pairs more =
       ap pairs (sym (take-append-drop 12 (frameBits shown dc)) ∙ ap (λ (k : List ℕ). k ++ more) front)
       in
-      twice b shown dc right (ap (λ (ds : List Two). 2 * mostNeeded b ds) whole ∙ met-in-frame b (pairs meeting ++ pairs more) 0 (omega arith) (pairs more) refl)
+      bits-from b shown dc right (ap (λ (ds : List Two). 2 * mostNeeded b ds) whole ∙ met-in-frame b (pairs meeting ++ pairs more) 0 (omega arith) (pairs more) refl)

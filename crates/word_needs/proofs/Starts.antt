@@ -31,6 +31,10 @@ words-from (d ∷ ds) zero b =
     let c = lastBit false (r .groups) in
     ap (λ (l : List ℕ). bits (r .groups) ++ l) (words-from ds n c) ∙ sym (bits-append (r .groups) (modulateFrom ds n c .groups))
 
+-- THE WORDS, ONE BEHIND THE OTHER, ARE THE FRAME'S MODULATION BITS
+pub words-frame : (b : Bool) (ds : List Two) → wordsBits (wordStarts b ds) ≡ bits (modulate b ds .groups)
+words-frame b ds = words-from ds 0 b
+
 -- ---- the bit before
 
 pub needed-bit : (b c : Bool) (d : Two) (ds : List Two) → needed b (d ∷ ds) ≡ needed c (d ∷ ds)
@@ -130,6 +134,3 @@ unfolding startsFrom
 first-word b d ds =
     let r = rowTaken b (d ∷ ds) in
     some-most (record { bit = b; left = d ∷ ds }) (startsFrom ds (length (r .pairs) - 1) (lastBit false (r .groups)))
-
-pub words-are : (b : Bool) (ds : List Two) → wordsBits (wordStarts b ds) ≡ bits (modulate b ds .groups)
-words-are b ds = words-from ds 0 b

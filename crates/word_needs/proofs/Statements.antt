@@ -1,5 +1,5 @@
 -- Document 02, W-212: what is promised of the bits that a word needs. That their number is the least, and the only such, stands in proofs/Fixing
--- (`needed-is`, `needed-only`); that the words make the frame, in proofs/Starts (`starts-next`, `words-are`). Assumes nothing.
+-- (`needed-is`, `needed-only`); that the words make the frame, in proofs/Starts (`starts-next`, `words-frame`). Assumes nothing.
 use mathlib.Core.Path.{_≡_, refl, sym, ap, subst, _∙_}
 use mathlib.Core.Bool.{Bool, false, true≢false}
 use mathlib.Core.List.{List, [], _∷_, _++_}
