@@ -150,22 +150,13 @@ run_once 'bdre ahead' 1 sh -c 'yes 2>/dev/null | "$1" ahead' - "$bdre"
 
 # Bad arguments; what cannot be read or written.
 cp "$room/frame" "$room/input"
-begin 'ahead: arguments'
-ends 2 'usage: ahead < FRAME' '' ahead frame
-ends 2 'usage: ahead < FRAME' '' ahead ''
-ends 2 'usage: ahead < FRAME' '' ahead --help
-ends 2 'usage: ahead < FRAME' '' ahead 1 2
-
-# not_read TITLE COMPLAINED SCRIPT: the program ends with 0, bdre with 1.
-not_read() {
-    begin "ahead: $1"
-    expect '' "$2"
-    run_once ahead 0 sh -c "$3" - "$program"
-    run_once 'bdre ahead' 1 sh -c "$3" - "$bdre" ahead
-}
-not_read 'standard input closed' 'standard input: Bad file descriptor' '"$@" <&-'
-not_read 'a folder as standard input' 'standard input: Is a directory' '"$@" <.'
+no_arguments ahead FRAME
+unusable ahead 'standard input closed' 'standard input: Bad file descriptor' '"$@" <&-'
+unusable ahead 'a folder as standard input' 'standard input: Is a directory' '"$@" <.'
+# Behind bdre the shell says it in its own words.
 begin 'ahead: the number to a full disk'
 expect '' 'standard output: No space left on device'
 run_once ahead 0 sh -c '"$1" >/dev/full' - "$program"
+expect '' ''
+run_once 'bdre ahead' 1 sh -c '"$1" ahead >/dev/full 2>/dev/null' - "$bdre"
 : >"$room/input"

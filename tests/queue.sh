@@ -187,24 +187,12 @@ lines "$none
 run_once 'bdre queue' 0 sh -c '{ { yes 02 2>/dev/null | "$1" queue 2>/dev/null; echo "$?" >&5; } | head -n 1; } 5>&1' - "$bdre"
 
 # Bad arguments; what cannot be read or written.
-begin 'queue: arguments'
-ends 2 'usage: queue < RECORDS' '' queue file
-ends 2 'usage: queue < RECORDS' '' queue ''
-ends 2 'usage: queue < RECORDS' '' queue --help
-ends 2 'usage: queue < RECORDS' '' queue 02 02
-
-# unusable TITLE COMPLAINED SCRIPT: the program ends with 0, bdre with 1.
-unusable() {
-    begin "queue: $1"
-    expect '' "$2"
-    run_once queue 0 sh -c "$3" - "$program"
-    run_once 'bdre queue' 1 sh -c "$3" - "$bdre" queue
-}
+no_arguments queue RECORDS
 printf '02\n02\n' >"$room/input"
-unusable 'standard input closed' 'standard input: Bad file descriptor' '"$@" <&-'
-unusable 'a folder as standard input' 'standard input: Is a directory' '"$@" <.'
-unusable 'answers to a full disk' 'standard output: No space left on device' '"$@" >/dev/full'
+unusable queue 'standard input closed' 'standard input: Bad file descriptor' '"$@" <&-'
+unusable queue 'a folder as standard input' 'standard input: Is a directory' '"$@" <.'
+unusable queue 'answers to a full disk' 'standard output: No space left on device' '"$@" >/dev/full'
 printf '02' >"$room/input"
-unusable 'the last answer to a full disk' 'standard output: No space left on device' '"$@" >/dev/full'
-unusable 'endless answers to a full disk' 'standard output: No space left on device' 'yes 02 2>/dev/null | "$@" >/dev/full'
+unusable queue 'the last answer to a full disk' 'standard output: No space left on device' '"$@" >/dev/full'
+unusable queue 'endless answers to a full disk' 'standard output: No space left on device' 'yes 02 2>/dev/null | "$@" >/dev/full'
 : >"$room/input"

@@ -104,6 +104,21 @@ bdre_ends() {
     run_once "bdre $*" "$behind" "$room/home/bdre" "$@"
 }
 
+# no_arguments PROGRAM INPUT: a program that reads standard input and takes no argument.
+no_arguments() {
+    begin "$1: arguments"
+    for argument in file '' --help; do ends 2 "usage: $1 < $2" '' "$1" "$argument"; done
+    ends 2 "usage: $1 < $2" '' "$1" 02 02
+}
+
+# unusable PROGRAM TITLE COMPLAINED SCRIPT: an input or output of such a program that cannot be used: it ends with 0, bdre with 1.
+unusable() {
+    begin "$1: $2"
+    expect '' "$3"
+    run_once "$1" 0 sh -c "$4" - "$room/home/target/bin/$1"
+    run_once "bdre $1" 1 sh -c "$4" - "$room/home/bdre" "$1"
+}
+
 # A byte, given as a number, at an offset of a file.
 poke() {
     printf "\\$(printf '%03o' "$3")" | dd of="$1" bs=1 seek="$2" conv=notrunc 2>/dev/null
