@@ -2,9 +2,9 @@
 ghost use Rattle.std.specs.Prelude.{◌≡◌, ◌+◌, ◌<◌, length};
 ghost use Rattle.answer.specs.declared.Answer.TheVariants.{Done};
 ghost use Rattle.address.specs.Judged.{judged};
-ghost use Rattle.bis.specs.AccessBlock.{addressFields, accessByte};
-ghost use Rattle.bis.specs.BisBlock.{accessColumn};
-ghost use Rattle.sizes.specs.Sizes.{sideSize};
+ghost use Rattle.bis.specs.AccessBlock.{address_fields, access_byte};
+ghost use Rattle.bis.specs.BisBlock.{access_column};
+ghost use Rattle.sizes.specs.Sizes.{side_size};
 
 use address::Psn;
 use address_field::address_field;
@@ -12,8 +12,8 @@ use bis::Fields;
 
 // The sixteen address fields of a cluster.
 pub fn address_fields(psn: Psn, side: &[u8]) -> Fields
-    requires { (length side.now ≡ sideSize) × (judged psn.0 ≡ Done) }
-    ensures { result ≡ addressFields psn.0 side.now }
+    requires { (length side.now ≡ side_size) × (judged psn.0 ≡ Done) }
+    ensures { result ≡ address_fields psn.0 side.now }
 {
     let mut fields = [[0u8; 9]; 16];
     let mut y: usize = 0;
@@ -27,8 +27,8 @@ pub fn address_fields(psn: Psn, side: &[u8]) -> Fields
 
 // The byte in a row and a column of the access block.
 fn access_byte(fields: &Fields, side: &[u8], row: usize, c: usize) -> u8
-    requires { (length side.now ≡ sideSize) × (row < 30) × (c < 24) }
-    ensures { result ≡ accessByte fields.now side.now row c }
+    requires { (length side.now ≡ side_size) × (row < 30) × (c < 24) }
+    ensures { result ≡ access_byte fields.now side.now row c }
 {
     if row < 6 {
         let y = 8 * (row % 2) + (row / 2 + 16 - c / 3) % 8;
@@ -40,8 +40,8 @@ fn access_byte(fields: &Fields, side: &[u8], row: usize, c: usize) -> u8
 
 // The 30 information bytes of code word c.
 pub fn access_column(fields: &Fields, side: &[u8], c: usize) -> [u8; 30]
-    requires { (length side.now ≡ sideSize) × (c < 24) }
-    ensures { result ≡ accessColumn fields.now side.now c }
+    requires { (length side.now ≡ side_size) × (c < 24) }
+    ensures { result ≡ access_column fields.now side.now c }
 {
     let mut column = [0u8; 30];
     let mut row: usize = 0;

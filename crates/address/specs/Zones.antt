@@ -18,9 +18,9 @@ zone2 = record { first = 0x0410_0000; last = 0x0508_9BFF }
 abbrev pub within : Zone → ℕ → Bool
 within z psn = leb z.first psn && leb psn z.last
 
-abbrev pub inDataZone : ℕ → Bool
-inDataZone psn = within zone0 psn || (within zone1 psn || within zone2 psn)
+abbrev pub in_data_zone : ℕ → Bool
+in_data_zone psn = within zone0 psn || (within zone1 psn || within zone2 psn)
 
 -- the PSN of a cluster's first sector is a multiple of 32
-abbrev pub firstOfCluster : ℕ → Bool
-firstOfCluster psn = eqb (psn % 32) 0
+abbrev pub first_of_cluster : ℕ → Bool
+first_of_cluster psn = eqb (psn % 32) 0

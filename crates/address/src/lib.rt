@@ -1,39 +1,41 @@
 // The three numberings of clause 13.9.2.3 and 17.2. A place that takes one is never handed another.
+#![tactic(auto)]
+
 ghost use Rattle.std.specs.Prelude.{◌≡◌};
-ghost use Rattle.address.specs.Zones.{within, inDataZone};
-ghost use Rattle.address.specs.Judged.{judged, ifDone};
-ghost use Rattle.address.specs.Conversions.{withPsn, psnToPaa, paaToPsn, psnToAun, aunToPsn};
+ghost use Rattle.address.specs.Zones.{within, in_data_zone};
+ghost use Rattle.address.specs.Judged.{judged, if_done};
+ghost use Rattle.address.specs.Conversions.{with_psn, psn_to_paa, paa_to_psn, psn_to_aun, aun_to_psn};
 
 use answer::Answer;
 
 // Physical sector number of a cluster's first sector.
-#[derive(Drop)]
+#[derive(Clone, Copy)]
 pub struct Psn(pub u32);
 
 // Address unit number.
-#[derive(Drop)]
+#[derive(Clone, Copy)]
 pub struct Aun(pub u32);
 
 // Physical ADIP address of a cluster's first word.
-#[derive(Drop)]
+#[derive(Clone, Copy)]
 pub struct Paa(pub u32);
 
 // A PSN, 0 where the input is refused.
-#[derive(Drop)]
+#[derive(Clone, Copy)]
 pub struct PsnAnswer {
     pub answer: Answer,
     pub psn: Psn,
 }
 
 // An AUN, 0 where the input is refused.
-#[derive(Drop)]
+#[derive(Clone, Copy)]
 pub struct AunAnswer {
     pub answer: Answer,
     pub aun: Aun,
 }
 
 // A PAA, 0 where the input is refused.
-#[derive(Drop)]
+#[derive(Clone, Copy)]
 pub struct PaaAnswer {
     pub answer: Answer,
     pub paa: Paa,
@@ -49,7 +51,7 @@ fn within(first: u32, last: u32, psn: u32) -> bool
 }
 
 fn in_data_zone(psn: u32) -> bool
-    ensures { result ≡ inDataZone psn }
+    ensures { result ≡ in_data_zone psn }
 {
     if within(0x0010_0000, 0x0108_9BFF, psn) {
         return true;
@@ -61,7 +63,7 @@ fn in_data_zone(psn: u32) -> bool
 }
 
 fn if_done(answer: Answer, x: u32) -> u32
-    ensures { result ≡ ifDone answer x }
+    ensures { result ≡ if_done answer x }
 {
     if answer.is_done() {
         return x;
@@ -86,7 +88,7 @@ impl Psn {
 
     // The PAA of the cluster's first word.
     pub fn paa(self) -> PaaAnswer
-        ensures { result ≡ psnToPaa self.0 }
+        ensures { result ≡ psn_to_paa self.0 }
     {
         let answer = self.judge();
         let paa = Paa(if_done(answer, self.0 / 8));
@@ -95,7 +97,7 @@ impl Psn {
 
     // The AUN of an address unit, 0 to 15, of the cluster.
     pub fn aun(self, unit: u32) -> AunAnswer
-        ensures { result ≡ psnToAun self.0 unit }
+        ensures { result ≡ psn_to_aun self.0 unit }
     {
         let answer = self.judge();
         if 15 < unit {
@@ -110,7 +112,7 @@ impl Psn {
 
     // The PSN itself with its answer.
     fn own(self) -> PsnAnswer
-        ensures { result ≡ withPsn (judged self.0) self.0 }
+        ensures { result ≡ with_psn (judged self.0) self.0 }
     {
         let answer = self.judge();
         let psn = Psn(if_done(answer, self.0));
@@ -121,7 +123,7 @@ impl Psn {
 impl Paa {
     // The PSN of the cluster whose first word has this PAA.
     pub fn psn(self) -> PsnAnswer
-        ensures { result ≡ paaToPsn self.0 }
+        ensures { result ≡ paa_to_psn self.0 }
     {
         let paa = self.0;
         if paa % 4 != 0 {
@@ -143,7 +145,7 @@ impl Paa {
 impl Aun {
     // The PSN of the cluster that holds the address unit.
     pub fn psn(self) -> PsnAnswer
-        ensures { result ≡ aunToPsn self.0 }
+        ensures { result ≡ aun_to_psn self.0 }
     {
         let aun = self.0;
         if aun % 2 != 0 {

@@ -1,8 +1,10 @@
 // 13.9.2.2: address fields.
+#![tactic(auto)]
+
 pub mod steps;
 
 ghost use Rattle.std.specs.Prelude.{◌≡◌};
-ghost use Rattle.bis.specs.AddressField.{reordered, information, primaryField, addressField};
+ghost use Rattle.bis.specs.AddressField.{reordered, information, primary_field, address_field};
 
 use address::Aun;
 use big_endian::word_bytes;
@@ -24,7 +26,7 @@ fn information(aun: Aun, flag: u8) -> [u8; 5]
 }
 
 fn primary_field(aun: Aun, flag: u8) -> [u8; 9]
-    ensures { result ≡ primaryField aun.0 flag }
+    ensures { result ≡ primary_field aun.0 flag }
 {
     let i = information(aun, flag);
     let mut p = [0u8; 4];
@@ -34,7 +36,7 @@ fn primary_field(aun: Aun, flag: u8) -> [u8; 9]
 
 // The address field of a unit with this AUN and this flag byte.
 pub fn address_field(aun: Aun, flag: u8) -> [u8; 9]
-    ensures { result ≡ addressField aun.0 flag }
+    ensures { result ≡ address_field aun.0 flag }
 {
     partly_inverted(primary_field(aun, flag))
 }

@@ -1,6 +1,6 @@
 // The inversion of an address field, for the crates of this repository.
 ghost use Rattle.std.specs.Prelude.{◌≡◌, ◌-◌};
-ghost use Rattle.bis.specs.AddressField.{partlyInverted};
+ghost use Rattle.bis.specs.AddressField.{partly_inverted};
 
 fn inverted(byte: u8) -> u8
     ensures { result ≡ 255 - byte }
@@ -10,7 +10,7 @@ fn inverted(byte: u8) -> u8
 
 // Bytes 2, 3, 5 and 6 inverted; it undoes itself.
 pub fn partly_inverted(f: [u8; 9]) -> [u8; 9]
-    ensures { result ≡ partlyInverted f }
+    ensures { result ≡ partly_inverted f }
 {
     [
         f[0],

@@ -1,8 +1,10 @@
 // A sheet of addresses (document 02, W-211): 1 to 64 PSNs, accepted or refused as a whole.
+#![tactic(auto)]
+
 ghost use Rattle.std.specs.Prelude.{◌≡◌, ◌↔◌, ◌≤◌, ◌<◌, ltb};
 ghost use Rattle.answer.specs.declared.Answer.TheVariants.{Done};
 ghost use Rattle.laws.specs.First.{first};
-ghost use Rattle.address_sheet.specs.Sheet.{countAnswer, aloneBy, repeats, entriesAnswer, sheetAnswer, entryPsn};
+ghost use Rattle.address_sheet.specs.Sheet.{count_answer, alone_by, repeats, entries_answer, sheet_answer, entry_psn};
 ghost use Rattle.address_sheet.specs.Promise.{RightSheet};
 
 use address::Psn;
@@ -12,7 +14,7 @@ use answer::Answer;
 pub const SHEET: usize = 64;
 
 fn judge_count(count: usize) -> Answer
-    ensures { result ≡ countAnswer count }
+    ensures { result ≡ count_answer count }
 {
     if count == 0 {
         return Answer::WrongCount;
@@ -26,7 +28,7 @@ fn judge_count(count: usize) -> Answer
 // The lowest entry whose PSN, alone, is answered by this number; count where there is none.
 fn first_alone_by(psns: [Psn; SHEET], count: usize, number: u32) -> usize
     requires { count ≤ 64 }
-    ensures { result ≡ first count (aloneBy number (entryPsn psns)) }
+    ensures { result ≡ first count (alone_by number (entry_psn psns)) }
 {
     let mut i = 0;
     while i < count {
@@ -42,7 +44,7 @@ fn first_alone_by(psns: [Psn; SHEET], count: usize, number: u32) -> usize
 // The nearest entry before i that has its PSN, i where there is none.
 fn nearest_same(psns: [Psn; SHEET], i: usize) -> usize
     requires { i < 64 }
-    ensures { (result ≤ i) × (ltb result i ≡ repeats (entryPsn psns) i) }
+    ensures { (result ≤ i) × (ltb result i ≡ repeats (entry_psn psns) i) }
 {
     let mut j = i;
     while 0 < j {
@@ -57,7 +59,7 @@ fn nearest_same(psns: [Psn; SHEET], i: usize) -> usize
 // The lowest entry whose PSN an earlier one has, count where there is none.
 fn first_repeated(psns: [Psn; SHEET], count: usize) -> usize
     requires { count ≤ 64 }
-    ensures { result ≡ first count (repeats (entryPsn psns)) }
+    ensures { result ≡ first count (repeats (entry_psn psns)) }
 {
     let mut later = 0;
     while later < count {
@@ -75,7 +77,7 @@ fn first_repeated(psns: [Psn; SHEET], count: usize) -> usize
 // Tests 6, 7 and 24, each over all entries before the next.
 fn judge_entries(psns: [Psn; SHEET], count: usize) -> Answer
     requires { count ≤ 64 }
-    ensures { result ≡ entriesAnswer count (entryPsn psns) }
+    ensures { result ≡ entries_answer count (entry_psn psns) }
 {
     let multiple = first_alone_by(psns, count, 6);
     if multiple < count {
@@ -94,8 +96,8 @@ fn judge_entries(psns: [Psn; SHEET], count: usize) -> Answer
 
 // Judges the first `count` entries as one sheet: 0, or 23, 6, 7 and 24, tested in this order.
 pub fn judge(psns: [Psn; SHEET], count: usize) -> Answer
-    ensures value { result ≡ sheetAnswer count (entryPsn psns) }
-    ensures variant { (result ≡ Done) ↔ RightSheet count (entryPsn psns) }
+    ensures value { result ≡ sheet_answer count (entry_psn psns) }
+    ensures variant { (result ≡ Done) ↔ RightSheet count (entry_psn psns) }
 {
     let counted = judge_count(count);
     if counted.is_done() {

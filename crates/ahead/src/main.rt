@@ -1,5 +1,7 @@
 // ahead: how far ahead of a word's start the modulator reads in the frame that standard input gives (document 02, W-212): a dc word in four bytes, the
 // highest first, and the frame's 155 bytes.
+#![tactic(auto)]
+
 use libc::STDIN_FILENO;
 
 // Whether a read of standard input fails.

@@ -9,50 +9,50 @@ use borrow.Author.Tests.{eq-eqb}
 use lib.ListN.{length, length-append}
 use Rattle.answer.specs.declared.Answer.{Answer}
 use Rattle.answer.specs.declared.Answer.TheVariants.{WrongRow}
-use Rattle.answer.specs.Answer.{number_of, place_of, isDone}
+use Rattle.answer.specs.Answer.{number_of, place_of, is_done}
 use Rattle.answer.proofs.Tests.{number-zero, done-is, done-not}
-use Rattle.sizes.specs.Sizes.{rowSize}
-use Rattle.big_endian.specs.Words.{word_at, fourBytes}
+use Rattle.sizes.specs.Sizes.{row_size}
+use Rattle.big_endian.specs.Words.{word_at, four_bytes}
 use Rattle.big_endian.proofs.Words.{word_back}
 use Rattle.texts.specs.Text.{the}
 use Rattle.texts.specs.Numbers.{decimal}
 use Rattle.texts.proofs.Distinct.{decimal-digits, split, decimal-same}
-use Rattle.report.specs.Words.{meaning, answerText}
+use Rattle.report.specs.Words.{meaning, answer_text}
 use Rattle.report.proofs.Statements.{answers-differ}
 use Rattle.look_ahead.specs.Outcome.{Outcome, outcome}
 use Rattle.look_ahead.proofs.Statements.{reports-exactly}
-use Rattle.ahead_report.specs.Said.{outcomeText, aheadText}
+use Rattle.ahead_report.specs.Said.{outcome_text, ahead_text}
 
 -- FOR A DC WORD AND A ROW THE OPERATION'S OUTCOME IS PRINTED
-pub frame-text : (b : Bool) (row : List ℕ) (dc : ℕ) → length row ≡ rowSize → dc < 2 ^ 32 → aheadText b (fourBytes dc ++ row) ≡ outcomeText (outcome b row dc)
-unfolding aheadText
+pub frame-text : (b : Bool) (row : List ℕ) (dc : ℕ) → length row ≡ row_size → dc < 2 ^ 32 → ahead_text b (four_bytes dc ++ row) ≡ outcome_text (outcome b row dc)
+unfolding ahead_text
 frame-text b row dc size small =
-    ap (λ (t : Bool). cond t (outcomeText (outcome b row (word_at (fourBytes dc ++ row) 0))) (answerText WrongRow)) (eq-eqb (length (fourBytes dc ++ row)) 159 (omega (arith, size)))
-    ∙ ap (λ (d : ℕ). outcomeText (outcome b row d)) (word_back dc small)
+    ap (λ (t : Bool). cond t (outcome_text (outcome b row (word_at (four_bytes dc ++ row) 0))) (answer_text WrongRow)) (eq-eqb (length (four_bytes dc ++ row)) 159 (omega (arith, size)))
+    ∙ ap (λ (d : ℕ). outcome_text (outcome b row d)) (word_back dc small)
 
 -- ---- what it tells
 
 -- a refusal's number stands before the first space
-abbrev fromPlace : Answer → List ℕ
-fromPlace a = decimal (place_of a) ++ (10 ∷ meaning a)
+abbrev from_place : Answer → List ℕ
+from_place a = decimal (place_of a) ++ (10 ∷ meaning a)
 
-from-number : (a : Answer) → decimal (number_of a) ++ (32 ∷ fromPlace a) ≡ answerText a
-unfolding answerText
+from-number : (a : Answer) → decimal (number_of a) ++ (32 ∷ from_place a) ≡ answer_text a
+unfolding answer_text
 from-number a = simp append_assoc
 
 -- a number alone is no refusal's text
-no-refusal : (n : ℕ) (a : Answer) → decimal n ++ (10 ∷ []) ≡ answerText a → ⊥
+no-refusal : (n : ℕ) (a : Answer) → decimal n ++ (10 ∷ []) ≡ answer_text a → ⊥
 no-refusal n a e =
-    let both = split (decimal-digits 20 n) (decimal-digits 20 (number_of a)) 10 32 [] (fromPlace a) (omega arith) (omega arith) (e ∙ sym (from-number a)) in
+    let both = split (decimal-digits 20 n) (decimal-digits 20 (number_of a)) 10 32 [] (from_place a) (omega arith) (omega arith) (e ∙ sym (from-number a)) in
     omega (arith, ap length both.1, length-append (decimal (place_of a)) (10 ∷ meaning a))
 
 -- of numbers that have room
-outcome-told : (o p : Outcome) → place_of o.answer < 10 ^ 20 → place_of p.answer < 10 ^ 20 → o.bits < 10 ^ 20 → p.bits < 10 ^ 20 → outcomeText o ≡ outcomeText p
+outcome-told : (o p : Outcome) → place_of o.answer < 10 ^ 20 → place_of p.answer < 10 ^ 20 → o.bits < 10 ^ 20 → p.bits < 10 ^ 20 → outcome_text o ≡ outcome_text p
     → (o.answer ≡ p.answer) × (number_of o.answer ≡ 0 → o.bits ≡ p.bits)
-outcome-told o p place place' few few' e = by (isDone o.answer) (isDone p.answer) refl refl e
+outcome-told o p place place' few few' e = by (is_done o.answer) (is_done p.answer) refl refl e
   where
-    by : (s t : Bool) → isDone o.answer ≡ s → isDone p.answer ≡ t
-        → cond s (decimal o.bits ++ the "\n") (answerText o.answer) ≡ cond t (decimal p.bits ++ the "\n") (answerText p.answer)
+    by : (s t : Bool) → is_done o.answer ≡ s → is_done p.answer ≡ t
+        → cond s (decimal o.bits ++ the "\n") (answer_text o.answer) ≡ cond t (decimal p.bits ++ the "\n") (answer_text p.answer)
         → (o.answer ≡ p.answer) × (number_of o.answer ≡ 0 → o.bits ≡ p.bits)
     by true true hs ht e = (
       done-is o.answer hs ∙ sym (done-is p.answer ht),
@@ -74,7 +74,7 @@ bits_small b row dc =
     ]
 
 -- THE TEXT TELLS THE ANSWER AND THE NUMBER OF BITS
-pub text-tells : (b : Bool) (row row' : List ℕ) (dc dc' : ℕ) → outcomeText (outcome b row dc) ≡ outcomeText (outcome b row' dc')
+pub text-tells : (b : Bool) (row row' : List ℕ) (dc dc' : ℕ) → outcome_text (outcome b row dc) ≡ outcome_text (outcome b row' dc')
     → ((outcome b row dc).answer ≡ (outcome b row' dc').answer) × ((outcome b row dc).bits ≡ (outcome b row' dc').bits)
 text-tells b row row' dc dc' e =
     let both = outcome-told (outcome b row dc) (outcome b row' dc') (place-small b row dc) (place-small b row' dc') (bits_small b row dc) (bits_small b row' dc') e in (

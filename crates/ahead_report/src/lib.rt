@@ -1,7 +1,9 @@
 // What the program `ahead` prints for its input, as bytes.
+#![tactic(auto)]
+
 ghost use Rattle.std.specs.Prelude.{Bool, ◌≡◌};
 ghost use Rattle.texts.specs.Text.{text_of};
-ghost use Rattle.ahead_report.specs.Said.{outcomeText, aheadText};
+ghost use Rattle.ahead_report.specs.Said.{outcome_text, ahead_text};
 
 use answer::Answer;
 use answer_report::answer_text;
@@ -11,7 +13,7 @@ use texts::{Text, blank, put_piece};
 
 // The number of bits, or a refusal.
 fn outcome_text(ahead: Ahead) -> Text
-    ensures { result ≡ text_of (outcomeText (record { answer = ahead.answer; bits = ahead.bits })) }
+    ensures { result ≡ text_of (outcome_text (record { answer = ahead.answer; bits = ahead.bits })) }
 {
     let answer = ahead.answer;
     if answer.is_done() {
@@ -22,7 +24,7 @@ fn outcome_text(ahead: Ahead) -> Text
 
 // The input is the dc word in four bytes, the highest first, and the frame's 155 bytes; 21 is said of any other length.
 pub fn ahead(input: &[u8]) -> Text
-    ensures { (b : Bool) → result ≡ text_of (aheadText b input.now) }
+    ensures { (b : Bool) → result ≡ text_of (ahead_text b input.now) }
 {
     if input.len() != 159 {
         return answer_text(Answer::WrongRow);

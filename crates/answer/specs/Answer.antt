@@ -55,14 +55,14 @@ place_of WrongRecord = 0
 place_of NoBench = 0
 place_of BenchWaiting = 0
 
-abbrev pub isDone : Answer → Bool
-isDone a = eqb (number_of a) 0
+abbrev pub is_done : Answer → Bool
+is_done a = eqb (number_of a) 0
 
 -- ---- tests
 
 -- two tests in rising order: the second speaks where the first is passed
-abbrev pub andThen : Answer → Answer → Answer
-andThen a next = cond (isDone a) next a
+abbrev pub and_then : Answer → Answer → Answer
+and_then a next = cond (is_done a) next a
 
 -- a test of the indexes below n, of which i is the lowest that fails; i is n where none does
 abbrev pub lowest : (ℕ → Answer) → ℕ → ℕ → Answer

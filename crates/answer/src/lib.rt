@@ -1,8 +1,10 @@
 // What operations answer: a case for each row of document 01's table of returned numbers, and for each of document 02's that has landed.
-ghost use Rattle.std.specs.Prelude.{◌≡◌};
-ghost use Rattle.answer.specs.Answer.{number_of, place_of, isDone, andThen};
+#![tactic(auto)]
 
-#[derive(Drop)]
+ghost use Rattle.std.specs.Prelude.{◌≡◌};
+ghost use Rattle.answer.specs.Answer.{number_of, place_of, is_done, and_then};
+
+#[derive(Clone, Copy)]
 pub enum Answer {
     Done,
     // Which of the slices of user bytes, where an operation takes more than one.
@@ -108,14 +110,14 @@ impl Answer {
     }
 
     pub fn is_done(self) -> bool
-        ensures { result ≡ isDone self }
+        ensures { result ≡ is_done self }
     {
         self.number() == 0
     }
 
     // Two tests in rising order: the second speaks where the first is passed.
     pub fn and_then(self, next: Answer) -> Answer
-        ensures { result ≡ andThen self next }
+        ensures { result ≡ and_then self next }
     {
         if self.is_done() {
             return next;

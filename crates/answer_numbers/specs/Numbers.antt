@@ -3,7 +3,7 @@ use Rattle.std.specs.Prelude.{Bool, ℕ}
 use Rattle.answer.specs.declared.Answer.{Answer}
 use Rattle.answer.specs.Answer.{number_of, place_of}
 use Rattle.verdict.specs.declared.Verdict.{Verdict}
-use Rattle.verdict.specs.Verdict.{kind_of, refusalIn, ownPsn, place_in}
+use Rattle.verdict.specs.Verdict.{kind_of, refusal_in, own_psn, place_in}
 use Rattle.answer_numbers.specs.declared.Answered.{Answered}
 use Rattle.answer_numbers.specs.declared.ReadAnswered.{ReadAnswered}
 use Rattle.answer_numbers.specs.declared.Marking.{Marking}
@@ -12,11 +12,11 @@ use Rattle.answer_numbers.specs.declared.Converted.{Converted}
 abbrev pub answered : Answer → Answered
 answered a = record { number = number_of a; place = place_of a }
 
-abbrev pub readAnswered : Answer → ℕ → Bool → ReadAnswered
-readAnswered a psn first = record { number = number_of a; psn = psn; place = place_of a; first = first }
+abbrev pub read_answered : Answer → ℕ → Bool → ReadAnswered
+read_answered a psn first = record { number = number_of a; psn = psn; place = place_of a; first = first }
 
 abbrev pub marking : Verdict → Marking
-marking v = record { verdict = kind_of v; number = refusalIn v; psn = ownPsn v; place = place_in v }
+marking v = record { verdict = kind_of v; number = refusal_in v; psn = own_psn v; place = place_in v }
 
 abbrev pub converted : Answer → ℕ → Converted
 converted a value = record { number = number_of a; value = value }

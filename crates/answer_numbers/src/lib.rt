@@ -1,6 +1,8 @@
 // What a caller in another language sees of an answer: numbers.
+#![tactic(auto)]
+
 ghost use Rattle.std.specs.Prelude.{◌≡◌};
-ghost use Rattle.answer_numbers.specs.Numbers.{answered, readAnswered, marking, converted};
+ghost use Rattle.answer_numbers.specs.Numbers.{answered, read_answered, marking, converted};
 
 use address::Psn;
 use answer::Answer;
@@ -8,7 +10,7 @@ use verdict::Verdict;
 
 // The documents' number and place.
 #[repr(C)]
-#[derive(Drop)]
+#[derive(Clone, Copy)]
 pub struct Answered {
     pub number: u32,
     pub place: usize,
@@ -16,7 +18,7 @@ pub struct Answered {
 
 // What the reader answers; on refusal the PSN is 0 and the first # false.
 #[repr(C)]
-#[derive(Drop)]
+#[derive(Clone, Copy)]
 pub struct ReadAnswered {
     pub number: u32,
     pub psn: u32,
@@ -27,7 +29,7 @@ pub struct ReadAnswered {
 // What the marker answers: 0 pass; 1 refused, with the reader's number and place; 2 another PSN, with the image's own; 3 other user bytes and
 // 4 other side data, with the first place that differs.
 #[repr(C)]
-#[derive(Drop)]
+#[derive(Clone, Copy)]
 pub struct Marking {
     pub verdict: u32,
     pub number: u32,
@@ -37,7 +39,7 @@ pub struct Marking {
 
 // What a conversion answers: 0, 6 or 7, and the number asked for, 0 on refusal.
 #[repr(C)]
-#[derive(Drop)]
+#[derive(Clone, Copy)]
 pub struct Converted {
     pub number: u32,
     pub value: u32,
@@ -56,7 +58,7 @@ impl Answered {
 
 impl ReadAnswered {
     pub fn of(read: Answer, psn: Psn, first: bool) -> ReadAnswered
-        ensures { result ≡ readAnswered read psn.0 first }
+        ensures { result ≡ read_answered read psn.0 first }
     {
         ReadAnswered {
             number: read.number(),

@@ -1,7 +1,9 @@
 // What the programs print for an answer, as bytes.
+#![tactic(auto)]
+
 ghost use Rattle.std.specs.Prelude.{◌≡◌};
 ghost use Rattle.texts.specs.Text.{added, text_of};
-ghost use Rattle.report.specs.Words.{meaning, answerText};
+ghost use Rattle.report.specs.Words.{meaning, answer_text};
 
 use answer::Answer;
 use texts::{Text, blank, put_decimal, put_piece};
@@ -42,7 +44,7 @@ pub fn put_meaning(text: Text, answer: Answer) -> Text
 
 // Number and place, and what they mean.
 pub fn answer_text(answer: Answer) -> Text
-    ensures { result ≡ text_of (answerText answer) }
+    ensures { result ≡ text_of (answer_text answer) }
 {
     let numbered = put_decimal(blank(), answer.number() as u64);
     let placed = put_piece(numbered, b" *\n", 0, answer.place());

@@ -5,11 +5,11 @@ use mathlib.Core.Path.{◌≡◌, refl, sym, subst}
 use Prim.Native.Nat.{ℕ, ◌+◌, ◌%◌}
 use lib.Dec.{T, eqb, eqb→eq}
 use Rattle.laws.proofs.Finite.{both, both_left, both_right}
-use Rattle.modulation.specs.Modulation.{Two, d00, d01, d10, d11, Three, threeNumber, Modulated, modulate}
+use Rattle.modulation.specs.Modulation.{Two, d00, d01, d10, d11, Three, three_number, Modulated, modulate}
 use Rattle.modulation.specs.Machine.{Wait, w, w00, w0000, w000000, w000010, w11, w1101, w110111, w11011100, w1101110000, Step, step, stop, machine}
 use Rattle.modulation.proofs.Machine.{machine-is}
 use Rattle.laws.proofs.Booleans.{T_true}
-use Rattle.automaton.specs.Automaton.{transitions, ends, start, next, ending, stateAfter, accepts}
+use Rattle.automaton.specs.Automaton.{transitions, ends, start, next, ending, state_after, accepts}
 
 -- p holds of each of the list
 abbrev pub each : {A : Type 0} → (A → Bool) → List A → Bool
@@ -57,17 +57,17 @@ partners w11011100 true = 1 ∷ 4 ∷ 6 ∷ 17 ∷ []
 partners w1101110000 false = 0 ∷ 5 ∷ 7 ∷ 8 ∷ 9 ∷ 10 ∷ 11 ∷ 13 ∷ 14 ∷ 16 ∷ []
 partners w1101110000 true = 1 ∷ 4 ∷ 6 ∷ 17 ∷ []
 
-pub after-append : (s : ℕ) (a c : List Three) → stateAfter s (a ++ c) ≡ stateAfter (stateAfter s a) c
-unfolding stateAfter
+pub after-append : (s : ℕ) (a c : List Three) → state_after s (a ++ c) ≡ state_after (state_after s a) c
+unfolding state_after
 after-append s [] c = refl
-after-append s (g ∷ a) c = after-append (next s (threeNumber g)) a c
+after-append s (g ∷ a) c = after-append (next s (three_number g)) a c
 
 -- one more pair leads to partners
 follows : Step → ℕ → Bool
-follows t s = among eqb (stateAfter s t.out) (partners t.to t.bit)
+follows t s = among eqb (state_after s t.out) (partners t.to t.bit)
 
 one_more : (x : Wait) (b : Bool) (d : Two) → T (each (follows (step x b d)) (partners x b))
-unfolding follows stateAfter transitions
+unfolding follows state_after transitions
 one_more w true d = elim d [ d00 ↦ tt | d01 ↦ tt | d10 ↦ tt | d11 ↦ tt ]
 one_more w false d = elim d [ d00 ↦ tt | d01 ↦ tt | d10 ↦ tt | d11 ↦ tt ]
 one_more w00 true d = elim d [ d00 ↦ tt | d01 ↦ tt | d10 ↦ tt | d11 ↦ tt ]
@@ -94,7 +94,7 @@ finishes : Modulated → ℕ → Bool
 finishes f s = accepts s f.groups f.terminated
 
 at-the-end : (x : Wait) (b : Bool) → T (each (finishes (stop x b)) (partners x b))
-unfolding finishes stateAfter transitions ends
+unfolding finishes state_after transitions ends
 at-the-end w true = tt
 at-the-end w false = tt
 at-the-end w00 true = tt
@@ -123,7 +123,7 @@ given-accepted (d ∷ ds) x b s m =
     let t = step x b d in
     let f = machine ds t.to t.bit in
     subst (λ (z : ℕ). T (eqb (ending z f.terminated % 2) 0)) (sym (after-append s t.out f.groups))
-    (given-accepted ds t.to t.bit (stateAfter s t.out) (each_at eqb eqb→eq (follows t) s (partners x b) (one_more x b d) m))
+    (given-accepted ds t.to t.bit (state_after s t.out) (each_at eqb eqb→eq (follows t) s (partners x b) (one_more x b d) m))
 
 -- what data bits give is accepted
 pub complete : (b : Bool) (ds : List Two) → accepts (start b) (modulate b ds).groups (modulate b ds).terminated ≡ true

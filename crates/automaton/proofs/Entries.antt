@@ -11,10 +11,10 @@ use lib.ListN.{length, get_or}
 use Rattle.laws.proofs.Finite.{both, both_left, both_right, all, all-at, all₂, all₂-at}
 use Rattle.laws.proofs.Fill.{Upto}
 use Rattle.laws.proofs.Tabulate.{get_d_tabulate}
-use Rattle.modulation.specs.Modulation.{Three, threeNumber}
+use Rattle.modulation.specs.Modulation.{Three, three_number}
 use Rattle.modulation.proofs.Fronts.{three-below}
-use Rattle.automaton.specs.Automaton.{transitions, start, next, valueAdded, stateAfter, numberAfter}
-use Rattle.automaton.specs.steps.Table.{twoGroups, threeGroups, readFrom, more, tableEntry, table, Twos, After, limit}
+use Rattle.automaton.specs.Automaton.{transitions, start, next, value_added, state_after, number_after}
+use Rattle.automaton.specs.steps.Table.{two_groups, three_groups, read_from, more, table_entry, table, Twos, After, limit}
 use Rattle.automaton.proofs.Complete.{after-append}
 use Rattle.automaton.proofs.Sound.{shifted, plain}
 
@@ -50,72 +50,72 @@ more-state a g h hg =
 -- ---- two and three groups
 
 two-test : (s v : ℕ) → s < 18 → v < 64
-    → T (both (eqb (more (more s (v / 8)) (v % 8)) (readFrom s (twoGroups v))) (both (ltb (readFrom s (twoGroups v)) 14752) (ltb (readFrom s (twoGroups v) % 32) 18)))
-unfolding all all₂ transitions readFrom numberAfter stateAfter
+    → T (both (eqb (more (more s (v / 8)) (v % 8)) (read_from s (two_groups v))) (both (ltb (read_from s (two_groups v)) 14752) (ltb (read_from s (two_groups v) % 32) 18)))
+unfolding all all₂ transitions read_from number_after state_after
 two-test =
     all₂-at 18 64
-    (λ s v. both (eqb (more (more s (v / 8)) (v % 8)) (readFrom s (twoGroups v))) (both (ltb (readFrom s (twoGroups v)) 14752) (ltb (readFrom s (twoGroups v) % 32) 18))) tt
+    (λ s v. both (eqb (more (more s (v / 8)) (v % 8)) (read_from s (two_groups v))) (both (ltb (read_from s (two_groups v)) 14752) (ltb (read_from s (two_groups v) % 32) 18))) tt
 
 module _ (s v : ℕ) (hs : s < 18) (hv : v < 64) where
-  two_is : more (more s (v / 8)) (v % 8) ≡ readFrom s (twoGroups v)
-  two_is = eqb→eq _ _ (both_left (eqb (more (more s (v / 8)) (v % 8)) (readFrom s (twoGroups v))) _ (two-test s v hs hv))
+  two_is : more (more s (v / 8)) (v % 8) ≡ read_from s (two_groups v)
+  two_is = eqb→eq _ _ (both_left (eqb (more (more s (v / 8)) (v % 8)) (read_from s (two_groups v))) _ (two-test s v hs hv))
 
-  two-bound : readFrom s (twoGroups v) < 14752
+  two-bound : read_from s (two_groups v) < 14752
   two-bound =
-      ltb→lt (readFrom s (twoGroups v)) 14752
-      (both_left (ltb (readFrom s (twoGroups v)) 14752) _ (both_right (eqb (more (more s (v / 8)) (v % 8)) (readFrom s (twoGroups v))) _ (two-test s v hs hv)))
+      ltb→lt (read_from s (two_groups v)) 14752
+      (both_left (ltb (read_from s (two_groups v)) 14752) _ (both_right (eqb (more (more s (v / 8)) (v % 8)) (read_from s (two_groups v))) _ (two-test s v hs hv)))
 
-  two-state : readFrom s (twoGroups v) % 32 < 18
+  two-state : read_from s (two_groups v) % 32 < 18
   two-state =
-      ltb→lt (readFrom s (twoGroups v) % 32) 18
-      (both_right (ltb (readFrom s (twoGroups v)) 14752) _ (both_right (eqb (more (more s (v / 8)) (v % 8)) (readFrom s (twoGroups v))) _ (two-test s v hs hv)))
+      ltb→lt (read_from s (two_groups v) % 32) 18
+      (both_right (ltb (read_from s (two_groups v)) 14752) _ (both_right (eqb (more (more s (v / 8)) (v % 8)) (read_from s (two_groups v))) _ (two-test s v hs hv)))
 
-three-test : (s v : ℕ) → s < 18 → v < 512 → T (eqb (more (readFrom s (twoGroups (v / 8))) (v % 8)) (readFrom s (threeGroups v)))
-unfolding all all₂ transitions readFrom numberAfter stateAfter
-three-test = all₂-at 18 512 (λ s v. eqb (more (readFrom s (twoGroups (v / 8))) (v % 8)) (readFrom s (threeGroups v))) tt
+three-test : (s v : ℕ) → s < 18 → v < 512 → T (eqb (more (read_from s (two_groups (v / 8))) (v % 8)) (read_from s (three_groups v)))
+unfolding all all₂ transitions read_from number_after state_after
+three-test = all₂-at 18 512 (λ s v. eqb (more (read_from s (two_groups (v / 8))) (v % 8)) (read_from s (three_groups v))) tt
 
-three-is : (s v : ℕ) → s < 18 → v < 512 → more (readFrom s (twoGroups (v / 8))) (v % 8) ≡ readFrom s (threeGroups v)
+three-is : (s v : ℕ) → s < 18 → v < 512 → more (read_from s (two_groups (v / 8))) (v % 8) ≡ read_from s (three_groups v)
 three-is s v hs hv = eqb→eq _ _ (three-test s v hs hv)
 
 -- ---- the table's places
 
-entry-two : (k : ℕ) → k < 1152 → readFrom (k % 18) (twoGroups (k / 18)) ≡ tableEntry k
-unfolding tableEntry
+entry-two : (k : ℕ) → k < 1152 → read_from (k % 18) (two_groups (k / 18)) ≡ table_entry k
+unfolding table_entry
 entry-two k h = rw (lt-ltb k 1152 h)
 
-entry-three : (k : ℕ) → 1152 ≤ k → readFrom ((k - 1152) % 18) (threeGroups ((k - 1152) / 18)) ≡ tableEntry k
-unfolding tableEntry
+entry-three : (k : ℕ) → 1152 ≤ k → read_from ((k - 1152) % 18) (three_groups ((k - 1152) / 18)) ≡ table_entry k
+unfolding table_entry
 entry-three k h = rw (le-ltb k 1152 h)
 
-pub table-two : (v s : ℕ) → v < 64 → s < 18 → get_or table (18 * v + s) 0 ≡ readFrom s (twoGroups v)
+pub table-two : (v s : ℕ) → v < 64 → s < 18 → get_or table (18 * v + s) 0 ≡ read_from s (two_groups v)
 unfolding table
 table-two v s hv hs =
     let k : ℕ = 18 * v + s in
     let quotient : k / 18 ≡ v = omega arith in
     let rest : k % 18 ≡ s = omega arith in
-    get_d_tabulate 10368 tableEntry k 0 (omega arith)
+    get_d_tabulate 10368 table_entry k 0 (omega arith)
     ∙ sym (entry-two k (omega arith))
-    ∙ ap₂ (λ (x y : ℕ). readFrom x (twoGroups y)) rest quotient
+    ∙ ap₂ (λ (x y : ℕ). read_from x (two_groups y)) rest quotient
 
-pub table-three : (v s : ℕ) → v < 512 → s < 18 → get_or table (1152 + 18 * v + s) 0 ≡ readFrom s (threeGroups v)
+pub table-three : (v s : ℕ) → v < 512 → s < 18 → get_or table (1152 + 18 * v + s) 0 ≡ read_from s (three_groups v)
 unfolding table
 table-three v s hv hs =
     let k : ℕ = 1152 + 18 * v + s in
     let quotient : (k - 1152) / 18 ≡ v = omega arith in
     let rest : (k - 1152) % 18 ≡ s = omega arith in
-    get_d_tabulate 10368 tableEntry k 0 (omega arith)
+    get_d_tabulate 10368 table_entry k 0 (omega arith)
     ∙ sym (entry-three k (omega arith))
-    ∙ ap₂ (λ (x y : ℕ). readFrom x (threeGroups y)) rest quotient
+    ∙ ap₂ (λ (x y : ℕ). read_from x (three_groups y)) rest quotient
 
 -- ---- the table filled
 
-pub two_made : (k : ℕ) → k < 1152 → more (more (k % 18) (k / 144)) (k / 18 % 8) ≡ tableEntry k
+pub two_made : (k : ℕ) → k < 1152 → more (more (k % 18) (k / 144)) (k / 18 % 8) ≡ table_entry k
 two_made k h =
     let eighth : k / 144 ≡ k / 18 / 8 = omega arith in
     ap (λ (g : ℕ). more (more (k % 18) g) (k / 18 % 8)) eighth ∙ two_is (k % 18) (k / 18) (omega arith) (omega arith) ∙ entry-two k h
 
 module _ {l : List ℕ} (twos : Twos l) where
-  two-there : (k : ℕ) → k < 1152 → get_or l k 0 ≡ readFrom (k % 18) (twoGroups (k / 18))
+  two-there : (k : ℕ) → k < 1152 → get_or l k 0 ≡ read_from (k % 18) (two_groups (k / 18))
   two-there k h = twos.each k h ∙ sym (entry-two k h)
 
   pub there-bound : (k : ℕ) → k < 1152 → get_or l k 0 < 14752
@@ -124,53 +124,53 @@ module _ {l : List ℕ} (twos : Twos l) where
   pub there-state : (k : ℕ) → k < 1152 → get_or l k 0 % 32 < 18
   there-state k h = subst (λ (n : ℕ). n % 32 < 18) (sym (two-there k h)) (two-state (k % 18) (k / 18) (omega arith) (omega arith))
 
-  pub three_made : (k : ℕ) → 1152 ≤ k → k < 10368 → more (get_or l ((k - 1152) / 144 * 18 + (k - 1152) % 18) 0) ((k - 1152) / 18 % 8) ≡ tableEntry k
+  pub three_made : (k : ℕ) → 1152 ≤ k → k < 10368 → more (get_or l ((k - 1152) / 144 * 18 + (k - 1152) % 18) 0) ((k - 1152) / 18 % 8) ≡ table_entry k
   three_made k h below =
       let j : ℕ = k - 1152 in
       let at : ℕ = j / 144 * 18 + j % 18 in
       let state : at % 18 ≡ j % 18 = omega arith in
       let groups : at / 18 ≡ j / 18 / 8 = omega arith in
-      ap (λ (a : ℕ). more a (j / 18 % 8)) (two-there at (omega arith) ∙ ap₂ (λ (s v : ℕ). readFrom s (twoGroups v)) state groups)
+      ap (λ (a : ℕ). more a (j / 18 % 8)) (two-there at (omega arith) ∙ ap₂ (λ (s v : ℕ). read_from s (two_groups v)) state groups)
       ∙ three-is (j % 18) (j / 18) (omega arith) (omega arith)
       ∙ entry-three k h
 
-pub twos-all : {l : List ℕ} {k : ℕ} → 1152 ≤ k → Upto 0 tableEntry 10368 k l → Twos l
+pub twos-all : {l : List ℕ} {k : ℕ} → 1152 ≤ k → Upto 0 table_entry 10368 k l → Twos l
 twos-all h u = record { size = u.size; each = λ j below. u.below j (omega arith) }
 
-pub twos-upto : {l : List ℕ} → Twos l → Upto 0 tableEntry 10368 1152 l
+pub twos-upto : {l : List ℕ} → Twos l → Upto 0 table_entry 10368 1152 l
 twos-upto twos = record { within = omega arith; size = twos.size; below = twos.each }
 
 -- ---- several groups behind one another
 
-pub number_after_append : (s a : ℕ) (x y : List Three) → numberAfter s a (x ++ y) ≡ numberAfter (stateAfter s x) (numberAfter s a x) y
-unfolding numberAfter stateAfter
+pub number_after_append : (s a : ℕ) (x y : List Three) → number_after s a (x ++ y) ≡ number_after (state_after s x) (number_after s a x) y
+unfolding number_after state_after
 number_after_append s a [] y = refl
-number_after_append s a (g ∷ x) y = number_after_append (next s (threeNumber g)) (4 * a + valueAdded s (threeNumber g)) x y
+number_after_append s a (g ∷ x) y = number_after_append (next s (three_number g)) (4 * a + value_added s (three_number g)) x y
 
-pub number-shift : (s a : ℕ) (gs : List Three) → numberAfter s a gs ≡ a * 4 ^ length gs + numberAfter s 0 gs
-unfolding numberAfter
+pub number-shift : (s a : ℕ) (gs : List Three) → number_after s a gs ≡ a * 4 ^ length gs + number_after s 0 gs
+unfolding number_after
 number-shift s a [] = omega arith
 number-shift s a (g ∷ gs) =
-    let d : ℕ = valueAdded s (threeNumber g) in
-    let t : ℕ = next s (threeNumber g) in
-    let rest : ℕ = numberAfter t 0 gs in
+    let d : ℕ = value_added s (three_number g) in
+    let t : ℕ = next s (three_number g) in
+    let rest : ℕ = number_after t 0 gs in
     number-shift t (4 * a + d) gs
     ∙ shifted a d (4 ^ length gs) rest
     ∙ ap₂ (λ (x y : ℕ). a * x + y) (sym (pow-suc 4 (length gs)))
     (sym (number-shift t (4 * 0 + d) gs ∙ ap (λ (x : ℕ). x * 4 ^ length gs + rest) (plain d)))
 
-pub state-small : (s : ℕ) (gs : List Three) → s < 18 → stateAfter s gs < 18
-unfolding stateAfter
+pub state-small : (s : ℕ) (gs : List Three) → s < 18 → state_after s gs < 18
+unfolding state_after
 state-small s [] h = h
-state-small s (g ∷ gs) h = state-small (next s (threeNumber g)) gs (entry-state s (threeNumber g) h (three-below g))
+state-small s (g ∷ gs) h = state-small (next s (three_number g)) gs (entry-state s (three_number g) h (three-below g))
 
 pub start_small : (before : Bool) → start before < 18
 start_small true = omega arith
 start_small false = omega arith
 
 -- x with the groups read whose entry is e
-pub after-entry : (gs : List Three) (x e : ℕ) (w : ℕ) → w ≡ 32 * 4 ^ length gs → x % 32 < 18 → e ≡ readFrom (x % 32) gs → After gs x (x / 32 * w + e)
-unfolding readFrom
+pub after-entry : (gs : List Three) (x e : ℕ) (w : ℕ) → w ≡ 32 * 4 ^ length gs → x % 32 < 18 → e ≡ read_from (x % 32) gs → After gs x (x / 32 * w + e)
+unfolding read_from
 after-entry gs x e w ew hx ee =
     record {
       number = q ∙ sym (number-shift (x % 32) (x / 32) gs);
@@ -185,36 +185,36 @@ after-entry gs x e w ew hx ee =
         ∙ ap (λ (y : ℕ). y * 4 ^ length gs) (mul_comm (x / 32) 32)
         ∙ mul_assoc 32 (x / 32) (4 ^ length gs)
 
-    r : (x / 32 * w + e) % 32 ≡ stateAfter (x % 32) gs
+    r : (x / 32 * w + e) % 32 ≡ state_after (x % 32) gs
     r = omega (arith, weight, ee, state-small (x % 32) gs hx)
 
-    q : (x / 32 * w + e) / 32 ≡ x / 32 * 4 ^ length gs + numberAfter (x % 32) 0 gs
+    q : (x / 32 * w + e) / 32 ≡ x / 32 * 4 ^ length gs + number_after (x % 32) 0 gs
     q = omega (arith, weight, ee, state-small (x % 32) gs hx)
 
 pub after_more : {gs hs : List Three} {x y r : ℕ} → After gs x y → After hs y r → After (gs ++ hs) x r
 after_more {gs} {hs} {x} {y} {r} a b =
     record {
-      number = b.number ∙ ap₂ (λ (s n : ℕ). numberAfter s n hs) a.state a.number ∙ sym (number_after_append (x % 32) (x / 32) gs hs);
-      state = b.state ∙ ap (λ (s : ℕ). stateAfter s hs) a.state ∙ sym (after-append (x % 32) gs hs);
+      number = b.number ∙ ap₂ (λ (s n : ℕ). number_after s n hs) a.state a.number ∙ sym (number_after_append (x % 32) (x / 32) gs hs);
+      state = b.state ∙ ap (λ (s : ℕ). state_after s hs) a.state ∙ sym (after-append (x % 32) gs hs);
       small = b.small;
     }
 
 -- ---- how large the number grows
 
-grows-within : (s g : ℕ) → s < 18 → g < 8 → T (leb (valueAdded s g + limit (next s g)) (4 * limit s))
+grows-within : (s g : ℕ) → s < 18 → g < 8 → T (leb (value_added s g + limit (next s g)) (4 * limit s))
 unfolding all all₂ transitions
-grows-within = all₂-at 18 8 (λ s g. leb (valueAdded s g + limit (next s g)) (4 * limit s)) tt
+grows-within = all₂-at 18 8 (λ s g. leb (value_added s g + limit (next s g)) (4 * limit s)) tt
 
-pub number-limit : (s : ℕ) (gs : List Three) → s < 18 → numberAfter s 0 gs + limit (stateAfter s gs) ≤ limit s * 4 ^ length gs
-unfolding numberAfter stateAfter
+pub number-limit : (s : ℕ) (gs : List Three) → s < 18 → number_after s 0 gs + limit (state_after s gs) ≤ limit s * 4 ^ length gs
+unfolding number_after state_after
 number-limit s [] h = omega arith
 number-limit s (g ∷ gs) h =
-    let d : ℕ = valueAdded s (threeNumber g) in
-    let t : ℕ = next s (threeNumber g) in
+    let d : ℕ = value_added s (three_number g) in
+    let t : ℕ = next s (three_number g) in
     let p : ℕ = 4 ^ length gs in
-    let rest = number-limit t gs (entry-state s (threeNumber g) h (three-below g)) in
-    let test = leb→le (d + limit t) (4 * limit s) (grows-within s (threeNumber g) h (three-below g)) in
-    let shift = number-shift t (4 * 0 + d) gs ∙ ap (λ (x : ℕ). x * p + numberAfter t 0 gs) (plain d) in
+    let rest = number-limit t gs (entry-state s (three_number g) h (three-below g)) in
+    let test = leb→le (d + limit t) (4 * limit s) (grows-within s (three_number g) h (three-below g)) in
+    let shift = number-shift t (4 * 0 + d) gs ∙ ap (λ (x : ℕ). x * p + number_after t 0 gs) (plain d) in
     let whole = mul-le-mul_right p test in
     let one = add-mul d (limit t) p in
     let two : 4 * limit s * p ≡ limit s * 4 ^ length (g ∷ gs) =
@@ -230,10 +230,10 @@ unfolding all
 limit-pos s h = leb→le 1 (limit s) (all-at 18 (λ s. leb 1 (limit s)) tt s h)
 
 -- a bound that does not name the state
-pub number_bound : (s n : ℕ) (gs : List Three) → s < 18 → length gs ≤ n → numberAfter s 0 gs < 32 * 4 ^ n
+pub number_bound : (s n : ℕ) (gs : List Three) → s < 18 → length gs ≤ n → number_after s 0 gs < 32 * 4 ^ n
 number_bound s n gs h l =
     let a = number-limit s gs h in
-    let b = limit-pos (stateAfter s gs) (state-small s gs h) in
+    let b = limit-pos (state_after s gs) (state-small s gs h) in
     let c = mul-le-mul_right (4 ^ length gs) (limit-small s h) in
     let d = mul-le-mul_left 32 (pow-le-pow_right {n = 4} (omega arith) l) in
     omega (arith, a, b, c, d)

@@ -9,13 +9,13 @@ use native.Mathlib.Omega.{arith}
 use lib.Dec.{T, eqb, eqb→eq}
 use lib.ListN.{length, get_or, drop}
 use Rattle.laws.proofs.Finite.{both, both_left, both_right}
-use Rattle.modulation.specs.Modulation.{Two, twoNumber, Three, m000, m001, m010, m011, m100, m101, m110, m111, threeNumber, starts, Modulated, modulate}
-use Rattle.modulation.specs.steps.Pairs.{twoOf}
-use Rattle.modulation.specs.Machine.{Wait, w, w00, w0000, w000000, w000010, w11, w1101, w110111, w11011100, w1101110000, waitNumber, waitAt, Step, step, stop, put, machine}
+use Rattle.modulation.specs.Modulation.{Two, two_number, Three, m000, m001, m010, m011, m100, m101, m110, m111, three_number, starts, Modulated, modulate}
+use Rattle.modulation.specs.steps.Pairs.{two_of}
+use Rattle.modulation.specs.Machine.{Wait, w, w00, w0000, w000000, w000010, w11, w1101, w110111, w11011100, w1101110000, wait_number, wait_at, Step, step, stop, put, machine}
 use Rattle.modulation.proofs.Machine.{machine-is, wait-back}
 use Rattle.laws.proofs.Booleans.{T_true, true-T, beq_same, implies, given}
 use Rattle.modulation.proofs.Fronts.{three-injective, starts-split}
-use Rattle.automaton.specs.Automaton.{transitions, ends, start, next, valueAdded, ending, stateAfter, numberAfter, accepts, numberRead, onto}
+use Rattle.automaton.specs.Automaton.{transitions, ends, start, next, value_added, ending, state_after, number_after, accepts, number_read, onto}
 use Rattle.automaton.proofs.Complete.{each, among, each_at}
 
 -- ---- pairs as digits
@@ -33,20 +33,20 @@ pub onto-shift : (a : ℕ) (ds : List Two) → onto a ds ≡ a * 4 ^ length ds +
 unfolding onto
 onto-shift a [] = omega arith
 onto-shift a (d ∷ ds) =
-    onto-shift (4 * a + twoNumber d) ds
-    ∙ shifted a (twoNumber d) (4 ^ length ds) (onto 0 ds)
+    onto-shift (4 * a + two_number d) ds
+    ∙ shifted a (two_number d) (4 ^ length ds) (onto 0 ds)
     ∙ ap₂ (λ (x y : ℕ). a * x + y) (sym (pow-suc 4 (length ds)))
-    (sym (onto-shift (4 * 0 + twoNumber d) ds ∙ ap (λ (x : ℕ). x * 4 ^ length ds + onto 0 ds) (plain (twoNumber d))))
+    (sym (onto-shift (4 * 0 + two_number d) ds ∙ ap (λ (x : ℕ). x * 4 ^ length ds + onto 0 ds) (plain (two_number d))))
 
 onto-append : (a : ℕ) (x y : List Two) → onto a (x ++ y) ≡ onto (onto a x) y
 unfolding onto
 onto-append a [] y = refl
-onto-append a (d ∷ x) y = onto-append (4 * a + twoNumber d) x y
+onto-append a (d ∷ x) y = onto-append (4 * a + two_number d) x y
 
 -- n pairs that make v
 abbrev digits : ℕ → ℕ → List Two
 digits zero v = []
-digits (suc n) v = twoOf (v / 4 ^ n % 4) ∷ digits n v
+digits (suc n) v = two_of (v / 4 ^ n % 4) ∷ digits n v
 
 -- ---- the machine, fed several pairs
 
@@ -168,10 +168,10 @@ unfed s = get_or (0 ∷ 0 ∷ 0 ∷ 0 ∷ 1 ∷ 1 ∷ 0 ∷ 1 ∷ 1 ∷ 2 ∷ 2 
 
 -- the number with one group more, its pairs that are decided now, and what the machine gives for them
 abbrev grown : Met → Three → ℕ
-grown m g = 4 * m.base + valueAdded m.state (threeNumber g)
+grown m g = 4 * m.base + value_added m.state (three_number g)
 
 abbrev to : Met → Three → ℕ
-to m g = next m.state (threeNumber g)
+to m g = next m.state (three_number g)
 
 abbrev decided : Met → Three → List Two
 decided m g = digits (unfed m.state + 1 - unfed (to m g)) (grown m g / 4 ^ unfed (to m g))
@@ -184,32 +184,32 @@ moved m g = at (to m g) (given-now m g).to (given-now m g).bit (grown m g % 4 ^ 
 
 -- ---- meetings compared
 
-wait-injective : (x y : Wait) → waitNumber x ≡ waitNumber y → x ≡ y
-wait-injective x y e = sym (wait-back x) ∙ ap waitAt e ∙ wait-back y
+wait-injective : (x y : Wait) → wait_number x ≡ wait_number y → x ≡ y
+wait-injective x y e = sym (wait-back x) ∙ ap wait_at e ∙ wait-back y
 
 abbrev sames : List Three → List Three → Bool
 sames [] [] = true
 sames [] (y ∷ ys) = false
 sames (x ∷ xs) [] = false
-sames (x ∷ xs) (y ∷ ys) = both (eqb (threeNumber x) (threeNumber y)) (sames xs ys)
+sames (x ∷ xs) (y ∷ ys) = both (eqb (three_number x) (three_number y)) (sames xs ys)
 
 sames-is : (xs ys : List Three) → T (sames xs ys) → xs ≡ ys
 sames-is [] [] t = refl
 sames-is [] (y ∷ ys) t = absurd t
 sames-is (x ∷ xs) [] t = absurd t
 sames-is (x ∷ xs) (y ∷ ys) t =
-    ap₂ ◌∷◌ (three-injective x y (eqb→eq (threeNumber x) (threeNumber y) (both_left (eqb (threeNumber x) (threeNumber y)) (sames xs ys) t)))
-    (sames-is xs ys (both_right (eqb (threeNumber x) (threeNumber y)) (sames xs ys) t))
+    ap₂ ◌∷◌ (three-injective x y (eqb→eq (three_number x) (three_number y) (both_left (eqb (three_number x) (three_number y)) (sames xs ys) t)))
+    (sames-is xs ys (both_right (eqb (three_number x) (three_number y)) (sames xs ys) t))
 
 abbrev same : Met → Met → Bool
 same m n =
     both (eqb m.state n.state)
-    (both (eqb (waitNumber m.wait) (waitNumber n.wait)) (both (beq m.bit n.bit) (both (eqb m.base n.base) (sames m.lag n.lag))))
+    (both (eqb (wait_number m.wait) (wait_number n.wait)) (both (beq m.bit n.bit) (both (eqb m.base n.base) (sames m.lag n.lag))))
 
 same-is : (m n : Met) → T (same m n) → m ≡ n
 same-is m n t =
     let a = eqb m.state n.state in
-    let b = eqb (waitNumber m.wait) (waitNumber n.wait) in
+    let b = eqb (wait_number m.wait) (wait_number n.wait) in
     let c = beq m.bit n.bit in
     let d = eqb m.base n.base in
     let e = sames m.lag n.lag in
@@ -217,7 +217,7 @@ same-is m n t =
     let tc = both_right b (both c (both d e)) tb in
     let td = both_right c (both d e) tc in
     let pa = eqb→eq m.state n.state (both_left a (both b (both c (both d e))) t) in
-    let pb = wait-injective m.wait n.wait (eqb→eq (waitNumber m.wait) (waitNumber n.wait) (both_left b (both c (both d e)) tb)) in
+    let pb = wait-injective m.wait n.wait (eqb→eq (wait_number m.wait) (wait_number n.wait) (both_left b (both c (both d e)) tb)) in
     let pc = beq_same m.bit n.bit (both_left c (both d e) tc) in
     let pd = eqb→eq m.base n.base (both_left d e td) in
     let pe = sames-is m.lag n.lag (both_right d e td) in
@@ -227,7 +227,7 @@ same-is m n t =
 
 -- a group that is right leads to a meeting again, and what the machine gives is what was read
 abbrev front-right : Met → Three → Bool
-front-right m g = starts threeNumber (given-now m g).out (m.lag ++ g ∷ [])
+front-right m g = starts three_number (given-now m g).out (m.lag ++ g ∷ [])
 
 abbrev sum-right : Met → Three → Bool
 sum-right m g = eqb (onto 0 (decided m g) * 4 ^ unfed (to m g) + grown m g % 4 ^ unfed (to m g)) (grown m g)
@@ -287,10 +287,10 @@ going-at m g t e =
     (each_at three-same three-is (goes m) g groups (each_at same same-is (λ m. each (goes m) groups) m meetings all_go t) (listed g))
   where
     three-same : Three → Three → Bool
-    three-same x y = eqb (threeNumber x) (threeNumber y)
+    three-same x y = eqb (three_number x) (three_number y)
 
     three-is : (x y : Three) → T (three-same x y) → x ≡ y
-    three-is x y s = three-injective x y (eqb→eq (threeNumber x) (threeNumber y) s)
+    three-is x y s = three-injective x y (eqb→eq (three_number x) (three_number y) s)
 
     listed : (g : Three) → T (among three-same g groups)
     listed m000 = tt
@@ -308,8 +308,8 @@ finishes-at m hash t e =
     given (eqb (ending m.state hash % 2) 0) (ending-right m hash) (each_at same same-is (finishes hash) m meetings (all-finish hash) t) e
 
 -- in state 2 nothing is right any more
-dead : (gs : List Three) → stateAfter 2 gs ≡ 2
-unfolding stateAfter transitions
+dead : (gs : List Three) → state_after 2 gs ≡ 2
+unfolding state_after transitions
 dead [] = refl
 dead (m000 ∷ gs) = dead gs
 dead (m001 ∷ gs) = dead gs
@@ -329,7 +329,7 @@ dead_not gs false e = false≢true (sym (ap (λ (s : ℕ). eqb (ending s false %
 record Back (m : Met) (n : ℕ) (gs : List Three) (hash : Bool) : Type 0 where
   ds : List Two
   gives : machine ds m.wait m.bit ≡ record { groups = m.lag ++ gs; terminated = hash }
-  number : onto n ds ≡ numberRead m.state (n * 4 ^ unfed m.state + m.base) gs hash
+  number : onto n ds ≡ number_read m.state (n * 4 ^ unfed m.state + m.base) gs hash
 
 -- the number grows by a group as its pairs are decided: n before c at weight p is n, f and r at weight q
 numbers-meet : (n p c out f x q r : ℕ) → f * q + r ≡ 4 * c + out → x * q ≡ 4 * p → 4 * (n * p + c) + out ≡ (n * x + f) * q + r
@@ -340,16 +340,16 @@ numbers-meet n p c out f x q r e h =
 
 step_back : (m : Met) (n : ℕ) (g : Three) (gs : List Three) (hash : Bool) → T (going m g)
     → Back (moved m g) (onto n (decided m g)) gs hash → Back m n (g ∷ gs) hash
-unfolding stateAfter numberAfter
+unfolding state_after number_after
 step_back m n g gs hash t back =
     record {
       ds = decided m g ++ back.ds;
       gives = fed (decided m g) back.ds m.wait m.bit ∙ ap (put (given-now m g).out) back.gives ∙ λ i. record { groups = read i; terminated = hash };
-      number = onto-append n (decided m g) back.ds ∙ back.number ∙ ap (λ (a : ℕ). numberRead (to m g) a gs hash) (sym grows);
+      number = onto-append n (decided m g) back.ds ∙ back.number ∙ ap (λ (a : ℕ). number_read (to m g) a gs hash) (sym grows);
     }
   where
     front : m.lag ++ g ∷ [] ≡ (given-now m g).out ++ drop (length (given-now m g).out) (m.lag ++ g ∷ [])
-    front = starts-split threeNumber three-injective (given-now m g).out (m.lag ++ g ∷ []) (T_true (front-right m g) (both_left (front-right m g) _ t))
+    front = starts-split three_number three-injective (given-now m g).out (m.lag ++ g ∷ []) (T_true (front-right m g) (both_left (front-right m g) _ t))
 
     read : (given-now m g).out ++ (drop (length (given-now m g).out) (m.lag ++ g ∷ []) ++ gs) ≡ m.lag ++ g ∷ gs
     read =
@@ -357,10 +357,10 @@ step_back m n g gs hash t back =
         ∙ ap (λ (l : List Three). l ++ gs) (sym front)
         ∙ append_assoc m.lag (g ∷ []) gs
 
-    grows : 4 * (n * 4 ^ unfed m.state + m.base) + valueAdded m.state (threeNumber g)
+    grows : 4 * (n * 4 ^ unfed m.state + m.base) + value_added m.state (three_number g)
         ≡ onto n (decided m g) * 4 ^ unfed (to m g) + grown m g % 4 ^ unfed (to m g)
     grows =
-        numbers-meet n (4 ^ unfed m.state) m.base (valueAdded m.state (threeNumber g)) (onto 0 (decided m g)) (4 ^ length (decided m g)) (4 ^ unfed (to m g))
+        numbers-meet n (4 ^ unfed m.state) m.base (value_added m.state (three_number g)) (onto 0 (decided m g)) (4 ^ length (decided m g)) (4 ^ unfed (to m g))
         (grown m g % 4 ^ unfed (to m g))
         (eqb→eq _ _ (both_left (sum-right m g) _ (both_right (front-right m g) _ t)))
         (eqb→eq _ _ (both_left (weight-right m g) _ (both_right (sum-right m g) _ (both_right (front-right m g) _ t))))
@@ -371,7 +371,7 @@ listed_next m g t =
     both_right (weight-right m g) _ (both_right (sum-right m g) _ (both_right (front-right m g) _ t))
 
 end_back : (m : Met) (n : ℕ) (hash : Bool) → T (ending-right m hash) → Back m n [] hash
-unfolding stateAfter numberAfter
+unfolding state_after number_after
 end_back m n hash t =
     record {
       ds = last m hash;
@@ -392,7 +392,7 @@ end_back m n hash t =
     flat x y z = omega arith
 
 sound-from : (gs : List Three) (m : Met) (n : ℕ) (hash : Bool) → T (among same m meetings) → accepts m.state gs hash ≡ true → Back m n gs hash
-unfolding stateAfter
+unfolding state_after
 sound-from [] m n hash t e = end_back m n hash (finishes-at m hash t e)
 sound-from (g ∷ gs) m n hash t e = by (eqb (to m g) 2) refl (λ u. sound-from gs (moved m g) (onto n (decided m g)) hash (listed_next m g u) e)
   where
@@ -404,12 +404,12 @@ sound-from (g ∷ gs) m n hash t e = by (eqb (to m g) 2) refl (λ u. sound-from 
 pub record Sound (before : Bool) (gs : List Three) (hash : Bool) : Type 0 where
   pub ds : List Two
   pub gives : modulate before ds ≡ record { groups = gs; terminated = hash }
-  pub number : onto 0 ds ≡ numberRead (start before) 0 gs hash
+  pub number : onto 0 ds ≡ number_read (start before) 0 gs hash
 
 pub sound : (before : Bool) (gs : List Three) (hash : Bool) → accepts (start before) gs hash ≡ true → Sound before gs hash
 sound before gs hash e = from before e
   where
-    with : (b : Bool) → Back (at (start b) w b 0 []) 0 gs hash → numberRead (start b) (0 * 4 ^ unfed (start b) + 0) gs hash ≡ numberRead (start b) 0 gs hash → Sound b gs hash
+    with : (b : Bool) → Back (at (start b) w b 0 []) 0 gs hash → number_read (start b) (0 * 4 ^ unfed (start b) + 0) gs hash ≡ number_read (start b) 0 gs hash → Sound b gs hash
     with b back z = record { ds = back.ds; gives = sym (machine-is back.ds w b) ∙ back.gives; number = back.number ∙ z }
 
     from : (b : Bool) → accepts (start b) gs hash ≡ true → Sound b gs hash

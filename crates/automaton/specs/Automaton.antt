@@ -2,7 +2,7 @@
 -- group leads to the next state and adds to the number of the data bits, which grows by two bits a group. Pending bits count as zeros until
 -- a later group adds them. It accepts what some data bits give, and no more (proofs/Complete, proofs/Sound).
 use Rattle.std.specs.Prelude.{Bool, cond, List, [], ◌∷◌, ℕ, ◌+◌, ◌*◌, ◌/◌, ◌%◌, eqb, get_or}
-use Rattle.modulation.specs.Modulation.{Two, twoNumber, Three, threeNumber}
+use Rattle.modulation.specs.Modulation.{Two, two_number, Three, three_number}
 
 -- State s at group g: 32 times what is added, and the next state, at place 8 s + g. States 0 and 1 are a frame's start after a ZERO and after
 -- a ONE, and in state 2 no group is right any more.
@@ -42,31 +42,31 @@ start before = cond before 1 0
 abbrev pub next : ℕ → ℕ → ℕ
 next s g = get_or transitions (8 * s + g) 0 % 32
 
-abbrev pub valueAdded : ℕ → ℕ → ℕ
-valueAdded s g = get_or transitions (8 * s + g) 0 / 32
+abbrev pub value_added : ℕ → ℕ → ℕ
+value_added s g = get_or transitions (8 * s + g) 0 / 32
 
 abbrev pub ending : ℕ → Bool → ℕ
 ending s hash = get_or ends (2 * s + cond hash 1 0) 0
 
 -- the state behind the groups
-unfoldable pub stateAfter : ℕ → List Three → ℕ
-stateAfter s [] = s
-stateAfter s (g ∷ gs) = stateAfter (next s (threeNumber g)) gs
+unfoldable pub state_after : ℕ → List Three → ℕ
+state_after s [] = s
+state_after s (g ∷ gs) = state_after (next s (three_number g)) gs
 
 -- the number of the data bits behind the groups, where it was a before
-unfoldable pub numberAfter : ℕ → ℕ → List Three → ℕ
-numberAfter s a [] = a
-numberAfter s a (g ∷ gs) = numberAfter (next s (threeNumber g)) (4 * a + valueAdded s (threeNumber g)) gs
+unfoldable pub number_after : ℕ → ℕ → List Three → ℕ
+number_after s a [] = a
+number_after s a (g ∷ gs) = number_after (next s (three_number g)) (4 * a + value_added s (three_number g)) gs
 
 -- a frame may end so
 abbrev pub accepts : ℕ → List Three → Bool → Bool
-accepts s gs hash = eqb (ending (stateAfter s gs) hash % 2) 0
+accepts s gs hash = eqb (ending (state_after s gs) hash % 2) 0
 
 -- the number of its data bits
-abbrev pub numberRead : ℕ → ℕ → List Three → Bool → ℕ
-numberRead s a gs hash = numberAfter s a gs + ending (stateAfter s gs) hash / 2
+abbrev pub number_read : ℕ → ℕ → List Three → Bool → ℕ
+number_read s a gs hash = number_after s a gs + ending (state_after s gs) hash / 2
 
 -- the number with the pairs ds behind it
 unfoldable pub onto : ℕ → List Two → ℕ
 onto a [] = a
-onto a (d ∷ ds) = onto (4 * a + twoNumber d) ds
+onto a (d ∷ ds) = onto (4 * a + two_number d) ds

@@ -1,26 +1,28 @@
 // The operations for programs in other languages, as a static library; include/bdre.h declares them for C. Each is one call of its export crate.
+#![tactic(auto)]
+
 ghost use Rattle.std.specs.Prelude.{Bool, ◌≡◌, ◌↔◌, length};
 ghost use Rattle.writer.specs.Outcome as writer;
 ghost use Rattle.reader.specs.Outcome as reader;
 ghost use Rattle.writer.specs.Promise.{WritesExactly};
 ghost use Rattle.reader.specs.Promise.{RightSlices, ReadsExactly};
 ghost use Rattle.marker.specs.Marked.{IsImageOf, marked};
-ghost use Rattle.address.specs.Conversions.{psnToPaa, paaToPsn, psnToAun, aunToPsn};
+ghost use Rattle.address.specs.Conversions.{psn_to_paa, paa_to_psn, psn_to_aun, aun_to_psn};
 ghost use Rattle.export_writer.specs.Exported.{writing};
 ghost use Rattle.export_reader.specs.Exported.{reading};
-ghost use Rattle.export_marker.specs.Exported.{markedNumbers};
-ghost use Rattle.export_address.specs.Exported.{psnSeen, aunSeen, paaSeen};
+ghost use Rattle.export_marker.specs.Exported.{marked_numbers};
+ghost use Rattle.export_address.specs.Exported.{psn_seen, aun_seen, paa_seen};
 ghost use Rattle.column_parity.specs.Outcome as column_parity;
 ghost use Rattle.column_parity.specs.Promise.{CompletesExactly};
 ghost use Rattle.export_parity.specs.Exported.{completing};
 ghost use Rattle.answer_numbers.specs.Numbers.{answered};
-ghost use Rattle.address_sheet.specs.Sheet.{sheetAnswer};
+ghost use Rattle.address_sheet.specs.Sheet.{sheet_answer};
 ghost use Rattle.address_sheet.specs.Promise.{RightSheet};
-ghost use Rattle.export_sheet.specs.Exported.{givenPsn};
+ghost use Rattle.export_sheet.specs.Exported.{given_psn};
 ghost use Rattle.order_queue.specs.Queue.{handled};
-ghost use Rattle.export_queue.specs.Exported.{queueGiven, handledSeen};
+ghost use Rattle.export_queue.specs.Exported.{queue_given, handled_seen};
 ghost use Rattle.look_ahead.specs.Outcome as look_ahead;
-ghost use Rattle.export_ahead.specs.Exported.{aheadSeen};
+ghost use Rattle.export_ahead.specs.Exported.{ahead_seen};
 
 use answer_numbers::{Answered, Converted, Marking, ReadAnswered};
 use export_ahead::AheadNumbers;
@@ -76,7 +78,7 @@ pub extern "C" fn bdre_mark_image(
     work: &mut [u8],
 ) -> Marking
     ensures work_after { record { verdict = result.verdict; number = result.number; psn = result.psn; place = result.place; lent = record { user = bytes.new; side = control.new; dc = dc.new; work = work.new } }
-        ≡ markedNumbers (marked psn user.entry.now side.now image.now (record { user = bytes.old; side = control.old; dc = dc.old; work = work.old })) }
+        ≡ marked_numbers (marked psn user.entry.now side.now image.now (record { user = bytes.old; side = control.old; dc = dc.old; work = work.old })) }
     ensures variant { RightSlices (record { user = bytes.old; side = control.old; dc = dc.old; work = work.old })
         → (result.verdict ≡ 0) ↔ IsImageOf psn user.entry.now side.now image.now }
 {
@@ -86,7 +88,7 @@ pub extern "C" fn bdre_mark_image(
 // The PAA of the first word of the cluster at a PSN.
 #[unsafe(no_mangle)]
 pub extern "C" fn bdre_psn_to_paa(psn: u32) -> Converted
-    ensures { result ≡ paaSeen (psnToPaa psn) }
+    ensures { result ≡ paa_seen (psn_to_paa psn) }
 {
     export_address::psn_to_paa(psn)
 }
@@ -94,7 +96,7 @@ pub extern "C" fn bdre_psn_to_paa(psn: u32) -> Converted
 // The AUN of an address unit, 0 to 15, of the cluster at a PSN; 0 for a unit above 15.
 #[unsafe(no_mangle)]
 pub extern "C" fn bdre_psn_to_aun(psn: u32, unit: u32) -> Converted
-    ensures { result ≡ aunSeen (psnToAun psn unit) }
+    ensures { result ≡ aun_seen (psn_to_aun psn unit) }
 {
     export_address::psn_to_aun(psn, unit)
 }
@@ -102,7 +104,7 @@ pub extern "C" fn bdre_psn_to_aun(psn: u32, unit: u32) -> Converted
 // The PSN of the cluster whose first word has a PAA.
 #[unsafe(no_mangle)]
 pub extern "C" fn bdre_paa_to_psn(paa: u32) -> Converted
-    ensures { result ≡ psnSeen (paaToPsn paa) }
+    ensures { result ≡ psn_seen (paa_to_psn paa) }
 {
     export_address::paa_to_psn(paa)
 }
@@ -110,7 +112,7 @@ pub extern "C" fn bdre_paa_to_psn(paa: u32) -> Converted
 // The PSN of the cluster that holds the address unit with an AUN.
 #[unsafe(no_mangle)]
 pub extern "C" fn bdre_aun_to_psn(aun: u32) -> Converted
-    ensures { result ≡ psnSeen (aunToPsn aun) }
+    ensures { result ≡ psn_seen (aun_to_psn aun) }
 {
     export_address::aun_to_psn(aun)
 }
@@ -127,8 +129,8 @@ pub extern "C" fn bdre_parity(message: &[u8], parity: &mut [u8]) -> Answered
 // Judges a sheet of PSNs.
 #[unsafe(no_mangle)]
 pub extern "C" fn bdre_sheet(psns: &[u32]) -> Answered
-    ensures value { result ≡ answered (sheetAnswer (length psns.now) (givenPsn psns.now)) }
-    ensures variant { (result.number ≡ 0) ↔ RightSheet (length psns.now) (givenPsn psns.now) }
+    ensures value { result ≡ answered (sheet_answer (length psns.now) (given_psn psns.now)) }
+    ensures variant { (result.number ≡ 0) ↔ RightSheet (length psns.now) (given_psn psns.now) }
 {
     export_sheet::judge_sheet(psns)
 }
@@ -136,7 +138,7 @@ pub extern "C" fn bdre_sheet(psns: &[u32]) -> Answered
 // Handles a record of the queue of four benches.
 #[unsafe(no_mangle)]
 pub extern "C" fn bdre_handle_record(queue: QueueNumbers, bytes: &[u8]) -> HandledNumbers
-    ensures { result ≡ handledSeen (handled (queueGiven queue) bytes.now) }
+    ensures { result ≡ handled_seen (handled (queue_given queue) bytes.now) }
 {
     export_queue::handle_record(queue, bytes)
 }
@@ -144,7 +146,7 @@ pub extern "C" fn bdre_handle_record(queue: QueueNumbers, bytes: &[u8]) -> Handl
 // The most bits that any word of a frame needs; the same for both values of the bit before the frame.
 #[unsafe(no_mangle)]
 pub extern "C" fn bdre_most_needed(row: &[u8], dc: u32) -> AheadNumbers
-    ensures { (b : Bool) → result ≡ aheadSeen (look_ahead.outcome b row.now dc) }
+    ensures { (b : Bool) → result ≡ ahead_seen (look_ahead.outcome b row.now dc) }
 {
     export_ahead::most_needed(row, dc)
 }

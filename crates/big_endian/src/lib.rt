@@ -1,8 +1,10 @@
 // Words, numbers of 32 bits, and their four bytes; double words, of 64 bits, and their eight; the highest first.
+#![tactic(auto)]
+
 pub mod steps;
 
 ghost use Rattle.std.specs.Prelude.{◌≡◌};
-ghost use Rattle.big_endian.specs.Words.{word_of, fourBytes, eightBytes};
+ghost use Rattle.big_endian.specs.Words.{word_of, four_bytes, eight_bytes};
 
 // The word of four bytes.
 pub fn word(a: u8, b: u8, c: u8, d: u8) -> u32
@@ -13,7 +15,7 @@ pub fn word(a: u8, b: u8, c: u8, d: u8) -> u32
 
 // The four bytes of a word.
 pub fn word_bytes(word: u32) -> [u8; 4]
-    ensures { result ≡ fourBytes word }
+    ensures { result ≡ four_bytes word }
 {
     [
         (word / 0x0100_0000 % 256) as u8,
@@ -25,7 +27,7 @@ pub fn word_bytes(word: u32) -> [u8; 4]
 
 // The eight bytes of a double word.
 pub fn double_word_bytes(double: u64) -> [u8; 8]
-    ensures { result ≡ eightBytes double }
+    ensures { result ≡ eight_bytes double }
 {
     [
         (double / 0x0100_0000_0000_0000 % 256) as u8,

@@ -1,6 +1,6 @@
 // Words and double words in slices of bytes, for the crates of this repository.
 ghost use Rattle.std.specs.Prelude.{◌≡◌, ◌+◌, ◌≤◌, ◌<◌, ◌^◌, length, take, drop};
-ghost use Rattle.big_endian.specs.Words.{word_at, eightBytes};
+ghost use Rattle.big_endian.specs.Words.{word_at, eight_bytes};
 
 // The word of the four bytes from `at` on.
 pub fn word_at(bytes: &[u8], at: usize) -> u32
@@ -20,7 +20,7 @@ pub fn wide(word: u32) -> u64
 // The double word of the eight bytes from `at` on.
 pub fn double_word_at(bytes: &[u8], at: usize) -> u64
     requires { at + 8 ≤ length bytes.now }
-    ensures { eightBytes result ≡ take 8 (drop at bytes.now) }
+    ensures { eight_bytes result ≡ take 8 (drop at bytes.now) }
 {
     wide(word_at(bytes, at)) * 0x1_0000_0000 + wide(word_at(bytes, at + 4))
 }

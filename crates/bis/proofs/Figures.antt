@@ -6,8 +6,8 @@ use Prim.Native.Nat.{ℕ, ◌+◌, ◌*◌, ◌/◌, ◌%◌, ◌<◌, ◌≤◌
 use native.Mathlib.Omega.{arith}
 use lib.ListN.{get_or}
 use Rattle.laws.proofs.Finite.{all, all₂, equal-below₂, bounded-below₂}
-use Rattle.bis.specs.AccessBlock.{rowOfAF, columnOfAF, controlAt}
-use Rattle.bis.specs.BisCluster.{unit_of, rowInUnit, bisRow, bisColumn, wordByteAt, codeWordAt}
+use Rattle.bis.specs.AccessBlock.{row_of_af, column_of_af, control_at}
+use Rattle.bis.specs.BisCluster.{unit_of, row_in_unit, bis_row, bis_column, word_byte_at, code_word_at}
 
 abbrev at : List ℕ → ℕ → ℕ
 at l i = get_or l i 0
@@ -35,7 +35,7 @@ addresses =
     entry 5 23 7 11 ∷
     []
 
-pub figure-31-addresses : map (λ (l : List ℕ). entry (rowOfAF (at l 2) (at l 3)) (columnOfAF (at l 2) (at l 3)) (at l 2) (at l 3)) addresses ≡ addresses
+pub figure-31-addresses : map (λ (l : List ℕ). entry (row_of_af (at l 2) (at l 3)) (column_of_af (at l 2) (at l 3)) (at l 2) (at l 3)) addresses ≡ addresses
 figure-31-addresses = refl
 
 -- j and S of UC j,S; UC 17,1 and UC 0,2, which our text has in column 0, are read as in column 1 (docs/DECISIONS)
@@ -48,7 +48,7 @@ control =
     entry 29 0 5 1 ∷ entry 29 1 11 2 ∷ entry 29 2 17 3 ∷ entry 29 22 11 30 ∷ entry 29 23 17 31 ∷
     []
 
-pub figure-31-control : map (λ (l : List ℕ). let k = controlAt (at l 0) (at l 1) in entry (at l 0) (at l 1) (k % 18) (k / 18)) control ≡ control
+pub figure-31-control : map (λ (l : List ℕ). let k = control_at (at l 0) (at l 1) in entry (at l 0) (at l 1) (k % 18) (k / 18)) control ≡ control
 figure-31-control = refl
 
 -- ---- Figures 34 and 35
@@ -78,7 +78,7 @@ last-units =
     []
 
 abbrev mapped : List ℕ → List ℕ
-mapped l = let row = 31 * at l 0 + at l 1 in line (at l 0) (at l 1) (wordByteAt row) (codeWordAt row 0) (codeWordAt row 1) (codeWordAt row 2)
+mapped l = let row = 31 * at l 0 + at l 1 in line (at l 0) (at l 1) (word_byte_at row) (code_word_at row 0) (code_word_at row 1) (code_word_at row 2)
 
 pub figure-34 : map mapped first-units ≡ first-units
 figure-34 = refl
@@ -100,42 +100,42 @@ printed-units =
     groups 60 30 (6 ∷ 5 ∷ 4 ∷ 3 ∷ 2 ∷ 1 ∷ 0 ∷ 7 ∷ []) ∷
     []
 
-pub unit-lists : map (λ (l : List ℕ). let N = at l 0 in groups N (rowInUnit N) (map (λ (g : ℕ). unit_of N (3 * g)) (0 ∷ 1 ∷ 2 ∷ 3 ∷ 4 ∷ 5 ∷ 6 ∷ 7 ∷ []))) printed-units
+pub unit-lists : map (λ (l : List ℕ). let N = at l 0 in groups N (row_in_unit N) (map (λ (g : ℕ). unit_of N (3 * g)) (0 ∷ 1 ∷ 2 ∷ 3 ∷ 4 ∷ 5 ∷ 6 ∷ 7 ∷ []))) printed-units
     ≡ printed-units
 unit-lists = refl
 
 -- ---- Figure 36: AF x,y stands in row x / 3 of address unit y, in column x % 3
 
 module _ (x y : ℕ) (hx : x < 9) (hy : y < 16) where
-  pub figure-36-row : bisRow (rowOfAF x y) (columnOfAF x y) ≡ 31 * y + x / 3
+  pub figure-36-row : bis_row (row_of_af x y) (column_of_af x y) ≡ 31 * y + x / 3
   unfolding all all₂
-  figure-36-row = equal-below₂ 9 16 (λ x y. bisRow (rowOfAF x y) (columnOfAF x y)) (λ x y. 31 * y + x / 3) tt x y hx hy
+  figure-36-row = equal-below₂ 9 16 (λ x y. bis_row (row_of_af x y) (column_of_af x y)) (λ x y. 31 * y + x / 3) tt x y hx hy
 
-  pub figure-36-column : bisColumn (rowOfAF x y) (columnOfAF x y) ≡ x % 3
+  pub figure-36-column : bis_column (row_of_af x y) (column_of_af x y) ≡ x % 3
   unfolding all all₂
-  figure-36-column = equal-below₂ 9 16 (λ x y. bisColumn (rowOfAF x y) (columnOfAF x y)) (λ x y. x % 3) tt x y hx hy
+  figure-36-column = equal-below₂ 9 16 (λ x y. bis_column (row_of_af x y) (column_of_af x y)) (λ x y. x % 3) tt x y hx hy
 
 -- ---- 13.13's conclusions: which rows of an address unit hold what
 
 module _ (N C : ℕ) (hN : N < 62) (hC : C < 24) where
-  row_in : bisRow N C % 31 ≡ rowInUnit N
+  row_in : bis_row N C % 31 ≡ row_in_unit N
   unfolding all all₂
-  row_in = equal-below₂ 62 24 (λ N C. bisRow N C % 31) (λ N C. rowInUnit N) tt N C hN hC
+  row_in = equal-below₂ 62 24 (λ N C. bis_row N C % 31) (λ N C. row_in_unit N) tt N C hN hC
 
   -- information bytes, b 0,C to b 29,C, in the first 15
-  pub information-rows : N < 30 → bisRow N C % 31 < 15
+  pub information-rows : N < 30 → bis_row N C % 31 < 15
   information-rows h = omega (arith, row_in)
 
   -- parity bytes, pb 30,C to pb 61,C, in the last 16
-  pub parity-rows : 30 ≤ N → (15 ≤ bisRow N C % 31) × (bisRow N C % 31 < 31)
+  pub parity-rows : 30 ≤ N → (15 ≤ bis_row N C % 31) × (bis_row N C % 31 < 31)
   parity-rows h = (omega (arith, row_in), omega arith)
 
 -- each address field, in the first 3 of its own
 module _ (x y : ℕ) (hx : x < 9) (hy : y < 16) where
-  pub address-unit : bisRow (rowOfAF x y) (columnOfAF x y) / 31 ≡ y
+  pub address-unit : bis_row (row_of_af x y) (column_of_af x y) / 31 ≡ y
   unfolding all all₂
-  address-unit = equal-below₂ 9 16 (λ x y. bisRow (rowOfAF x y) (columnOfAF x y) / 31) (λ x y. y) tt x y hx hy
+  address-unit = equal-below₂ 9 16 (λ x y. bis_row (row_of_af x y) (column_of_af x y) / 31) (λ x y. y) tt x y hx hy
 
-  pub address-rows : bisRow (rowOfAF x y) (columnOfAF x y) % 31 < 3
+  pub address-rows : bis_row (row_of_af x y) (column_of_af x y) % 31 < 3
   unfolding all all₂
-  address-rows = bounded-below₂ 9 16 3 (λ x y. bisRow (rowOfAF x y) (columnOfAF x y) % 31) tt x y hx hy
+  address-rows = bounded-below₂ 9 16 3 (λ x y. bis_row (row_of_af x y) (column_of_af x y) % 31) tt x y hx hy

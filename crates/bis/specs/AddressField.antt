@@ -15,24 +15,24 @@ abbrev pub information : ℕ → ℕ → List ℕ
 information aun flag = reordered (aun / 2 ^ 24 % 256) ∷ aun / 2 ^ 16 % 256 ∷ aun / 2 ^ 8 % 256 ∷ aun % 256 ∷ flag ∷ []
 
 -- with PAF5 to PAF8, the parity of a (9,5,5) code (formula 33)
-unfoldable pub primaryField : ℕ → ℕ → List ℕ
-primaryField aun flag = information aun flag ++ parity 4 (information aun flag)
+unfoldable pub primary_field : ℕ → ℕ → List ℕ
+primary_field aun flag = information aun flag ++ parity 4 (information aun flag)
 
 -- ---- the address field: the primary one, partly inverted
 
 -- AF2, AF3, AF5 and AF6 have all bits inverted
-abbrev pub isInverted : ℕ → Bool
-isInverted x = get_or (false ∷ false ∷ true ∷ true ∷ false ∷ true ∷ true ∷ false ∷ false ∷ []) x false
+abbrev pub is_inverted : ℕ → Bool
+is_inverted x = get_or (false ∷ false ∷ true ∷ true ∷ false ∷ true ∷ true ∷ false ∷ false ∷ []) x false
 
-abbrev pub invertedAt : ℕ → ℕ → ℕ
-invertedAt x byte = cond (isInverted x) (255 - byte) byte
+abbrev pub inverted_at : ℕ → ℕ → ℕ
+inverted_at x byte = cond (is_inverted x) (255 - byte) byte
 
 -- partial inversion of nine bytes; it undoes itself
-unfoldable pub partlyInverted : List ℕ → List ℕ
-partlyInverted field = tabulate 9 (λ x. invertedAt x (get_or field x 0))
+unfoldable pub partly_inverted : List ℕ → List ℕ
+partly_inverted field = tabulate 9 (λ x. inverted_at x (get_or field x 0))
 
-unfoldable pub addressField : ℕ → ℕ → List ℕ
-addressField aun flag = partlyInverted (primaryField aun flag)
+unfoldable pub address_field : ℕ → ℕ → List ℕ
+address_field aun flag = partly_inverted (primary_field aun flag)
 
 -- ---- and back, from a primary address field
 
@@ -40,8 +40,8 @@ addressField aun flag = partlyInverted (primaryField aun flag)
 abbrev pub restored : ℕ → ℕ
 restored paf0 = paf0 / 16 * 16 + paf0 % 8 * 2 + paf0 / 8 % 2
 
-abbrev pub aunIn : List ℕ → ℕ
-aunIn primary = word_of (restored (get_or primary 0 0)) (get_or primary 1 0) (get_or primary 2 0) (get_or primary 3 0)
+abbrev pub aun_in : List ℕ → ℕ
+aun_in primary = word_of (restored (get_or primary 0 0)) (get_or primary 1 0) (get_or primary 2 0) (get_or primary 3 0)
 
-abbrev pub flagIn : List ℕ → ℕ
-flagIn primary = get_or primary 4 0
+abbrev pub flag_in : List ℕ → ℕ
+flag_in primary = get_or primary 4 0

@@ -3,19 +3,19 @@ use Rattle.std.specs.Prelude.{◌≡◌, List, [], ◌++◌, ℕ, ◌<◌, lengt
 use Rattle.laws.specs.Bytes.{Bytes}
 use Rattle.laws.specs.Tabulate.{tabulate}
 use Rattle.column.specs.Column.{parity}
-use Rattle.bis.specs.AccessBlock.{addressFields, accessByte}
+use Rattle.bis.specs.AccessBlock.{address_fields, access_byte}
 
 -- b_0,C to b_29,C: column C of the access block
-unfoldable pub accessColumn : List (List ℕ) → List ℕ → ℕ → List ℕ
-accessColumn fields side C = tabulate 30 (λ row. accessByte fields side row C)
+unfoldable pub access_column : List (List ℕ) → List ℕ → ℕ → List ℕ
+access_column fields side C = tabulate 30 (λ row. access_byte fields side row C)
 
 -- code word C: its 30 information bytes and 32 parity bytes
-unfoldable pub codeWord : List (List ℕ) → List ℕ → ℕ → List ℕ
-codeWord fields side C = accessColumn fields side C ++ parity 32 (accessColumn fields side C)
+unfoldable pub code_word : List (List ℕ) → List ℕ → ℕ → List ℕ
+code_word fields side C = access_column fields side C ++ parity 32 (access_column fields side C)
 
 -- the BIS block of the cluster at a PSN, column by column
-unfoldable pub bisBlock : ℕ → List ℕ → List (List ℕ)
-bisBlock psn side = tabulate 24 (codeWord (addressFields psn side) side)
+unfoldable pub bis_block : ℕ → List ℕ → List (List ℕ)
+bis_block psn side = tabulate 24 (code_word (address_fields psn side) side)
 
 -- 24 columns of 62 bytes
 pub record Block (block : List (List ℕ)) : Type 0 where

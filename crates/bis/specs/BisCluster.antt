@@ -5,23 +5,23 @@ use Rattle.std.specs.Prelude.{List, [], ℕ, ◌+◌, ◌*◌, ◌-◌, ◌/◌,
 abbrev pub unit_of : ℕ → ℕ → ℕ
 unit_of N C = (N / 2 + 8 - C / 3) % 8 + 8 * (N % 2)
 
-abbrev pub rowInUnit : ℕ → ℕ
-rowInUnit N = N / 2
+abbrev pub row_in_unit : ℕ → ℕ
+row_in_unit N = N / 2
 
-abbrev pub bisColumn : ℕ → ℕ → ℕ
-bisColumn N C = (C + N / 2) % 3
+abbrev pub bis_column : ℕ → ℕ → ℕ
+bis_column N C = (C + N / 2) % 3
 
 -- formula 42's row: a unit has 31 rows
-abbrev pub bisRow : ℕ → ℕ → ℕ
-bisRow N C = 31 * unit_of N C + rowInUnit N
+abbrev pub bis_row : ℕ → ℕ → ℕ
+bis_row N C = 31 * unit_of N C + row_in_unit N
 
 -- the same the other way (proofs/Mapping: word-place): byte and code word of what stands in a row and a column of the cluster
-abbrev pub wordByteAt : ℕ → ℕ
-wordByteAt row = 2 * (row % 31) + row / 31 / 8
+abbrev pub word_byte_at : ℕ → ℕ
+word_byte_at row = 2 * (row % 31) + row / 31 / 8
 
-abbrev pub codeWordAt : ℕ → ℕ → ℕ
-codeWordAt row column = 3 * ((row % 31 + 8 - row / 31 % 8) % 8) + (column + 2 * (row % 31)) % 3
+abbrev pub code_word_at : ℕ → ℕ → ℕ
+code_word_at row column = 3 * ((row % 31 + 8 - row / 31 % 8) % 8) + (column + 2 * (row % 31)) % 3
 
 -- the byte in a row and a column of the BIS cluster
-abbrev pub bisByte : List (List ℕ) → ℕ → ℕ → ℕ
-bisByte block row column = get_or (get_or block (codeWordAt row column) []) (wordByteAt row) 0
+abbrev pub bis_byte : List (List ℕ) → ℕ → ℕ → ℕ
+bis_byte block row column = get_or (get_or block (code_word_at row column) []) (word_byte_at row) 0

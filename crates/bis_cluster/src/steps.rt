@@ -1,16 +1,16 @@
 // The BIS block to its places, and back.
 ghost use Rattle.std.specs.Prelude.{◌≡◌, ◌<◌, length};
-ghost use Rattle.bis.specs.BisCluster.{bisRow, bisColumn, bisByte};
-ghost use Rattle.cluster.specs.Multiplex.{bisIndex, columnIn, bisIn};
+ghost use Rattle.bis.specs.BisCluster.{bis_row, bis_column, bis_byte};
+ghost use Rattle.cluster.specs.Multiplex.{bis_index, column_in, bis_in};
 ghost use Rattle.bis_cluster.specs.steps.Written.{BisPut};
-ghost use Rattle.sizes.specs.Sizes.{workSize, frameCount};
+ghost use Rattle.sizes.specs.Sizes.{work_size, frame_count};
 
 use bis::Block;
 
 // A byte of the BIS cluster, out of the BIS block.
 fn bis_byte(block: &Block, row: usize, column: usize) -> u8
-    requires { (row < frameCount) × (column < 3) }
-    ensures { result ≡ bisByte block.now row column }
+    requires { (row < frame_count) × (column < 3) }
+    ensures { result ≡ bis_byte block.now row column }
 {
     let unit = row / 31;
     let in_unit = row % 31;
@@ -21,7 +21,7 @@ fn bis_byte(block: &Block, row: usize, column: usize) -> u8
 
 // The BIS cluster, row by row.
 pub fn put_bis(work: &mut [u8], block: &Block)
-    requires { length work.old ≡ workSize }
+    requires { length work.old ≡ work_size }
     ensures { BisPut work.old block.now work.new }
 {
     let mut m = 0;
@@ -36,7 +36,7 @@ pub fn put_bis(work: &mut [u8], block: &Block)
 // Where byte n of BIS code word c stands.
 fn bis_index(n: usize, c: usize) -> usize
     requires { (n < 62) × (c < 24) }
-    ensures { result ≡ bisIndex (bisRow n c) (bisColumn n c) }
+    ensures { result ≡ bis_index (bis_row n c) (bis_column n c) }
 {
     let in_unit = n / 2;
     let unit = (in_unit + 8 - c / 3) % 8 + 8 * (n % 2);
@@ -52,8 +52,8 @@ fn zero_column() -> [u8; 62]
 
 // BIS code word c.
 fn bis_column(work: &[u8], c: usize) -> [u8; 62]
-    requires { (length work.now ≡ workSize) × (c < 24) }
-    ensures { result ≡ columnIn work.now c }
+    requires { (length work.now ≡ work_size) × (c < 24) }
+    ensures { result ≡ column_in work.now c }
 {
     let mut column = zero_column();
     let mut n = 0;
@@ -72,8 +72,8 @@ fn zero_block() -> Block
 
 // The BIS block of a cluster.
 pub fn bis_block(work: &[u8]) -> Block
-    requires { length work.now ≡ workSize }
-    ensures { result ≡ bisIn work.now }
+    requires { length work.now ≡ work_size }
+    ensures { result ≡ bis_in work.now }
 {
     let mut block = zero_block();
     let mut c = 0;

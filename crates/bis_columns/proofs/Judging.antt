@@ -4,10 +4,10 @@ use mathlib.Core.Bool.{Bool, not}
 use mathlib.Core.List.{List, []}
 use Prim.Native.Nat.{ℕ, ◌-◌}
 use lib.ListN.{get_or}
-use Rattle.column.specs.Column.{hasRoots}
-use Rattle.bis.specs.Reading.{wrongColumn}
+use Rattle.column.specs.Column.{has_roots}
+use Rattle.bis.specs.Reading.{wrong_column}
 
 -- r is what the code finds of the roots
-pub column-judged : (block : List (List ℕ)) (C : ℕ) {r b : Bool} → r ≡ hasRoots 32 (get_or block C []) → not r ≡ b → wrongColumn block C ≡ b
-unfolding wrongColumn
+pub column-judged : (block : List (List ℕ)) (C : ℕ) {r b : Bool} → r ≡ has_roots 32 (get_or block C []) → not r ≡ b → wrong_column block C ≡ b
+unfolding wrong_column
 column-judged block C found e = ap not (sym found) ∙ e

@@ -1,14 +1,16 @@
 // Test 12: the columns of a BIS block. `steps` is for the crates of this repository.
+#![tactic(auto)]
+
 pub mod steps;
 
 ghost use Rattle.std.specs.Prelude.{◌≡◌};
-ghost use Rattle.bis.specs.Reading.{firstWrongColumn};
+ghost use Rattle.bis.specs.Reading.{first_wrong_column};
 
 use bis::Block;
 
 // The lowest BIS column, 0 to 23, without its 32 roots, or 24.
 pub fn first_wrong_column(block: Block) -> usize
-    ensures { result ≡ firstWrongColumn block }
+    ensures { result ≡ first_wrong_column block }
 {
     let mut table = remainders::steps::no_remainders();
     remainders::steps::fill_remainders(&mut table);

@@ -1,6 +1,6 @@
 // An address field in the block.
 ghost use Rattle.std.specs.Prelude.{◌≡◌, ◌<◌};
-ghost use Rattle.bis.specs.Reading.{fieldIn, primaryIn};
+ghost use Rattle.bis.specs.Reading.{field_in, primary_in};
 
 use address_field::steps::partly_inverted;
 use bis::Block;
@@ -8,7 +8,7 @@ use bis::Block;
 // Address field y as it stands in the block.
 fn field_in(block: &Block, y: usize) -> [u8; 9]
     requires { y < 16 }
-    ensures { result ≡ fieldIn block.now y }
+    ensures { result ≡ field_in block.now y }
 {
     let mut field = [0u8; 9];
     let mut x: usize = 0;
@@ -24,7 +24,7 @@ fn field_in(block: &Block, y: usize) -> [u8; 9]
 // The same with the inversion undone.
 pub fn primary_in(block: &Block, y: usize) -> [u8; 9]
     requires { y < 16 }
-    ensures { result ≡ primaryIn block.now y }
+    ensures { result ≡ primary_in block.now y }
 {
     partly_inverted(field_in(block, y))
 }

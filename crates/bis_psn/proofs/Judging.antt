@@ -8,52 +8,52 @@ use lib.Dec.{ltb}
 use lib.ListN.{get_or}
 use Rattle.big_endian.specs.Words.{word_of}
 use Rattle.answer.specs.declared.Answer.TheVariants.{Done}
-use Rattle.answer.specs.Answer.{isDone}
+use Rattle.answer.specs.Answer.{is_done}
 use Rattle.answer.proofs.Tests.{done-is}
 use Rattle.address.specs.declared.AunAnswer.{AunAnswer}
 use Rattle.address.specs.declared.PsnAnswer.{PsnAnswer}
 use Rattle.address.specs.Judged.{judged}
-use Rattle.address.specs.Conversions.{aunOf, psnToAun, aunToPsn}
+use Rattle.address.specs.Conversions.{aun_of, psn_to_aun, aun_to_psn}
 use Rattle.address.proofs.Accepted.{aun-answered, answered-accepted}
-use Rattle.bis.specs.AddressField.{restored, aunIn}
-use Rattle.bis.specs.Reading.{primaryIn, aunAt, otherUnit, firstOtherUnit, foundIf, psnIn}
+use Rattle.bis.specs.AddressField.{restored, aun_in}
+use Rattle.bis.specs.Reading.{primary_in, aun_at, other_unit, first_other_unit, found_if, psn_in}
 use Rattle.bis.specs.declared.PsnFound.TheVariants.{Found, NotFound}
 
 -- n is the word of a primary address field's first bytes, the first restored
-pub aun-read : (block : List (List ℕ)) (y : ℕ) {primary : List ℕ} {high n : ℕ} → primary ≡ primaryIn block y → high ≡ restored (get_or primary 0 0)
-    → n ≡ word_of high (get_or primary 1 0) (get_or primary 2 0) (get_or primary 3 0) → n ≡ aunAt block y
+pub aun-read : (block : List (List ℕ)) (y : ℕ) {primary : List ℕ} {high n : ℕ} → primary ≡ primary_in block y → high ≡ restored (get_or primary 0 0)
+    → n ≡ word_of high (get_or primary 1 0) (get_or primary 2 0) (get_or primary 3 0) → n ≡ aun_at block y
 aun-read block y {primary} read first e =
-    e ∙ ap (λ (h : ℕ). word_of h (get_or primary 1 0) (get_or primary 2 0) (get_or primary 3 0)) first ∙ ap aunIn read
+    e ∙ ap (λ (h : ℕ). word_of h (get_or primary 1 0) (get_or primary 2 0) (get_or primary 3 0)) first ∙ ap aun_in read
 
 -- a is the AUN that is read, and unit what is answered of the PSN
-module _ (block : List (List ℕ)) (psn y : ℕ) {a : ℕ} {unit : AunAnswer} (read : a ≡ aunAt block y) (h : y < 16) (accepted : judged psn ≡ Done) (answered : unit ≡ psnToAun psn y) where
-  pub unit-differs : (a ≡ unit.aun.0 → ⊥) → otherUnit block psn y ≡ true
-  unfolding otherUnit
-  unit-differs differ = ap not (ne_eqb (aunAt block y) (aunOf psn y) (λ e. differ (read ∙ e ∙ sym (aun-answered psn y h accepted answered))))
+module _ (block : List (List ℕ)) (psn y : ℕ) {a : ℕ} {unit : AunAnswer} (read : a ≡ aun_at block y) (h : y < 16) (accepted : judged psn ≡ Done) (answered : unit ≡ psn_to_aun psn y) where
+  pub unit-differs : (a ≡ unit.aun.0 → ⊥) → other_unit block psn y ≡ true
+  unfolding other_unit
+  unit-differs differ = ap not (ne_eqb (aun_at block y) (aun_of psn y) (λ e. differ (read ∙ e ∙ sym (aun-answered psn y h accepted answered))))
 
-  pub unit-agrees : a ≡ unit.aun.0 → otherUnit block psn y ≡ false
-  unfolding otherUnit
-  unit-agrees e = ap not (eq-eqb (aunAt block y) (aunOf psn y) (sym read ∙ e ∙ aun-answered psn y h accepted answered))
+  pub unit-agrees : a ≡ unit.aun.0 → other_unit block psn y ≡ false
+  unfolding other_unit
+  unit-agrees e = ap not (eq-eqb (aun_at block y) (aun_of psn y) (sym read ∙ e ∙ aun-answered psn y h accepted answered))
 
 -- ---- the PSN
 
 -- a is the AUN of unit 0, answer what is answered of it, and d whether that is `Done`
-module _ (block : List (List ℕ)) {a : ℕ} {answer : PsnAnswer} {d : Bool} (read : a ≡ aunAt block 0) (answered : answer ≡ aunToPsn a) (hd : d ≡ isDone answer.answer) where
-  found-by : (t b : Bool) → d ≡ t → ltb (firstOtherUnit block answer.psn.0) 16 ≡ b → cond t (cond b NotFound (Found answer.psn)) NotFound ≡ psnIn block
-  unfolding psnIn
+module _ (block : List (List ℕ)) {a : ℕ} {answer : PsnAnswer} {d : Bool} (read : a ≡ aun_at block 0) (answered : answer ≡ aun_to_psn a) (hd : d ≡ is_done answer.answer) where
+  found-by : (t b : Bool) → d ≡ t → ltb (first_other_unit block answer.psn.0) 16 ≡ b → cond t (cond b NotFound (Found answer.psn)) NotFound ≡ psn_in block
+  unfolding psn_in
   found-by t b e differ =
       sym (ap₂ (λ (t b : Bool). cond t (cond b NotFound (Found answer.psn)) NotFound) (sym hd ∙ e) differ)
-      ∙ ap (foundIf block) (answered ∙ ap aunToPsn read)
+      ∙ ap (found_if block) (answered ∙ ap aun_to_psn read)
 
-  pub psn-refused : d ≡ false → NotFound ≡ psnIn block
-  psn-refused e = found-by false (ltb (firstOtherUnit block answer.psn.0) 16) e refl
+  pub psn-refused : d ≡ false → NotFound ≡ psn_in block
+  psn-refused e = found-by false (ltb (first_other_unit block answer.psn.0) 16) e refl
 
   pub psn-accepted : d ≡ true → judged answer.psn.0 ≡ Done
   psn-accepted e = answered-accepted a answered (done-is answer.answer (sym hd ∙ e))
 
-  module _ {u : ℕ} (e : d ≡ true) (other : u ≡ firstOtherUnit block answer.psn.0) where
-    pub psn-differs : u < 16 → NotFound ≡ psnIn block
+  module _ {u : ℕ} (e : d ≡ true) (other : u ≡ first_other_unit block answer.psn.0) where
+    pub psn-differs : u < 16 → NotFound ≡ psn_in block
     psn-differs h = found-by true true e (ap (λ (v : ℕ). ltb v 16) (sym other) ∙ lt-ltb u 16 h)
 
-    pub psn-agrees : 16 ≤ u → Found answer.psn ≡ psnIn block
+    pub psn-agrees : 16 ≤ u → Found answer.psn ≡ psn_in block
     psn-agrees h = found-by true false e (ap (λ (v : ℕ). ltb v 16) (sym other) ∙ le-ltb u 16 h)

@@ -1,4 +1,6 @@
 // BIS blocks against those of an independent encoder, and what is read in blocks that are wrong.
+#![tactic(auto)]
+
 ghost use Rattle.std.specs.Prelude.{◌<◌};
 
 use address::{Aun, Psn};

@@ -8,8 +8,8 @@ use lib.Seq.{get_or-append-add}
 use Rattle.laws.specs.Tabulate.{tabulate}
 use Rattle.laws.proofs.Fill.{Upto, upto_all}
 use Rattle.laws.proofs.Tabulate.{is-tabulate}
-use Rattle.bis.specs.AccessBlock.{addressFields}
-use Rattle.bis.specs.BisBlock.{codeWord, bisBlock}
+use Rattle.bis.specs.AccessBlock.{address_fields}
+use Rattle.bis.specs.BisBlock.{code_word, bis_block}
 
 -- ---- a byte of a list and a list behind it
 
@@ -29,7 +29,7 @@ joined-all a b {l} {m} ha hb h upto =
 
 -- ---- the block, once each of its columns is written
 
-pub block-all : (psn : ℕ) (side : List ℕ) {fields block : List (List ℕ)} {C : ℕ} → fields ≡ addressFields psn side → 24 ≤ C
-    → Upto [] (codeWord fields side) 24 C block → block ≡ bisBlock psn side
-unfolding bisBlock
-block-all psn side e h upto = upto_all h upto ∙ ap (λ (f : List (List ℕ)). tabulate 24 (codeWord f side)) e
+pub block-all : (psn : ℕ) (side : List ℕ) {fields block : List (List ℕ)} {C : ℕ} → fields ≡ address_fields psn side → 24 ≤ C
+    → Upto [] (code_word fields side) 24 C block → block ≡ bis_block psn side
+unfolding bis_block
+block-all psn side e h upto = upto_all h upto ∙ ap (λ (f : List (List ℕ)). tabulate 24 (code_word f side)) e

@@ -1,12 +1,14 @@
 // The image reader: it keeps the lent image and a bit position, and takes three bits per step.
+#![tactic(auto)]
+
 ghost use Rattle.std.specs.Prelude.{◌≡◌};
 ghost use Rattle.bits.specs.Bits.{bits_of};
-ghost use Rattle.bits.specs.Step.{stepAt};
+ghost use Rattle.bits.specs.Step.{step_at};
 ghost use Rattle.bit_reader.specs.Reader.{step_of, stepped};
 
 use bits::Step;
 
-#[derive(Drop)]
+#[derive(Clone, Copy)]
 pub struct ImageReader<'a> {
     pub image: &'a [u8],
     pub position: usize,
@@ -32,7 +34,7 @@ impl<'a> ImageReader<'a> {
 
 // A step from a position of an image, for callers with plain slices and numbers.
 pub fn step_from(image: &[u8], position: usize) -> Step
-    ensures { result ≡ stepAt (bits_of image.now) position }
+    ensures { result ≡ step_at (bits_of image.now) position }
 {
     let mut reader = ImageReader { image, position };
     let value = reader.step();

@@ -9,8 +9,8 @@ use Rattle.bit_reader_test.specs.declared.Three.{Three}
 abbrev pub at_start : Bor (List ℕ) → ImageReader
 at_start image = record { image = image; position = 0 }
 
-abbrev pub threeSteps : ImageReader → Three
-threeSteps r =
+abbrev pub three_steps : ImageReader → Three
+three_steps r =
     record {
       first = (step_of r).value;
       second = (step_of (after 1 r)).value;

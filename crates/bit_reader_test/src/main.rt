@@ -1,13 +1,15 @@
 // Steps of the image reader, to the end of an image and past it. A step is printed as the number that it gives and the next position.
+#![tactic(auto)]
+
 ghost use Rattle.std.specs.Prelude.{◌≡◌};
-ghost use Rattle.bit_reader_test.specs.Steps.{at_start, threeSteps};
+ghost use Rattle.bit_reader_test.specs.Steps.{at_start, three_steps};
 
 use bit_reader::ImageReader;
 use bits::Step;
 use test_support::lines;
 
 // The numbers that three steps of one reader give, and where it then stands.
-#[derive(Drop)]
+#[derive(Clone, Copy)]
 struct Three {
     first: u8,
     second: u8,
@@ -16,7 +18,7 @@ struct Three {
 }
 
 fn three_steps(image: &[u8]) -> Three
-    ensures { result ≡ threeSteps (at_start image.entry) }
+    ensures { result ≡ three_steps (at_start image.entry) }
 {
     let mut reader = ImageReader::new(image);
     let first = reader.step();

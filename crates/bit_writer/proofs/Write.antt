@@ -10,7 +10,7 @@ use lib.Dec.{eqb, eqb→eq, ltb, ltb→lt, leb, leb→le}
 use lib.ListN.{length, get_or, set, length-set}
 use lib.Seq.{sets, ext_get_or, get_or-set_same, get_or-set_other, set_out}
 use Rattle.laws.proofs.Finite.{all, all₂, all₂-at, all₃, all₃-at}
-use Rattle.bits.specs.Bits.{bits_of, threeOf}
+use Rattle.bits.specs.Bits.{bits_of, three_of}
 use Rattle.bits.proofs.Bits.{length-bits, bit_in}
 
 -- ---- a bit of a byte
@@ -136,7 +136,7 @@ bit-written b c at v e = let whole : 8 * (at / 8) + at % 8 ≡ at = omega arith 
 pub three-written : (b c d e : List ℕ) (at v : ℕ) → c ≡ set b (8 * (at / 8) + at % 8) (v / 4 % 2)
     → d ≡ set c (8 * (at / 8 + (at % 8 + 1) / 8) + (at % 8 + 1) % 8) (v / 2 % 2)
     → e ≡ set d (8 * (at / 8 + (at % 8 + 2) / 8) + (at % 8 + 2) % 8) (v % 2)
-    → e ≡ sets b at (threeOf v)
+    → e ≡ sets b at (three_of v)
 three-written b c d e at v first second third =
     let at0 : 8 * (at / 8) + at % 8 ≡ at = omega arith in
     let at1 : 8 * (at / 8 + (at % 8 + 1) / 8) + (at % 8 + 1) % 8 ≡ suc at = omega arith in

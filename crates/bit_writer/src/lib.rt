@@ -1,7 +1,9 @@
 // Bits written into a slice of bytes, the highest of each byte first.
+#![tactic(auto)]
+
 ghost use Rattle.std.specs.Prelude.{◌≡◌, [], ◌∷◌, ◌+◌, ◌*◌, ◌%◌, ◌<◌, set};
 ghost use Rattle.std.proofs.lemmas.List.Edits.{sets};
-ghost use Rattle.bits.specs.Bits.{bits_of, threeOf};
+ghost use Rattle.bits.specs.Bits.{bits_of, three_of};
 
 // The byte with b, 0 or 1, as its bit `place`.
 fn with_bit(byte: u8, place: usize, b: u8) -> u8
@@ -32,7 +34,7 @@ pub fn write_bit(bytes: &mut [u8], at: usize, b: u8)
 
 // The three low bits of v, the highest first, from `at` on; what would stand past the end is not written.
 pub fn write_three(bytes: &mut [u8], at: usize, v: u8)
-    ensures { bits_of bytes.new ≡ sets (bits_of bytes.old) at (threeOf v) }
+    ensures { bits_of bytes.new ≡ sets (bits_of bytes.old) at (three_of v) }
 {
     let i = at / 8;
     let place = at % 8;

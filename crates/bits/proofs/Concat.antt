@@ -10,9 +10,9 @@ use lib.Pow.{pow-add}
 use lib.Seq.{ext_get_or, get_or-append-add}
 use Rattle.laws.specs.Bytes.{Bytes}
 use Rattle.laws.specs.Tabulate.{tabulate}
-use Rattle.bits.specs.Bits.{bits_of, bitsOfNumber, number, packed, Bits}
+use Rattle.bits.specs.Bits.{bits_of, bits_of_number, number, packed, Bits}
 use Rattle.bits.proofs.Bits.{length-bits, bit_in, bits-bits, bits-then}
-use Rattle.bits.proofs.Number.{number-of-bits, bits_of_number, number_lt, length-bits-of, getD-bits-of}
+use Rattle.bits.proofs.Number.{number-of-bits, bits-of-number, number_lt, length-bits-of, get_d-bits-of}
 use Rattle.bits.proofs.Pack.{packed-bits}
 
 pub bits-append : (a b : List ℕ) → bits_of (a ++ b) ≡ bits_of a ++ bits_of b
@@ -60,8 +60,8 @@ number-bytes a b = ap number (bits-append a b) ∙ number_append (bits_of a) (bi
 pub number-byte : (x : ℕ) → number (bits_of (x ∷ [])) ≡ x % 256
 number-byte x = ap number eight ∙ number-of-bits 8 x
   where
-    eight : bits_of (x ∷ []) ≡ bitsOfNumber 8 x
-    eight = unfold bits_of bitsOfNumber tabulate in refl
+    eight : bits_of (x ∷ []) ≡ bits_of_number 8 x
+    eight = unfold bits_of bits_of_number tabulate in refl
 
 -- one byte in front
 pub number-first : (x : ℕ) (l : List ℕ) → number (bits_of (x ∷ l)) ≡ x % 256 * 2 ^ (8 * length l) + number (bits_of l)
@@ -77,23 +77,23 @@ bytes-equal a b ba bb size e = sym (packed-bits a ba) ∙ ap packed same ∙ pac
   where
     same : bits_of a ≡ bits_of b
     same =
-        sym (bits_of_number (bits_of a) (bits-bits a))
-        ∙ ap₂ bitsOfNumber (length-bits a ∙ ap (λ (n : ℕ). 8 * n) size ∙ sym (length-bits b)) e
-        ∙ bits_of_number (bits_of b) (bits-bits b)
+        sym (bits-of-number (bits_of a) (bits-bits a))
+        ∙ ap₂ bits_of_number (length-bits a ∙ ap (λ (n : ℕ). 8 * n) size ∙ sym (length-bits b)) e
+        ∙ bits-of-number (bits_of b) (bits-bits b)
 
-pub number-bits : (n v : ℕ) → Bits (bitsOfNumber n v)
+pub number-bits : (n v : ℕ) → Bits (bits_of_number n v)
 number-bits n v i =
     elim (dec_lt i n) [
-      | yes h ↦ rw (getD-bits-of n v i h) (mod-lt (v / 2 ^ (n - 1 - i)) (zero-lt-suc 1))
-      | no h ↦ rw (get_or-eq_default (bitsOfNumber n v) 0 {n = i} (omega (arith, length-bits-of n v))) (omega arith)
+      | yes h ↦ rw (get_d-bits-of n v i h) (mod-lt (v / 2 ^ (n - 1 - i)) (zero-lt-suc 1))
+      | no h ↦ rw (get_or-eq_default (bits_of_number n v) 0 {n = i} (omega (arith, length-bits-of n v))) (omega arith)
     ]
 
 -- a number of n bits behind which one of m bits stands
-pub join-bits : (n m x y : ℕ) → x < 2 ^ n → y < 2 ^ m → bitsOfNumber (n + m) (x * 2 ^ m + y) ≡ bitsOfNumber n x ++ bitsOfNumber m y
+pub join-bits : (n m x y : ℕ) → x < 2 ^ n → y < 2 ^ m → bits_of_number (n + m) (x * 2 ^ m + y) ≡ bits_of_number n x ++ bits_of_number m y
 join-bits n m x y hx hy =
-    let size : length (bitsOfNumber n x ++ bitsOfNumber m y) ≡ n + m = omega (arith, length-append (bitsOfNumber n x) (bitsOfNumber m y), length-bits-of n x, length-bits-of m y) in
-    let value : number (bitsOfNumber n x ++ bitsOfNumber m y) ≡ x * 2 ^ m + y =
-    number_append (bitsOfNumber n x) (bitsOfNumber m y)
-    ∙ ap₂ (λ (k a : ℕ). number (bitsOfNumber n x) * 2 ^ k + a) (length-bits-of m y) (number-of-bits m y ∙ mod-eq_of_lt hy)
+    let size : length (bits_of_number n x ++ bits_of_number m y) ≡ n + m = omega (arith, length-append (bits_of_number n x) (bits_of_number m y), length-bits-of n x, length-bits-of m y) in
+    let value : number (bits_of_number n x ++ bits_of_number m y) ≡ x * 2 ^ m + y =
+    number_append (bits_of_number n x) (bits_of_number m y)
+    ∙ ap₂ (λ (k a : ℕ). number (bits_of_number n x) * 2 ^ k + a) (length-bits-of m y) (number-of-bits m y ∙ mod-eq_of_lt hy)
     ∙ ap (λ (a : ℕ). a * 2 ^ m + y) (number-of-bits n x ∙ mod-eq_of_lt hx) in
-    sym (ap₂ bitsOfNumber size value) ∙ bits_of_number (bitsOfNumber n x ++ bitsOfNumber m y) (bits-then (bitsOfNumber n x) (bitsOfNumber m y) (number-bits n x) (number-bits m y))
+    sym (ap₂ bits_of_number size value) ∙ bits-of-number (bits_of_number n x ++ bits_of_number m y) (bits-then (bits_of_number n x) (bits_of_number m y) (number-bits n x) (number-bits m y))

@@ -10,9 +10,9 @@ use lib.Seq.{ext_get_or, get_or-take, get_or-drop, length-take-le}
 use Rattle.laws.specs.Bytes.{Bytes}
 use Rattle.laws.proofs.Bytes.{bytes-tabulate}
 use Rattle.laws.proofs.Tabulate.{length-tabulate, get_d_tabulate, is-tabulate}
-use Rattle.bits.specs.Bits.{Bits, bits_of, bitsOfNumber, number, packed}
+use Rattle.bits.specs.Bits.{Bits, bits_of, bits_of_number, number, packed}
 use Rattle.bits.proofs.Bits.{length-bits, bit_in}
-use Rattle.bits.proofs.Number.{length-bits-of, getD-bits-of, number-of-bits, number_lt, number_bit}
+use Rattle.bits.proofs.Number.{length-bits-of, get_d-bits-of, number-of-bits, number_lt, number_bit}
 
 -- bits 8 k to 8 k + 7
 abbrev eight : List ℕ → ℕ → List ℕ
@@ -22,21 +22,21 @@ module _ (b : List ℕ) (k : ℕ) (h : 8 * k + 8 ≤ length b) where
   length-eight : length (eight b k) ≡ 8
   length-eight = length-take-le 8 (drop (8 * k) b) (omega (arith, length-drop (8 * k) b))
 
-  getD-eight : (j : ℕ) → j < 8 → get_or (eight b k) j 0 ≡ get_or b (8 * k + j) 0
-  getD-eight j hj = get_or-take 8 (drop (8 * k) b) j 0 hj ∙ get_or-drop (8 * k) b j 0
+  get_d-eight : (j : ℕ) → j < 8 → get_or (eight b k) j 0 ≡ get_or b (8 * k + j) 0
+  get_d-eight j hj = get_or-take 8 (drop (8 * k) b) j 0 hj ∙ get_or-drop (8 * k) b j 0
 
   eight-bits : Bits b → Bits (eight b k)
   eight-bits bits j =
       elim (dec_lt j 8) [
-        | yes l ↦ rw (getD-eight j l) (bits (8 * k + j))
+        | yes l ↦ rw (get_d-eight j l) (bits (8 * k + j))
         | no l ↦ rw (get_or-eq_default (eight b k) 0 {n = j} (omega (arith, length-eight))) (omega arith)
       ]
 
 -- ---- bytes, their bits, the bytes again
 
-byte-bits : (l : List ℕ) (k : ℕ) → k < length l → eight (bits_of l) k ≡ bitsOfNumber 8 (get_or l k 0)
+byte-bits : (l : List ℕ) (k : ℕ) → k < length l → eight (bits_of l) k ≡ bits_of_number 8 (get_or l k 0)
 byte-bits l k h =
-    ext_get_or 0 (eight (bits_of l) k) (bitsOfNumber 8 x) (length-eight (bits_of l) k fits ∙ sym (length-bits-of 8 x))
+    ext_get_or 0 (eight (bits_of l) k) (bits_of_number 8 x) (length-eight (bits_of l) k fits ∙ sym (length-bits-of 8 x))
     (λ j hj. bit j (omega (arith, length-eight (bits_of l) k fits)))
   where
     x : ℕ
@@ -45,8 +45,8 @@ byte-bits l k h =
     fits : 8 * k + 8 ≤ length (bits_of l)
     fits = omega (arith, length-bits l)
 
-    bit : (j : ℕ) → j < 8 → get_or (eight (bits_of l) k) j 0 ≡ get_or (bitsOfNumber 8 x) j 0
-    bit j hj = getD-eight (bits_of l) k fits j hj ∙ bit_in l (8 * k + j) k j (omega arith) h hj ∙ sym (getD-bits-of 8 x j hj)
+    bit : (j : ℕ) → j < 8 → get_or (eight (bits_of l) k) j 0 ≡ get_or (bits_of_number 8 x) j 0
+    bit j hj = get_d-eight (bits_of l) k fits j hj ∙ bit_in l (8 * k + j) k j (omega arith) h hj ∙ sym (get_d-bits-of 8 x j hj)
 
 pub packed-bits : (l : List ℕ) → Bytes l → packed (bits_of l) ≡ l
 unfolding packed
@@ -63,9 +63,9 @@ pub length-packed : (b : List ℕ) → length (packed b) ≡ length b / 8
 unfolding packed
 length-packed b = length-tabulate (length b / 8) (λ k. number (eight b k))
 
-pub getD-packed : (b : List ℕ) (k : ℕ) → k < length b / 8 → get_or (packed b) k 0 ≡ number (eight b k)
+pub get_d-packed : (b : List ℕ) (k : ℕ) → k < length b / 8 → get_or (packed b) k 0 ≡ number (eight b k)
 unfolding packed
-getD-packed b k h = get_d_tabulate (length b / 8) (λ k. number (eight b k)) k 0 h
+get_d-packed b k h = get_d_tabulate (length b / 8) (λ k. number (eight b k)) k 0 h
 
 pub bytes_packed : (b : List ℕ) → Bits b → Bytes (packed b)
 unfolding packed
@@ -85,8 +85,8 @@ bits-packed b bits whole =
         let fits : 8 * k + 8 ≤ length b = omega arith in
         let size = length-eight b k fits in
         bit_in (packed b) p k j (omega arith) (omega (arith, length-packed b)) (omega arith)
-        ∙ ap (λ (x : ℕ). x / 2 ^ (7 - j) % 2) (getD-packed b k (omega arith))
+        ∙ ap (λ (x : ℕ). x / 2 ^ (7 - j) % 2) (get_d-packed b k (omega arith))
         ∙ sym (ap (λ (n : ℕ). number (eight b k) / 2 ^ (n - 1 - j) % 2) size)
         ∙ number_bit (eight b k) j (eight-bits b k fits bits) (omega (arith, size))
-        ∙ getD-eight b k fits j (omega arith)
+        ∙ get_d-eight b k fits j (omega arith)
         ∙ ap (λ (q : ℕ). get_or b q 0) (omega arith)

@@ -9,9 +9,9 @@ use borrow.Author.Tests.{le-leb, lt-leb, lt-ltb, le-ltb}
 use lib.Pow.{shr-shr, high, field, mod-mod-pow, low}
 use Rattle.laws.proofs.Finite.{all, equal-below}
 use lib.ListN.{length, get_or}
-use Rattle.bits.specs.Bits.{bits_of, threeAt}
+use Rattle.bits.specs.Bits.{bits_of, three_at}
 use Rattle.bits.specs.steps.LowBits.{LowBits}
-use Rattle.bits.specs.Step.{stepAt}
+use Rattle.bits.specs.Step.{step_at}
 use Rattle.bits.proofs.Bits.{bit_in}
 
 -- ---- two bytes as one number
@@ -72,7 +72,7 @@ eight-sum y =
     ∙ ap₂ (λ (u v : ℕ). 4 * u + 2 * v + z % 2) one two
     ∙ ap (λ (u : ℕ). 4 * (y / 4 % 2) + 2 * (y / 2 % 2) + u) three
 
-pub three-low : (b : List ℕ) (p v : ℕ) → LowBits b p 3 v → v % 8 ≡ threeAt b p
+pub three-low : (b : List ℕ) (p v : ℕ) → LowBits b p 3 v → v % 8 ≡ three_at b p
 three-low b p v low =
     eight-sum v
     ∙ ap₂ (λ (x y : ℕ). 4 * x + 2 * y + v % 2) (low.each 0 (omega arith) ∙ ap (λ (q : ℕ). get_or b q 0) (add-zero p)) (low.each 1 (omega arith))
@@ -83,15 +83,15 @@ three-low b p v low =
 
 -- ---- the step
 
-pub step-short : (b : List ℕ) (p : ℕ) → length b < p + 3 → record { value = 8; next = p } ≡ stepAt b p
-unfolding stepAt
+pub step-short : (b : List ℕ) (p : ℕ) → length b < p + 3 → record { value = 8; next = p } ≡ step_at b p
+unfolding step_at
 step-short b p h = rw (lt-leb (p + 3) (length b) h)
 
 -- a step at which the next position fits
-pub step-moves : (b : List ℕ) (p v : ℕ) → p + 3 ≤ length b → p + 3 < 2 ^ 64 → v ≡ threeAt b p → record { value = v; next = p + 3 } ≡ stepAt b p
-unfolding stepAt
+pub step-moves : (b : List ℕ) (p v : ℕ) → p + 3 ≤ length b → p + 3 < 2 ^ 64 → v ≡ three_at b p → record { value = v; next = p + 3 } ≡ step_at b p
+unfolding step_at
 step-moves b p v h fits e = rw (le-leb (p + 3) (length b) h, lt-ltb (p + 3) (2 ^ 64) fits, e)
 
-pub step_stays : (b : List ℕ) (p v : ℕ) → p + 3 ≤ length b → 2 ^ 64 ≤ p + 3 → v ≡ threeAt b p → record { value = v; next = p } ≡ stepAt b p
-unfolding stepAt
+pub step_stays : (b : List ℕ) (p v : ℕ) → p + 3 ≤ length b → 2 ^ 64 ≤ p + 3 → v ≡ three_at b p → record { value = v; next = p } ≡ step_at b p
+unfolding step_at
 step_stays b p v h far e = rw (le-leb (p + 3) (length b) h, le-ltb (p + 3) (2 ^ 64) far, e)

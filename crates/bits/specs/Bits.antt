@@ -19,17 +19,17 @@ number [] = 0
 number (b ∷ bs) = b * 2 ^ length bs + number bs
 
 -- the n low bits of v, the highest first
-unfoldable pub bitsOfNumber : ℕ → ℕ → List ℕ
-bitsOfNumber n v = tabulate n (λ k. v / 2 ^ (n - 1 - k) % 2)
+unfoldable pub bits_of_number : ℕ → ℕ → List ℕ
+bits_of_number n v = tabulate n (λ k. v / 2 ^ (n - 1 - k) % 2)
 
 -- bits packed into bytes, eight by eight; a remainder of fewer than eight is left out
 unfoldable pub packed : List ℕ → List ℕ
 packed b = tabulate (length b / 8) (λ k. number (take 8 (drop (8 * k) b)))
 
 -- the number that the three bits from p on make, the first highest
-abbrev pub threeAt : List ℕ → ℕ → ℕ
-threeAt b p = 4 * get_or b p 0 + 2 * get_or b (p + 1) 0 + get_or b (p + 2) 0
+abbrev pub three_at : List ℕ → ℕ → ℕ
+three_at b p = 4 * get_or b p 0 + 2 * get_or b (p + 1) 0 + get_or b (p + 2) 0
 
 -- the three low bits of v, the highest first
-abbrev pub threeOf : ℕ → List ℕ
-threeOf v = v / 4 % 2 ∷ v / 2 % 2 ∷ v % 2 ∷ []
+abbrev pub three_of : ℕ → List ℕ
+three_of v = v / 4 % 2 ∷ v / 2 % 2 ∷ v % 2 ∷ []

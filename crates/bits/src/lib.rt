@@ -1,12 +1,14 @@
 // The bits of a slice of bytes, the highest of each byte first: read. `steps` is for the crates of this repository.
+#![tactic(auto)]
+
 pub mod steps;
 
 ghost use Rattle.std.specs.Prelude.{◌≡◌, get_or};
 ghost use Rattle.bits.specs.Bits.{bits_of};
-ghost use Rattle.bits.specs.Step.{stepAt};
+ghost use Rattle.bits.specs.Step.{step_at};
 
 // Three bits as a number, or 8, and the next position.
-#[derive(Drop)]
+#[derive(Clone, Copy)]
 pub struct Step {
     pub value: u8,
     pub next: usize,
@@ -25,7 +27,7 @@ pub fn read_bit(bytes: &[u8], at: usize) -> u8
 
 // One step of the image reader.
 pub fn read_three(bytes: &[u8], at: usize) -> Step
-    ensures { result ≡ stepAt (bits_of bytes.now) at }
+    ensures { result ≡ step_at (bits_of bytes.now) at }
 {
     let i = at / 8;
     let place = at % 8;

@@ -8,7 +8,7 @@ use borrow.Author.Tests.{ltb-true}
 use lib.Dec.{eqb, ltb}
 use lib.IntN.{ℤ, pos, negsuc, nat_abs, neg_ℤ, sub_ℕ, ◌+ℤ◌, +ℤ_assoc, +ℤ_idl, neg_ℤ-+ℤ}
 use lib.ListN.{length}
-use Rattle.channel.specs.Channel.{changed, channelBits, last_of, levelAfter, decimalValue, digitalSum, sumAfter, Carried}
+use Rattle.channel.specs.Channel.{changed, channel_bits, last_of, level_after, decimal_value, digital_sum, sum_after, Carried}
 
 -- ---- one behind the other
 
@@ -17,31 +17,31 @@ unfolding last_of
 last-append level [] b = refl
 last-append level (c ∷ a) b = last-append c a b
 
-pub channel-append : (level : Bool) (a b : List ℕ) → channelBits level (a ++ b) ≡ channelBits level a ++ channelBits (levelAfter level a) b
-unfolding channelBits last_of
+pub channel-append : (level : Bool) (a b : List ℕ) → channel_bits level (a ++ b) ≡ channel_bits level a ++ channel_bits (level_after level a) b
+unfolding channel_bits last_of
 channel-append level [] b = refl
 channel-append level (x ∷ a) b = ap (◌∷◌ (changed level x)) (channel-append (changed level x) a b)
 
-pub level-append : (level : Bool) (a b : List ℕ) → levelAfter level (a ++ b) ≡ levelAfter (levelAfter level a) b
-level-append level a b = ap (last_of level) (channel-append level a b) ∙ last-append level (channelBits level a) (channelBits (levelAfter level a) b)
+pub level-append : (level : Bool) (a b : List ℕ) → level_after level (a ++ b) ≡ level_after (level_after level a) b
+level-append level a b = ap (last_of level) (channel-append level a b) ∙ last-append level (channel_bits level a) (channel_bits (level_after level a) b)
 
-digital-append : (a b : List Bool) → digitalSum (a ++ b) ≡ digitalSum a +ℤ digitalSum b
-unfolding digitalSum
-digital-append [] b = sym (+ℤ_idl (digitalSum b))
-digital-append (c ∷ a) b = ap (◌+ℤ◌ (decimalValue c)) (digital-append a b) ∙ sym (+ℤ_assoc (decimalValue c) (digitalSum a) (digitalSum b))
+digital-append : (a b : List Bool) → digital_sum (a ++ b) ≡ digital_sum a +ℤ digital_sum b
+unfolding digital_sum
+digital-append [] b = sym (+ℤ_idl (digital_sum b))
+digital-append (c ∷ a) b = ap (◌+ℤ◌ (decimal_value c)) (digital-append a b) ∙ sym (+ℤ_assoc (decimal_value c) (digital_sum a) (digital_sum b))
 
-pub sum-append : (level : Bool) (a b : List ℕ) → sumAfter level (a ++ b) ≡ sumAfter level a +ℤ sumAfter (levelAfter level a) b
-sum-append level a b = ap digitalSum (channel-append level a b) ∙ digital-append (channelBits level a) (channelBits (levelAfter level a) b)
+pub sum-append : (level : Bool) (a b : List ℕ) → sum_after level (a ++ b) ≡ sum_after level a +ℤ sum_after (level_after level a) b
+sum-append level a b = ap digital_sum (channel-append level a b) ∙ digital-append (channel_bits level a) (channel_bits (level_after level a) b)
 
 module _ {level : Bool} {sum : ℤ} where
   pub carried-append : {a b : List ℕ} {mid next : Bool} {part total : ℤ} → Carried level sum a mid part → Carried mid part b next total → Carried level sum (a ++ b) next total
   carried-append {a} {b} {mid} f g =
       record {
-        level-is = g.level-is ∙ ap (λ (l : Bool). levelAfter l b) f.level-is ∙ sym (level-append level a b);
+        level-is = g.level-is ∙ ap (λ (l : Bool). level_after l b) f.level-is ∙ sym (level-append level a b);
         sum_is =
             g.sum_is
-            ∙ ap₂ (λ (s : ℤ) (l : Bool). s +ℤ sumAfter l b) f.sum_is f.level-is
-            ∙ +ℤ_assoc sum (sumAfter level a) (sumAfter (levelAfter level a) b)
+            ∙ ap₂ (λ (s : ℤ) (l : Bool). s +ℤ sum_after l b) f.sum_is f.level-is
+            ∙ +ℤ_assoc sum (sum_after level a) (sum_after (level_after level a) b)
             ∙ ap (◌+ℤ◌ sum) (sym (sum-append level a b));
       }
 
@@ -54,36 +54,36 @@ either-other false level = refl
 changed-other : (level : Bool) (b : ℕ) → changed (not level) b ≡ not (changed level b)
 changed-other level b = either-other (eqb b 1) level
 
-pub channel-other : (level : Bool) (b : List ℕ) → channelBits (not level) b ≡ map not (channelBits level b)
-unfolding channelBits
+pub channel-other : (level : Bool) (b : List ℕ) → channel_bits (not level) b ≡ map not (channel_bits level b)
+unfolding channel_bits
 channel-other level [] = refl
-channel-other level (x ∷ b) = ap₂ ◌∷◌ (changed-other level x) (ap (λ (l : Bool). channelBits l b) (changed-other level x) ∙ channel-other (changed level x) b)
+channel-other level (x ∷ b) = ap₂ ◌∷◌ (changed-other level x) (ap (λ (l : Bool). channel_bits l b) (changed-other level x) ∙ channel-other (changed level x) b)
 
 last-other : (level : Bool) (c : List Bool) → last_of (not level) (map not c) ≡ not (last_of level c)
 unfolding last_of
 last-other level [] = refl
 last-other level (x ∷ c) = last-other x c
 
-pub level-other : (level : Bool) (b : List ℕ) → levelAfter (not level) b ≡ not (levelAfter level b)
-level-other level b = ap (last_of (not level)) (channel-other level b) ∙ last-other level (channelBits level b)
+pub level-other : (level : Bool) (b : List ℕ) → level_after (not level) b ≡ not (level_after level b)
+level-other level b = ap (last_of (not level)) (channel-other level b) ∙ last-other level (channel_bits level b)
 
-value-other : (c : Bool) → decimalValue (not c) ≡ neg_ℤ (decimalValue c)
+value-other : (c : Bool) → decimal_value (not c) ≡ neg_ℤ (decimal_value c)
 value-other true = refl
 value-other false = refl
 
-digital-other : (c : List Bool) → digitalSum (map not c) ≡ neg_ℤ (digitalSum c)
-unfolding digitalSum
+digital-other : (c : List Bool) → digital_sum (map not c) ≡ neg_ℤ (digital_sum c)
+unfolding digital_sum
 digital-other [] = refl
-digital-other (x ∷ c) = ap₂ ◌+ℤ◌ (value-other x) (digital-other c) ∙ sym (neg_ℤ-+ℤ (decimalValue x) (digitalSum c))
+digital-other (x ∷ c) = ap₂ ◌+ℤ◌ (value-other x) (digital-other c) ∙ sym (neg_ℤ-+ℤ (decimal_value x) (digital_sum c))
 
 -- and the sum is negated
-pub sum-other : (level : Bool) (b : List ℕ) → sumAfter (not level) b ≡ neg_ℤ (sumAfter level b)
-sum-other level b = ap digitalSum (channel-other level b) ∙ digital-other (channelBits level b)
+pub sum-other : (level : Bool) (b : List ℕ) → sum_after (not level) b ≡ neg_ℤ (sum_after level b)
+sum-other level b = ap digital_sum (channel-other level b) ∙ digital-other (channel_bits level b)
 
 -- ---- how large a sum can be
 
-pub length-channel : (level : Bool) (b : List ℕ) → length (channelBits level b) ≡ length b
-unfolding channelBits
+pub length-channel : (level : Bool) (b : List ℕ) → length (channel_bits level b) ≡ length b
+unfolding channel_bits
 length-channel level [] = refl
 length-channel level (x ∷ b) = ap suc (length-channel (changed level x) b)
 
@@ -100,14 +100,14 @@ abs-sum (pos m) (negsuc n) = difference m (suc n)
 abs-sum (negsuc m) (pos n) = omega (arith, difference n (suc m))
 abs-sum (negsuc m) (negsuc n) = omega arith
 
-abs-value : (c : Bool) → nat_abs (decimalValue c) ≡ 1
+abs-value : (c : Bool) → nat_abs (decimal_value c) ≡ 1
 abs-value true = refl
 abs-value false = refl
 
-digital-bound : (c : List Bool) → nat_abs (digitalSum c) ≤ length c
-unfolding digitalSum
+digital-bound : (c : List Bool) → nat_abs (digital_sum c) ≤ length c
+unfolding digital_sum
 digital-bound [] = omega arith
-digital-bound (x ∷ c) = omega (arith, abs-sum (decimalValue x) (digitalSum c), abs-value x, digital-bound c)
+digital-bound (x ∷ c) = omega (arith, abs-sum (decimal_value x) (digital_sum c), abs-value x, digital-bound c)
 
-pub sum_bound : (level : Bool) (b : List ℕ) → nat_abs (sumAfter level b) ≤ length b
-sum_bound level b = omega (arith, digital-bound (channelBits level b), length-channel level b)
+pub sum_bound : (level : Bool) (b : List ℕ) → nat_abs (sum_after level b) ≤ length b
+sum_bound level b = omega (arith, digital-bound (channel_bits level b), length-channel level b)

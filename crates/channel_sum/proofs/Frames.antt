@@ -10,20 +10,20 @@ use lib.Pow.{pow_pos, split}
 use lib.Seq.{take-add, drop-drop, get_or-drop, get_or-take, length-take-le}
 use Rattle.laws.proofs.Shifts.{weight}
 use Rattle.laws.proofs.Tabulate.{is-tabulate}
-use Rattle.big_endian.specs.Words.{eightBytes}
+use Rattle.big_endian.specs.Words.{eight_bytes}
 use Rattle.big_endian.proofs.Words.{number-of-eight}
-use Rattle.bits.specs.Bits.{bits_of, bitsOfNumber}
+use Rattle.bits.specs.Bits.{bits_of, bits_of_number}
 use Rattle.bits.specs.steps.LowBits.{LowBits}
 use Rattle.bits.proofs.Bits.{length-bits, bits-bits}
-use Rattle.bits.proofs.Number.{below-block, bits_of_number}
+use Rattle.bits.proofs.Number.{below-block, bits-of-number}
 use Rattle.bits.proofs.Concat.{front-bits, rest-bits}
 use Rattle.channel_sum.specs.steps.Counted.{Counted}
 use Rattle.channel_sum.proofs.Counting.{counted_none, counted-append, counted-bound}
 
 -- ---- bits read as a number
 
-few_bits : (b : List ℕ) (p n v : ℕ) → p + n ≤ length b → LowBits b p n v → bitsOfNumber n (v % 2 ^ n) ≡ take n (drop p b)
-unfolding bitsOfNumber
+few_bits : (b : List ℕ) (p n v : ℕ) → p + n ≤ length b → LowBits b p n v → bits_of_number n (v % 2 ^ n) ≡ take n (drop p b)
+unfolding bits_of_number
 few_bits b p n v h low =
     sym (is-tabulate 0 n (λ k. v % 2 ^ n / 2 ^ (n - 1 - k) % 2) (take n (drop p b)) (length-take-le n (drop p b) (omega (arith, length-drop p b))) each)
   where
@@ -36,12 +36,12 @@ few_bits b p n v h low =
         ∙ ap (λ (x : ℕ). x / 2 ^ t % 2) (sym (split v n))
         ∙ below-block n (v / 2 ^ n) (v % 2 ^ n) t (omega arith)
 
-double-bits : (l : List ℕ) (at r : ℕ) → r < 2 ^ 64 → at + 8 ≤ length l → eightBytes r ≡ take 8 (drop at l) → bitsOfNumber 64 r ≡ take 64 (drop (8 * at) (bits_of l))
+double-bits : (l : List ℕ) (at r : ℕ) → r < 2 ^ 64 → at + 8 ≤ length l → eight_bytes r ≡ take 8 (drop at l) → bits_of_number 64 r ≡ take 64 (drop (8 * at) (bits_of l))
 double-bits l at r small h e =
-    let b = bits_of (eightBytes r) in
-    let size : length b ≡ 64 = length-bits (eightBytes r) in
-    ap₂ bitsOfNumber (sym size) (sym (number-of-eight r small))
-    ∙ bits_of_number b (bits-bits (eightBytes r))
+    let b = bits_of (eight_bytes r) in
+    let size : length b ≡ 64 = length-bits (eight_bytes r) in
+    ap₂ bits_of_number (sym size) (sym (number-of-eight r small))
+    ∙ bits-of-number b (bits-bits (eight_bytes r))
     ∙ ap bits_of e
     ∙ sym (front-bits (drop at l) 8 (omega (arith, length-drop at l)))
     ∙ ap (take 64) (sym (rest-bits l at (omega arith)))
@@ -57,10 +57,10 @@ pub few-small : (n v : ℕ) → n ≤ 8 → v % (1 * 2 ^ n % 1844674407370955161
 few-small n v h = subst (λ (x : ℕ). v % x < 2 ^ n) (sym (weight 64 n (omega arith))) (mod-lt v (pow_pos n))
 
 pub few-counted : {level next : Bool} {ones total : ℕ} (l : List ℕ) (p n v : ℕ) → n ≤ 8 → p + n ≤ 8 * length l → LowBits (bits_of l) p n v
-    → Counted level ones (bitsOfNumber n (v % (1 * 2 ^ n % 18446744073709551616))) next total → Counted level ones (take n (drop p (bits_of l))) next total
+    → Counted level ones (bits_of_number n (v % (1 * 2 ^ n % 18446744073709551616))) next total → Counted level ones (take n (drop p (bits_of l))) next total
 few-counted {level} {next} {ones} {total} l p n v small h low c =
     subst (λ (x : List ℕ). Counted level ones x next total)
-    (ap (λ (x : ℕ). bitsOfNumber n (v % x)) (weight 64 n (omega arith)) ∙ few_bits (bits_of l) p n v (omega (arith, length-bits l)) low) c
+    (ap (λ (x : ℕ). bits_of_number n (v % x)) (weight 64 n (omega arith)) ∙ few_bits (bits_of l) p n v (omega (arith, length-bits l)) low) c
 
 -- no more ONEs than bits
 pub part-bound : {level next : Bool} {ones total : ℕ} (n : ℕ) (l : List ℕ) → Counted level ones (take n l) next total → total ≤ ones + n
@@ -80,8 +80,8 @@ module _ {level : Bool} {ones : ℕ} (bytes : List ℕ) (from : ℕ) where
     pub words-bound : total ≤ ones + 1920
     words-bound = omega (arith, w.most, part-bound (64 * k) (drop (8 * from) (bits_of bytes)) w.counted)
 
-    pub words_more : {last : Bool} {sum : ℕ} (r : ℕ) → k < 30 → from + 240 ≤ length bytes → r < 2 ^ 64 → eightBytes r ≡ take 8 (drop (from + 8 * k) bytes)
-        → Counted next total (bitsOfNumber 64 r) last sum → WordsCounted level ones bytes from (k + 1) last sum
+    pub words_more : {last : Bool} {sum : ℕ} (r : ℕ) → k < 30 → from + 240 ≤ length bytes → r < 2 ^ 64 → eight_bytes r ≡ take 8 (drop (from + 8 * k) bytes)
+        → Counted next total (bits_of_number 64 r) last sum → WordsCounted level ones bytes from (k + 1) last sum
     words_more {last} {sum} r h size small e c =
         let b = bits_of bytes in
         let here = double-bits bytes (from + 8 * k) r small (omega arith) e in

@@ -12,9 +12,9 @@ use borrow.Author.Tests.{ltb-true, lt-ltb}
 use lib.Dec.{ltb}
 use lib.IntN.{ℤ, pos, negsuc, nat_abs, ◌+ℤ◌, ◌-ℤ◌}
 use lib.ListN.{length}
-use Rattle.channel.specs.Channel.{channelBits, sumAfter, Carried}
+use Rattle.channel.specs.Channel.{channel_bits, sum_after, Carried}
 use Rattle.channel.proofs.Channel.{abs-sum}
-use Rattle.channel_sum.specs.steps.Counted.{onesOf, Counted}
+use Rattle.channel_sum.specs.steps.Counted.{ones_of, Counted}
 use Rattle.channel_sum.proofs.Counting.{sum_ones}
 
 -- a number handed over is itself
@@ -62,8 +62,8 @@ module _ (sum : ℤ) (ones : ℕ) (fits : SFits w32 sum) (most : ones ≤ 1932) 
 pub carried-by : {level next : Bool} {sum total : ℤ} {ones : ℕ} (b : List ℕ) → length b ≡ 1932 → Counted level 0 b next ones → SFits w32 sum → SFits w32 total
     → total ≡ to_z w32 (of_z w32 sum) +ℤ (pos (2 * ones) -ℤ pos 1932) → Carried level sum b next (to_z w32 (of_z w32 total))
 carried-by {level} {sum = sum} {ones = ones} b size c before after e =
-    let count : onesOf (channelBits level b) ≡ ones = sym (c.ones-are ∙ zero-add (onesOf (channelBits level b))) in
-    let is : sumAfter level b ≡ pos (2 * ones) -ℤ pos 1932 = sum_ones level b ∙ ap₂ (λ (k n : ℕ). pos (2 * k) -ℤ pos n) count size in
+    let count : ones_of (channel_bits level b) ≡ ones = sym (c.ones-are ∙ zero-add (ones_of (channel_bits level b))) in
+    let is : sum_after level b ≡ pos (2 * ones) -ℤ pos 1932 = sum_ones level b ∙ ap₂ (λ (k n : ℕ). pos (2 * k) -ℤ pos n) count size in
     record { level-is = c.level-is; sum_is = to_z-of_z after ∙ e ∙ ap₂ ◌+ℤ◌ (to_z-of_z before) (sym is) }
 
 -- a sum taken out of a struct, and put into one

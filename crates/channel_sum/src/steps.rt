@@ -3,10 +3,10 @@ ghost use mathlib.Core.Path.{◌≡◌};
 ghost use Prim.Native.Nat.{◌+◌, ◌*◌, ◌-◌, ◌%◌, ◌^◌, ◌<◌, ◌≤◌};
 ghost use lib.IntN.{pos, nat_abs, ◌+ℤ◌, ◌-ℤ◌};
 ghost use lib.ListN.{length, take, drop};
-ghost use Rattle.bits.specs.Bits.{bits_of, bitsOfNumber};
+ghost use Rattle.bits.specs.Bits.{bits_of, bits_of_number};
 ghost use Rattle.channel.specs.Channel.{Carried};
 ghost use Rattle.channel_sum.specs.steps.Counted.{Counted};
-ghost use Rattle.sizes.specs.Sizes.{frameSize};
+ghost use Rattle.sizes.specs.Sizes.{frame_size};
 
 use crate::Channel;
 use big_endian::steps::double_word_at;
@@ -14,7 +14,7 @@ use bit_sums::steps::sums;
 use bits::steps::low_bits;
 
 // The level after channel bits, and how many of them are ONE.
-#[derive(Drop)]
+#[derive(Clone, Copy)]
 struct Count {
     level: bool,
     ones: usize,
@@ -23,7 +23,7 @@ struct Count {
 // After the n low bits of w more. Sums of bits are channel bits from level ZERO; from level ONE each is the other one.
 fn more(count: Count, w: u64, n: usize) -> Count
     requires { ((n ≤ 64) × (w < 2 ^ n)) × (count.ones < 2 ^ 32) }
-    ensures { Counted count.level count.ones (bitsOfNumber n w) result.level result.ones }
+    ensures { Counted count.level count.ones (bits_of_number n w) result.level result.ones }
 {
     let channel = sums(w);
     let ones = u64::count_ones(channel) as usize;
@@ -69,8 +69,8 @@ fn most_more(count: Count, bytes: &[u8], from: usize) -> Count
 
 // After the frame that stands from bit `at` on, a multiple of four.
 fn frame_count(bytes: &[u8], at: usize, level: bool) -> Count
-    requires { (at % 4 ≡ 0) × ((at + frameSize ≤ 8 * length bytes.now) × (at + frameSize < 2 ^ 64)) }
-    ensures { Counted level 0 (take frameSize (drop at (bits_of bytes.now))) result.level result.ones }
+    requires { (at % 4 ≡ 0) × ((at + frame_size ≤ 8 * length bytes.now) × (at + frame_size < 2 ^ 64)) }
+    ensures { Counted level 0 (take frame_size (drop at (bits_of bytes.now))) result.level result.ones }
 {
     let none = Count { level, ones: 0 };
     if at % 8 == 0 {
@@ -85,8 +85,8 @@ fn frame_count(bytes: &[u8], at: usize, level: bool) -> Count
 
 // The sum after a frame with so many channel ONEs.
 fn sum_more(sum: i32, ones: usize) -> i32
-    requires { (ones ≤ frameSize) × (nat_abs sum + frameSize < 2 ^ 31) }
-    ensures { result ≡ sum +ℤ (pos (2 * ones) -ℤ pos frameSize) }
+    requires { (ones ≤ frame_size) × (nat_abs sum + frame_size < 2 ^ 31) }
+    ensures { result ≡ sum +ℤ (pos (2 * ones) -ℤ pos frame_size) }
 {
     let twice = (2 * ones) as i32;
     let change = twice - 1932;
@@ -95,9 +95,9 @@ fn sum_more(sum: i32, ones: usize) -> i32
 
 // Level and sum after that frame, from those before it.
 pub fn after_frame(bytes: &[u8], at: usize, level: bool, sum: i32) -> Channel
-    requires at_value { (at % 4 ≡ 0) × ((at + frameSize ≤ 8 * length bytes.now) × (at + frameSize < 2 ^ 64)) }
-    requires frame_size_bound { nat_abs sum + frameSize < 2 ^ 31 }
-    ensures { Carried level sum (take frameSize (drop at (bits_of bytes.now))) result.level result.sum }
+    requires at_value { (at % 4 ≡ 0) × ((at + frame_size ≤ 8 * length bytes.now) × (at + frame_size < 2 ^ 64)) }
+    requires frame_size_bound { nat_abs sum + frame_size < 2 ^ 31 }
+    ensures { Carried level sum (take frame_size (drop at (bits_of bytes.now))) result.level result.sum }
 {
     let count = frame_count(bytes, at, level);
     let total = sum_more(sum, count.ones);

@@ -5,18 +5,18 @@ use Prim.Native.Nat.{ℕ, ◌+◌, ◌*◌, ◌-◌, ◌<◌, ◌≤◌, ◌/◌
 use native.Mathlib.Omega.{arith}
 use borrow.Author.Tests.{eq-eqb, ne_eqb, le-leb, lt-leb}
 use lib.ListN.{length, take, drop, get_or, length-drop}
-use Rattle.cluster.specs.EccCluster.{shownRow, row_of}
+use Rattle.cluster.specs.EccCluster.{shown_row, row_of}
 use lib.Seq.{ext_get_or, get_or-take, get_or-drop, length-take-le}
 use Rattle.laws.specs.Bytes.{Bytes}
 use Rattle.laws.proofs.Bytes.{bytes_take, bytes_drop}
 
-pub row-of-no-cluster : (work : List ℕ) (n : ℕ) → (length work ≡ 76880 → ⊥) → [] ≡ shownRow work n
+pub row-of-no-cluster : (work : List ℕ) (n : ℕ) → (length work ≡ 76880 → ⊥) → [] ≡ shown_row work n
 row-of-no-cluster work n h = rw (ne_eqb (length work) 76880 h)
 
-pub row-past-the-end : (work : List ℕ) (n : ℕ) → length work ≡ 76880 → 495 < n → [] ≡ shownRow work n
+pub row-past-the-end : (work : List ℕ) (n : ℕ) → length work ≡ 76880 → 495 < n → [] ≡ shown_row work n
 row-past-the-end work n h past = rw (eq-eqb (length work) 76880 h, lt-leb n 495 past)
 
-pub row-shown : (work : List ℕ) (n : ℕ) → length work ≡ 76880 → n ≤ 495 → take (155 * n + 155 - 155 * n) (drop (155 * n) work) ≡ shownRow work n
+pub row-shown : (work : List ℕ) (n : ℕ) → length work ≡ 76880 → n ≤ 495 → take (155 * n + 155 - 155 * n) (drop (155 * n) work) ≡ shown_row work n
 row-shown work n h within =
     let size : 155 * n + 155 - 155 * n ≡ 155 = omega arith in
     rw (eq-eqb (length work) 76880 h, le-leb n 495 within, size)

@@ -2,8 +2,8 @@
 ghost use Rattle.std.specs.Prelude.{◌≡◌, ◌+◌, ◌<◌, ◌≤◌, length, get_or, take, drop};
 ghost use Rattle.laws.specs.Bytes.{Bytes};
 ghost use Rattle.laws.specs.Tabulate.{tabulate};
-ghost use Rattle.column.specs.Column.{remainder, parity, hasRoots, EndsIn};
-ghost use Rattle.register.specs.steps.Register.{divisor, leaves, Padded, front, leavesAdded};
+ghost use Rattle.column.specs.Column.{remainder, parity, has_roots, EndsIn};
+ghost use Rattle.register.specs.steps.Register.{divisor, leaves, Padded, front, leaves_added};
 ghost use Rattle.remainders.specs.steps.Remainders.{AreRemainders};
 
 use register::Register;
@@ -34,7 +34,7 @@ fn fronts(was: &Register, message: &[u8], at: usize) -> [usize; 8]
 // Byte j of what the eight leave, added to a byte.
 fn added(table: &Remainders, eight: [usize; 8], j: usize, byte: u8) -> u8
     requires { AreRemainders table.now × (Bytes eight × (j < 32)) }
-    ensures { result ≡ leavesAdded eight j byte 8 }
+    ensures { result ≡ leaves_added eight j byte 8 }
 {
     let mut v = byte;
     let mut k = 0;
@@ -111,7 +111,7 @@ fn ends_in(column: &[u8], n: usize, parity: &[u8; 32]) -> bool
 // Whether a column, LDC's, BIS's or another, has its 32 roots: whether its last 32 bytes are the parity of those before.
 pub fn is_code_word(table: &Remainders, column: &[u8]) -> bool
     requires { AreRemainders table.now × (32 ≤ length column.now) }
-    ensures { result ≡ hasRoots 32 column.now }
+    ensures { result ≡ has_roots 32 column.now }
 {
     let n = column.len() - 32;
     let mut parity = parity::steps::no_parity();

@@ -15,10 +15,10 @@ use Rattle.laws.proofs.Bytes.{bytes-append, bytes_take}
 use Rattle.laws.proofs.Differing.{differing-self, differing-comm, differing-most, differing-between, differing-append, differing-combined}
 use Rattle.laws.proofs.Tabulate.{length-tabulate}
 use Rattle.galois.specs.Field.{α, power}
-use Rattle.column.specs.Column.{valueFrom, value, Roots, sums, generator, parity}
+use Rattle.column.specs.Column.{value_from, value, Roots, sums, generator, parity}
 use Rattle.column.specs.Distance.{Right, Near, IsDistance}
 use Rattle.column.proofs.Sums.{length-sums, bytes-sums, sums-combined}
-use Rattle.column.proofs.Value.{zeroColumn, zeros-bytes, zeros-append, sum-root, value-append, value-zeros}
+use Rattle.column.proofs.Value.{zero_column, zeros-bytes, zeros-append, sum-root, value-append, value-zeros}
 use Rattle.column.proofs.Generator.{generator-first, generator-length, generator-bytes, generator-roots}
 use Rattle.column.proofs.Roots.{has-roots}
 use Rattle.column.proofs.Linear.{sums_none}
@@ -49,7 +49,7 @@ right-sums r n c d right other =
     e : length c ≡ length d
     e = right.size ∙ sym other.size
 
-pub zeros-right : (r n : ℕ) → Right r n (zeroColumn n)
+pub zeros-right : (r n : ℕ) → Right r n (zero_column n)
 zeros-right r n = record { size = length-tabulate n (λ _. 0); bytes = zeros-bytes n; roots = λ i h. unfold value in value-zeros n (power α i) }
 
 -- ---- two of them, that differ in at most r places, are the same
@@ -71,75 +71,75 @@ near-once r e f most w c d short near other =
 
 -- ---- the generator as a column of n bytes, behind zeros
 
-abbrev pub generatorColumn : ℕ → ℕ → List ℕ
-generatorColumn r n = zeroColumn (n - suc r) ++ generator r
+abbrev pub generator_column : ℕ → ℕ → List ℕ
+generator_column r n = zero_column (n - suc r) ++ generator r
 
 module _ (r n : ℕ) (long : suc r ≤ n) where
   abbrev k : ℕ
   k = n - suc r
 
-  generator-size : length (generatorColumn r n) ≡ n
-  generator-size = omega (arith, length-append (zeroColumn k) (generator r), length-tabulate {A = ℕ} k (λ _. 0), generator-length r)
+  generator-size : length (generator_column r n) ≡ n
+  generator-size = omega (arith, length-append (zero_column k) (generator r), length-tabulate {A = ℕ} k (λ _. 0), generator-length r)
 
-  pub generator-right : Right r n (generatorColumn r n)
-  generator-right = record { size = generator-size; bytes = bytes-append (zeroColumn k) (generator r) (zeros-bytes k) (generator-bytes r); roots = roots }
+  pub generator-right : Right r n (generator_column r n)
+  generator-right = record { size = generator-size; bytes = bytes-append (zero_column k) (generator r) (zeros-bytes k) (generator-bytes r); roots = roots }
     where
-      roots : Roots r (generatorColumn r n)
+      roots : Roots r (generator_column r n)
       roots i h =
           unfold value in
-          value-append 0 (zeroColumn k) (generator r) (power α i)
-          ∙ ap (λ (v : ℕ). valueFrom v (generator r) (power α i)) (value-zeros k (power α i))
+          value-append 0 (zero_column k) (generator r) (power α i)
+          ∙ ap (λ (v : ℕ). value_from v (generator r) (power α i)) (value-zeros k (power α i))
           ∙ generator-roots r i h
 
-  behind : differing (generatorColumn r n) (zeroColumn n) ≡ differing (generator r) (zeroColumn (suc r))
+  behind : differing (generator_column r n) (zero_column n) ≡ differing (generator r) (zero_column (suc r))
   behind =
-      ap (differing (generatorColumn r n)) (sym (zeros-append k (suc r) ∙ ap zeroColumn whole))
-      ∙ differing-append (zeroColumn k) (zeroColumn k) (generator r) (zeroColumn (suc r)) refl
-      ∙ ap (λ (d : ℕ). d + differing (generator r) (zeroColumn (suc r))) (differing-self (zeroColumn k))
-      ∙ zero-add (differing (generator r) (zeroColumn (suc r)))
+      ap (differing (generator_column r n)) (sym (zeros-append k (suc r) ∙ ap zero_column whole))
+      ∙ differing-append (zero_column k) (zero_column k) (generator r) (zero_column (suc r)) refl
+      ∙ ap (λ (d : ℕ). d + differing (generator r) (zero_column (suc r))) (differing-self (zero_column k))
+      ∙ zero-add (differing (generator r) (zero_column (suc r)))
     where
       whole : k + suc r ≡ n
       whole = omega arith
 
   -- its first coefficient is 1
-  some : 0 < differing (generator r) (zeroColumn (suc r))
-  some = subst⁻¹ (λ (g : List ℕ). 0 < differing g (zeroColumn (suc r))) (generator-first r) (unfold differing tabulate in omega arith)
+  some : 0 < differing (generator r) (zero_column (suc r))
+  some = subst⁻¹ (λ (g : List ℕ). 0 < differing g (zero_column (suc r))) (generator-first r) (unfold differing tabulate in omega arith)
 
   -- it differs from zeros in just r + 1 places
-  pub generator-apart : n ≤ 255 → differing (generatorColumn r n) (zeroColumn n) ≡ suc r
+  pub generator-apart : n ≤ 255 → differing (generator_column r n) (zero_column n) ≡ suc r
   generator-apart short = omega (arith, most, least, behind)
     where
-      most : differing (generator r) (zeroColumn (suc r)) ≤ suc r
-      most = omega (arith, differing-most (generator r) (zeroColumn (suc r)), generator-length r)
+      most : differing (generator r) (zero_column (suc r)) ≤ suc r
+      most = omega (arith, differing-most (generator r) (zero_column (suc r)), generator-length r)
 
-      unlike : generatorColumn r n ≡ zeroColumn n → ⊥
-      unlike e = absurd (omega (arith, some, behind, ap (λ (c : List ℕ). differing c (zeroColumn n)) e, differing-self (zeroColumn n)))
+      unlike : generator_column r n ≡ zero_column n → ⊥
+      unlike e = absurd (omega (arith, some, behind, ap (λ (c : List ℕ). differing c (zero_column n)) e, differing-self (zero_column n)))
 
-      least : r < differing (generatorColumn r n) (zeroColumn n)
-      least = apart r n short (generatorColumn r n) (zeroColumn n) generator-right (zeros-right r n) unlike
+      least : r < differing (generator_column r n) (zero_column n)
+      least = apart r n short (generator_column r n) (zero_column n) generator-right (zeros-right r n) unlike
 
 -- added to a column it changes as many places
-sum-apart : (c g : List ℕ) → length g ≡ length c → differing c (sums c g) ≡ differing g (zeroColumn (length c))
+sum-apart : (c g : List ℕ) → length g ≡ length c → differing c (sums c g) ≡ differing g (zero_column (length c))
 sum-apart c g e =
-    ap₂ differing (sym (sums_none c) ∙ sums-combined c (zeroColumn (length c))) (sums-combined c g)
-    ∙ differing-combined c (zeroColumn (length c)) g (sym (length-tabulate (length c) (λ _. 0))) (sym e)
-    ∙ differing-comm (zeroColumn (length c)) g
+    ap₂ differing (sym (sums_none c) ∙ sums-combined c (zero_column (length c))) (sums-combined c g)
+    ∙ differing-combined c (zero_column (length c)) g (sym (length-tabulate (length c) (λ _. 0))) (sym e)
+    ∙ differing-comm (zero_column (length c)) g
 
 -- ---- the distance of columns of n bytes
 
 pub distance_is : (r n : ℕ) → suc r ≤ n → n ≤ 255 → IsDistance r n (suc r)
 distance_is r n long short = record { at_least = apart r n short; met = met }
   where
-    far : (c : List ℕ) → Right r n c → differing c (sums c (generatorColumn r n)) ≡ suc r
+    far : (c : List ℕ) → Right r n c → differing c (sums c (generator_column r n)) ≡ suc r
     far c right =
-        sum-apart c (generatorColumn r n) (generator-size r n long ∙ sym right.size)
-        ∙ ap (λ (m : ℕ). differing (generatorColumn r n) (zeroColumn m)) right.size
+        sum-apart c (generator_column r n) (generator-size r n long ∙ sym right.size)
+        ∙ ap (λ (m : ℕ). differing (generator_column r n) (zero_column m)) right.size
         ∙ generator-apart r n long short
 
     met : (c : List ℕ) → Right r n c → (d : List ℕ) × Right r n d × (c ≡ d → ⊥) × (differing c d ≡ suc r)
-    met c right = (sums c (generatorColumn r n), right-sums r n c (generatorColumn r n) right (generator-right r n long), unlike, far c right)
+    met c right = (sums c (generator_column r n), right-sums r n c (generator_column r n) right (generator-right r n long), unlike, far c right)
       where
-        unlike : c ≡ sums c (generatorColumn r n) → ⊥
+        unlike : c ≡ sums c (generator_column r n) → ⊥
         unlike e = absurd (omega (arith, sym (far c right) ∙ ap (differing c) (sym e) ∙ differing-self c))
 
 -- there is one
@@ -148,5 +148,5 @@ distance-once r n d d' is is' = omega (arith, below d d' is is', below d' d is' 
   where
     below : (a b : ℕ) → IsDistance r n a → IsDistance r n b → a ≤ b
     below a b one other =
-        let pair = other.met (zeroColumn n) (zeros-right r n) in
-        omega (arith, one.at_least (zeroColumn n) pair.0 (zeros-right r n) pair.1 pair.2, pair.3)
+        let pair = other.met (zero_column n) (zeros-right r n) in
+        omega (arith, one.at_least (zero_column n) pair.0 (zeros-right r n) pair.1 pair.2, pair.3)

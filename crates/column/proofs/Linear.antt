@@ -14,7 +14,7 @@ use Rattle.galois.proofs.Sum.{sum-zero, zero-sum, sum_self, sum-swap}
 use Rattle.galois.proofs.Product.{sum-product}
 use Rattle.column.specs.Column.{sums, scaled, generator, pushed, remainder, parity}
 use Rattle.column.proofs.Sums.{sums-combined, length-snoc, length-scaled}
-use Rattle.column.proofs.Value.{zeroColumn, zeros-append}
+use Rattle.column.proofs.Value.{zero_column, zeros-append}
 use Rattle.column.proofs.Generator.{coefficients-length}
 use Rattle.column.proofs.Division.{length-pushed}
 
@@ -59,9 +59,9 @@ remainder-sums g r s (m ∷ ms) (n ∷ ns) hr hs e =
     ap (λ (l : List ℕ). remainder g l (sums ms ns)) (pushed-sums g r s m n (hr ∙ sym hs))
     ∙ remainder-sums g (pushed g r m) (pushed g s n) ms ns (length-pushed g r m hr) (length-pushed g s n hs) (suc_inj e)
 
-pub zeros-snoc : (n : ℕ) → zeroColumn n ++ 0 ∷ [] ≡ zeroColumn (suc n)
+pub zeros-snoc : (n : ℕ) → zero_column n ++ 0 ∷ [] ≡ zero_column (suc n)
 unfolding tabulate
-zeros-snoc n = zeros-append n 1 ∙ ap zeroColumn (add-one n)
+zeros-snoc n = zeros-append n 1 ∙ ap zero_column (add-one n)
 
 pub sums_none : (l : List ℕ) → sums l (tabulate (length l) (λ _. 0)) ≡ l
 unfolding tabulate sums

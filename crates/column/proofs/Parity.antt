@@ -14,7 +14,7 @@ use Rattle.laws.specs.Tabulate.{tabulate}
 use Rattle.laws.proofs.Bytes.{bytes_take, bytes_drop}
 use Rattle.laws.proofs.Combined.{bytes-combined}
 use Rattle.galois.specs.Field.{α, power}
-use Rattle.column.specs.Column.{value, Roots, hasRoots, Completes, IsParity, EndsIn, generator, remainder, parity}
+use Rattle.column.specs.Column.{value, Roots, has_roots, Completes, IsParity, EndsIn, generator, remainder, parity}
 use Rattle.column.proofs.Value.{zeros-bytes, value-append, value-zeros}
 use Rattle.column.proofs.Generator.{coefficients-length, coefficients-roots}
 use Rattle.column.proofs.Division.{length-remainder, bytes-remainder, remainder-keeps}
@@ -73,31 +73,31 @@ module _ (r : ℕ) (few : r ≤ 255) where
 
 -- ---- the same, of the test
 
-pub parity-test : (r : ℕ) (message : List ℕ) → Bytes message → hasRoots r (message ++ parity r message) ≡ true
+pub parity-test : (r : ℕ) (message : List ℕ) → Bytes message → has_roots r (message ++ parity r message) ≡ true
 parity-test r message bytes = (has-roots r (message ++ parity r message)).1 (parity-roots r message bytes)
 
 -- a column of n bytes and r more that passes the test
-pub test-parity : (r : ℕ) → r ≤ 255 → (n : ℕ) (column : List ℕ) → Bytes column → length column ≡ n + r → hasRoots r column ≡ true
+pub test-parity : (r : ℕ) → r ≤ 255 → (n : ℕ) (column : List ℕ) → Bytes column → length column ≡ n + r → has_roots r column ≡ true
     → drop n column ≡ parity r (take n column)
 test-parity r few n column bytes size test =
     roots-parity r few (take n column) (drop n column) (bytes_take n column bytes) (bytes_drop n column bytes) (omega (arith, length-drop n column))
     (subst⁻¹ (Roots r) (take-append-drop n column) ((has-roots r column).0 test))
 
-pub test-column : (r : ℕ) → r ≤ 255 → (n : ℕ) (column : List ℕ) → Bytes column → length column ≡ n + r → hasRoots r column ≡ true
+pub test-column : (r : ℕ) → r ≤ 255 → (n : ℕ) (column : List ℕ) → Bytes column → length column ≡ n + r → has_roots r column ≡ true
     → column ≡ take n column ++ parity r (take n column)
 test-column r few n column bytes size test = sym (take-append-drop n column) ∙ ap (◌++◌ (take n column)) (test-parity r few n column bytes size test)
 
 -- the test, by the parity of what stands before
 pub ends-test : (r n : ℕ) (column : List ℕ) → r ≤ 255 → Bytes column → length column ≡ n + r → {p : List ℕ} → p ≡ parity r (take n column)
-    → {answer : Bool} → EndsIn column n p answer → answer ≡ hasRoots r column
-ends-test r n column few bytes size {p} e {answer} ends = by answer (hasRoots r column) ends refl
+    → {answer : Bool} → EndsIn column n p answer → answer ≡ has_roots r column
+ends-test r n column few bytes size {p} e {answer} ends = by answer (has_roots r column) ends refl
   where
-    right : drop n column ≡ p → hasRoots r column ≡ true
+    right : drop n column ≡ p → has_roots r column ≡ true
     right same =
-        ap (hasRoots r) (sym (take-append-drop n column) ∙ ap (◌++◌ (take n column)) (same ∙ e))
+        ap (has_roots r) (sym (take-append-drop n column) ∙ ap (◌++◌ (take n column)) (same ∙ e))
         ∙ parity-test r (take n column) (bytes_take n column bytes)
 
-    by : (a b : Bool) → EndsIn column n p a → hasRoots r column ≡ b → a ≡ b
+    by : (a b : Bool) → EndsIn column n p a → has_roots r column ≡ b → a ≡ b
     by true true ends t = refl
     by true false ends t = absurd (false≢true (sym t ∙ right (ends.same refl)))
     by false true ends t = absurd (ends.other refl (test-parity r few n column bytes size t ∙ sym e))

@@ -11,7 +11,7 @@ use Rattle.laws.proofs.Tabulate.{length-tabulate, is-tabulate}
 use Rattle.laws.proofs.Fill.{Upto, upto-none, upto-more, upto_all}
 use Rattle.laws.specs.Bytes.{Bytes}
 use Rattle.galois.specs.Field.{sum, product}
-use Rattle.galois.specs.Tables.{AreTables, productBy}
+use Rattle.galois.specs.Tables.{AreTables, product_by}
 use Rattle.galois.proofs.Lookup.{product-table}
 use Rattle.galois.proofs.Sum.{zero-sum}
 use Rattle.column.specs.Column.{scaled, generator, pushed, remainder, parity}
@@ -53,7 +53,7 @@ moved_none tables bytes same small out =
     }
 
 -- m is the product of f and the coefficient at j
-module _ {p l g was now : List ℕ} {byte f j m : ℕ} (times : m ≡ productBy p l f (get_or g j 0)) (moved : Moved p l g was byte f j now) where
+module _ {p l g was now : List ℕ} {byte f j m : ℕ} (times : m ≡ product_by p l f (get_or g j 0)) (moved : Moved p l g was byte f j now) where
   after : j < length was → sum (get_or was (j + 1) 0) m ≡ get_or (pushed g was byte) j 0
   after h =
       ap (sum (get_or was (j + 1) 0))

@@ -15,7 +15,7 @@ use Rattle.laws.proofs.Differing.{differing-none}
 use Rattle.galois.specs.Field.{α, sum, product, power}
 use Rattle.galois.proofs.Sum.{sum_self, sum_same}
 use Rattle.galois.proofs.Power.{power-swap}
-use Rattle.column.specs.Column.{valueFrom, value, Roots, sums}
+use Rattle.column.specs.Column.{value_from, value, Roots, sums}
 use Rattle.column.proofs.Sums.{length-sums, bytes-sums}
 use Rattle.column.proofs.Value.{value-cons, value_out}
 use Rattle.column.proofs.Powers.{total, Falls, Zeros, vanish}
@@ -57,7 +57,7 @@ exponents-fall (suc c ∷ cs) = (le_refl (suc (length cs)), exponents-fall cs)
 -- ---- the value at α^s is their sum of powers
 
 value-total : (cs : List ℕ) (s : ℕ) → Bytes cs → value cs (power α s) ≡ total (nonzero cs) (exponents cs) s
-unfolding value valueFrom total nonzero exponents
+unfolding value value_from total nonzero exponents
 value-total [] s b = refl
 value-total (zero ∷ cs) s b = value-cons 0 cs (power α s) ∙ value-total cs s (λ j. b (suc j))
 value-total (suc c ∷ cs) s b =

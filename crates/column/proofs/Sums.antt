@@ -7,7 +7,7 @@ use lib.ListN.{length, get_or}
 use Rattle.laws.specs.Bytes.{Bytes}
 use Rattle.laws.specs.Combined.{combined}
 use Rattle.laws.proofs.Bytes.{bytes-none, bytes-cons, bytes-append}
-use Rattle.laws.proofs.Combined.{length-combined, getD-combined, bytes-combined}
+use Rattle.laws.proofs.Combined.{length-combined, get_d-combined, bytes-combined}
 use Rattle.galois.specs.Field.{sum, product}
 use Rattle.galois.proofs.Product.{product-byte, product-zero}
 use Rattle.column.specs.Column.{sums, scaled}
@@ -50,7 +50,7 @@ snoc-at (c ∷ cs) (suc i) = snoc-at cs i
 
 pub sums_at : (xs ys : List ℕ) (i : ℕ) → length xs ≡ length ys → get_or (sums xs ys) i 0 ≡ sum (get_or xs i 0) (get_or ys i 0)
 unfolding sum
-sums_at xs ys i e = ap (λ (l : List ℕ). get_or l i 0) (sums-combined xs ys) ∙ getD-combined xs ys i e
+sums_at xs ys i e = ap (λ (l : List ℕ). get_or l i 0) (sums-combined xs ys) ∙ get_d-combined xs ys i e
 
 pub scaled_at : (a : ℕ) (cs : List ℕ) (i : ℕ) → get_or (scaled a cs) i 0 ≡ product a (get_or cs i 0)
 unfolding scaled

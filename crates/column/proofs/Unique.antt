@@ -6,7 +6,7 @@ use native.Mathlib.Omega.{arith}
 use lib.ListN.{length}
 use Rattle.laws.proofs.Differing.{differing-most}
 use Rattle.galois.specs.Field.{α, power}
-use Rattle.column.specs.Column.{valueFrom, value, Completes}
+use Rattle.column.specs.Column.{value_from, value, Completes}
 use Rattle.column.proofs.Value.{value-append, sum-root}
 use Rattle.column.proofs.Sparse.{few-same}
 
@@ -18,5 +18,5 @@ completes-once r hr message p q cp cq =
     e : length q ≡ length p
     e = cq.size ∙ sym cp.size
 
-    behind : (l : List ℕ) → Completes r message l → (i : ℕ) → i < r → valueFrom (value message (power α i)) l (power α i) ≡ 0
+    behind : (l : List ℕ) → Completes r message l → (i : ℕ) → i < r → value_from (value message (power α i)) l (power α i) ≡ 0
     behind l c i h = unfold value in sym (value-append 0 message l (power α i)) ∙ c.roots i h

@@ -5,22 +5,22 @@ use Rattle.laws.specs.Tabulate.{tabulate}
 use Rattle.galois.specs.Field.{α, sum, product, power}
 
 -- the value at x by Horner's rule, where v is the value of the bytes before
-unfoldable pub valueFrom : ℕ → List ℕ → ℕ → ℕ
-valueFrom v [] x = v
-valueFrom v (c ∷ cs) x = valueFrom (sum (product v x) c) cs x
+unfoldable pub value_from : ℕ → List ℕ → ℕ → ℕ
+value_from v [] x = v
+value_from v (c ∷ cs) x = value_from (sum (product v x) c) cs x
 
 -- the value of a column at x
 unfoldable pub value : List ℕ → ℕ → ℕ
-value column x = valueFrom 0 column x
+value column x = value_from 0 column x
 
 -- the column has the roots α^0 to α^(r - 1)
 abbrev pub Roots : ℕ → List ℕ → Type 0
 Roots r column = (i : ℕ) → i < r → value column (power α i) ≡ 0
 
 -- the same, as a test
-unfoldable pub hasRoots : ℕ → List ℕ → Bool
-hasRoots zero column = true
-hasRoots (suc r) column = cond (eqb (value column (power α r)) 0) (hasRoots r column) false
+unfoldable pub has_roots : ℕ → List ℕ → Bool
+has_roots zero column = true
+has_roots (suc r) column = cond (eqb (value column (power α r)) 0) (has_roots r column) false
 
 -- p is r bytes that, behind the message, give the column its roots
 pub record Completes (r : ℕ) (message p : List ℕ) : Type 0 where
@@ -52,13 +52,13 @@ scaled a [] = []
 scaled a (c ∷ cs) = product a c ∷ scaled a cs
 
 -- x - a times a column
-unfoldable pub timesRoot : ℕ → List ℕ → List ℕ
-timesRoot a cs = sums (cs ++ 0 ∷ []) (0 ∷ scaled a cs)
+unfoldable pub times_root : ℕ → List ℕ → List ℕ
+times_root a cs = sums (cs ++ 0 ∷ []) (0 ∷ scaled a cs)
 
 -- formulas 30, 33, 37: the product of x - α^i for i below r
 unfoldable pub generator : ℕ → List ℕ
 generator zero = 1 ∷ []
-generator (suc r) = timesRoot (power α r) (generator r)
+generator (suc r) = times_root (power α r) (generator r)
 
 -- q(x) g(x): each coefficient of q times g, at its place, and the sum of these. The product has one coefficient less than both together.
 unfoldable pub multiplied : List ℕ → List ℕ → List ℕ

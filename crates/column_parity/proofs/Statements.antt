@@ -8,12 +8,12 @@ use lib.ListN.{length}
 use Rattle.laws.specs.Bytes.{Bytes}
 use Rattle.answer.specs.declared.Answer.{Answer}
 use Rattle.answer.specs.declared.Answer.TheVariants.{Done, WrongColumn}
-use Rattle.answer.specs.Answer.{number_of, isDone, andThen}
+use Rattle.answer.specs.Answer.{number_of, is_done, and_then}
 use Rattle.answer.proofs.Tests.{number-zero, done-or-not, done-told}
 use Rattle.lengths.specs.Lengths.{sized}
 use Rattle.column.specs.Column.{ParityExactly, parity}
 use Rattle.column.proofs.Multiple.{parity-exactly}
-use Rattle.column_parity.specs.Outcome.{dataAnswer, answer, Outcome, outcome}
+use Rattle.column_parity.specs.Outcome.{data_answer, answer, Outcome, outcome}
 use Rattle.column_parity.specs.Promise.{RightColumn, CompletesExactly}
 use Rattle.column_parity.proofs.Lengths.{column-right, column-done, column-refused}
 
@@ -21,12 +21,12 @@ module _ (message before : List ℕ) where
   -- 1 to 223 data bytes and a parity slice of 32: the parity is left
   completed-is : RightColumn (length message) (length before) → outcome message before ≡ record { answer = Done; parity = parity 32 message }
   unfolding outcome
-  completed-is right = ap (λ (a : Answer). record { answer = a; parity = cond (isDone a) (parity 32 message) before }) (column-right (length message) (length before) right)
+  completed-is right = ap (λ (a : Answer). record { answer = a; parity = cond (is_done a) (parity 32 message) before }) (column-right (length message) (length before) right)
 
   -- else 22, and the slice as it was
-  refused-is : isDone (answer (length message) (length before)) ≡ false → outcome message before ≡ record { answer = WrongColumn; parity = before }
+  refused-is : is_done (answer (length message) (length before)) ≡ false → outcome message before ≡ record { answer = WrongColumn; parity = before }
   unfolding outcome
-  refused-is h = ap (λ (a : Answer). record { answer = a; parity = cond (isDone a) (parity 32 message) before }) (column-refused (length message) (length before) h)
+  refused-is h = ap (λ (a : Answer). record { answer = a; parity = cond (is_done a) (parity 32 message) before }) (column-refused (length message) (length before) h)
 
   -- FROM 1 TO 223 DATA BYTES: what is left is the only 32 bytes that give the column the roots α^0 to α^31, and exactly they make it a
   -- multiple of the generator
@@ -37,7 +37,7 @@ module _ (message before : List ℕ) where
   unfolding outcome
   answered e = column-done (length message) (length before) (number-zero (answer (length message) (length before)) e)
 
-  kept : (number_of (outcome message before).answer ≡ 0 → ⊥) → isDone (answer (length message) (length before)) ≡ false
+  kept : (number_of (outcome message before).answer ≡ 0 → ⊥) → is_done (answer (length message) (length before)) ≡ false
   unfolding outcome
   kept h = done-or-not (answer (length message) (length before)) h
 
@@ -56,9 +56,9 @@ module _ (message before : List ℕ) where
   with-exactly bytes e = (e, subst (λ (o : Outcome). CompletesExactly message before (number_of o.answer) o.parity) (sym e) (completes-exactly bytes))
 
   -- as the code has it: a and b are the two tests, r what they answer, d whether it is `Done`
-  module _ {a b r : Answer} {d : Bool} (ha : a ≡ dataAnswer (length message)) (hb : b ≡ sized (length before) 32 WrongColumn) (hr : r ≡ andThen a b) (hd : d ≡ isDone r) where
+  module _ {a b r : Answer} {d : Bool} (ha : a ≡ data_answer (length message)) (hb : b ≡ sized (length before) 32 WrongColumn) (hr : r ≡ and_then a b) (hd : d ≡ is_done r) where
     is-answer : r ≡ answer (length message) (length before)
-    is-answer = hr ∙ ap₂ andThen ha hb
+    is-answer = hr ∙ ap₂ and_then ha hb
 
     done : d ≡ true → answer (length message) (length before) ≡ Done
     done t = done-told is-answer hd t
@@ -74,6 +74,6 @@ module _ (message before : List ℕ) where
 
     pub is-refused : Bytes message → d ≡ false → (record { answer = r; parity = before } ≡ outcome message before) × CompletesExactly message before (number_of r) before
     is-refused bytes t =
-        let no = sym (ap isDone is-answer) ∙ sym hd ∙ t in
+        let no = sym (ap is_done is-answer) ∙ sym hd ∙ t in
         with-exactly bytes
         (ap (λ (a : Answer). record { answer = a; parity = before }) (is-answer ∙ column-refused (length message) (length before) no) ∙ sym (refused-is no))

@@ -2,17 +2,17 @@
 use Rattle.std.specs.Prelude.{cond, List, ℕ, eqb, ltb, length}
 use Rattle.answer.specs.declared.Answer.{Answer}
 use Rattle.answer.specs.declared.Answer.TheVariants.{Done, WrongColumn}
-use Rattle.answer.specs.Answer.{isDone, andThen}
+use Rattle.answer.specs.Answer.{is_done, and_then}
 use Rattle.lengths.specs.Lengths.{sized}
 use Rattle.column.specs.Column.{parity}
 
 -- 22: a data length of 0 or above 223
-abbrev pub dataAnswer : ℕ → Answer
-dataAnswer n = cond (eqb n 0) WrongColumn (cond (ltb 223 n) WrongColumn Done)
+abbrev pub data_answer : ℕ → Answer
+data_answer n = cond (eqb n 0) WrongColumn (cond (ltb 223 n) WrongColumn Done)
 
 -- or a parity slice that is not 32 long; from the two lengths
 abbrev pub answer : ℕ → ℕ → Answer
-answer n size = andThen (dataAnswer n) (sized size 32 WrongColumn)
+answer n size = and_then (data_answer n) (sized size 32 WrongColumn)
 
 pub record Outcome : Type 0 where
   pub answer : Answer
@@ -22,4 +22,4 @@ pub record Outcome : Type 0 where
 unfoldable pub outcome : List ℕ → List ℕ → Outcome
 outcome message before =
     let a = answer (length message) (length before) in
-    record { answer = a; parity = cond (isDone a) (parity 32 message) before }
+    record { answer = a; parity = cond (is_done a) (parity 32 message) before }

@@ -1,8 +1,10 @@
 // Document 02, W-207: the parity of a column with 1 to 223 data bytes, its message.
+#![tactic(auto)]
+
 ghost use Rattle.std.specs.Prelude.{◌≡◌, length};
 ghost use Rattle.answer.specs.Answer.{number_of};
 ghost use Rattle.column.specs.Column as column;
-ghost use Rattle.column_parity.specs.Outcome.{dataAnswer, outcome};
+ghost use Rattle.column_parity.specs.Outcome.{data_answer, outcome};
 ghost use Rattle.column_parity.specs.Promise.{CompletesExactly};
 
 use answer::Answer;
@@ -14,7 +16,7 @@ const PARITY: usize = 32;
 
 // Whether a column may have so many data bytes.
 fn judge(n: usize) -> Answer
-    ensures { result ≡ dataAnswer n }
+    ensures { result ≡ data_answer n }
 {
     if n == 0 {
         return Answer::WrongColumn;

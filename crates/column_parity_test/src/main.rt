@@ -1,6 +1,8 @@
 // Document 02, W-207. Standard input has the first 255 bytes of a cluster's user data. Prints n and the parity of the first n of them, for n from 1 to
 // 223, as an independent program printed it; then lengths of data and of the parity slice that are refused, the answer, and in how many places the
 // bytes lent were changed.
+#![tactic(auto)]
+
 use test_support::{compare, lines};
 
 fn vector(bytes: &[u8], n: usize) {

@@ -1,13 +1,15 @@
 // Columns of clusters that an independent program encoded, from standard input: three LDC columns, the first of them again with one root
 // taken from it, two BIS columns and four primary address fields, each with its parity. Prints the parity of what stands before it,
 // whether the column has its roots, and how many changes of one byte go unseen; of 32 roots also by the lent table of remainders.
+#![tactic(auto)]
+
 ghost use Rattle.std.specs.Prelude.{◌<◌, ◌≤◌};
 ghost use Rattle.remainders.specs.steps.Remainders.{AreRemainders};
 
 use remainders::Remainders;
 use test_support::{compare, lines};
 
-#[derive(Drop)]
+#[derive(Clone, Copy)]
 struct Column {
     bytes: [u8; 248],
     size: usize,

@@ -1,7 +1,7 @@
 // The first byte that differs, and the verdict.
 ghost use Rattle.std.specs.Prelude.{◌≡◌, ◌≤◌, length};
-ghost use Rattle.comparison.specs.Compared.{firstOther, compared};
-ghost use Rattle.sizes.specs.Sizes.{sideSize, userSize};
+ghost use Rattle.comparison.specs.Compared.{first_other, compared};
+ghost use Rattle.sizes.specs.Sizes.{side_size, user_size};
 
 use address::Psn;
 use verdict::Verdict;
@@ -9,7 +9,7 @@ use verdict::Verdict;
 // The first of n bytes that differs, or n.
 fn first_other(n: usize, a: &[u8], b: &[u8]) -> usize
     requires { (n ≤ length a.now) × (n ≤ length b.now) }
-    ensures { result ≡ firstOther n a.now b.now }
+    ensures { result ≡ first_other n a.now b.now }
 {
     let mut k = 0;
     while k < n {
@@ -30,7 +30,7 @@ pub fn compare(
     bytes: &[u8],
     control: &[u8],
 ) -> Verdict
-    requires { ((userSize ≤ length user.now) × (sideSize ≤ length side.now)) × ((userSize ≤ length bytes.now) × (sideSize ≤ length control.now)) }
+    requires { ((user_size ≤ length user.now) × (side_size ≤ length side.now)) × ((user_size ≤ length bytes.now) × (side_size ≤ length control.now)) }
     ensures { result ≡ compared psn.0 user.now side.now found.0 bytes.now control.now }
 {
     if found.0 != psn.0 {

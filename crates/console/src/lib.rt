@@ -1,4 +1,6 @@
 // What the programs share: arguments, whole files, and texts printed.
+#![tactic(auto)]
+
 ghost use Rattle.io.specs.Counts.{IsPrefixLen};
 
 use texts::Text;

@@ -1,4 +1,5 @@
 // Files read and written by name, good ones and bad ones, and names compared. Complaints go to standard error.
+#![tactic(auto)]
 
 fn report(text: &[u8], good: bool) {
     io::write_all(1, text);

@@ -12,13 +12,13 @@ use Rattle.laws.proofs.First.{first-at}
 use Rattle.bits.specs.Bits.{number}
 use Rattle.bits.proofs.Number.{number_lt}
 use Rattle.bits.proofs.Concat.{number_append}
-use Rattle.modulation.specs.Modulation.{Two, Row, row_at, fits, terminates, Modulated, modulateFrom, modulate}
+use Rattle.modulation.specs.Modulation.{Two, Row, row_at, fits, terminates, Modulated, modulate_from, modulate}
 use Rattle.modulation.specs.Bits.{bits}
 use Rattle.modulation.proofs.Bits.{bits-append, length-bits}
 use Rattle.modulation.proofs.Fronts.{bits-groups}
 use Rattle.modulation.proofs.Size.{size}
-use Rattle.modulation.proofs.Words.{Word, word_at, modulate-none, nextBit, inFront}
-use Rattle.conversion.specs.steps.Few.{fewPairs, fittingRow, Fitting, BitsGiven}
+use Rattle.modulation.proofs.Words.{Word, word_at, modulate-none, next_bit, in_front}
+use Rattle.conversion.specs.steps.Few.{few_pairs, fitting_row, Fitting, BitsGiven}
 use Rattle.conversion.specs.steps.Rows.{Sized}
 use Rattle.conversion.proofs.FewPairs.{few-size, few-rest}
 
@@ -28,19 +28,19 @@ use Rattle.conversion.proofs.FewPairs.{few-size, few-rest}
 record WordAt (b : Bool) (ds : List Two) (k : ℕ) : Type 0 where
   below : k < 16
   within : length (row_at k).pairs ≤ length ds
-  gives : modulate b ds ≡ inFront (row_at k) (modulate (nextBit (row_at k)) (drop (length (row_at k).pairs) ds))
+  gives : modulate b ds ≡ in_front (row_at k) (modulate (next_bit (row_at k)) (drop (length (row_at k).pairs) ds))
 
-word-found : (b : Bool) (ds : List Two) (k : ℕ) → 0 < length ds → k ≡ fittingRow b ds → WordAt b ds k
+word-found : (b : Bool) (ds : List Two) (k : ℕ) → 0 < length ds → k ≡ fitting_row b ds → WordAt b ds k
 word-found b [] k h e = absurd (not-suc-le-zero h)
 word-found b (d ∷ ds) k h e = subst (WordAt b (d ∷ ds)) (sym (e ∙ first-is)) word-is
   where
     f : Word b (d ∷ ds)
     f = word_at b d ds
 
-    first-is : fittingRow b (d ∷ ds) ≡ f.first.index
+    first-is : fitting_row b (d ∷ ds) ≡ f.first.index
     first-is =
-        first-at 16 (λ k. fits (row_at k) b (d ∷ ds) (modulateFrom ds)) f.first.index f.first.below (record { fails = f.first.earlier })
-        (ap (λ (r : Row). fits r b (d ∷ ds) (modulateFrom ds)) f.first.is ∙ f.first.passed)
+        first-at 16 (λ k. fits (row_at k) b (d ∷ ds) (modulate_from ds)) f.first.index f.first.below (record { fails = f.first.earlier })
+        (ap (λ (r : Row). fits r b (d ∷ ds) (modulate_from ds)) f.first.is ∙ f.first.passed)
 
     rest-is : f.rest ≡ drop (length f.row.pairs) (d ∷ ds)
     rest-is = sym (ap (drop (length f.row.pairs)) f.split ∙ drop-append_seam f.row.pairs f.rest)
@@ -52,24 +52,24 @@ word-found b (d ∷ ds) k h e = subst (WordAt b (d ∷ ds)) (sym (e ∙ first-is
           within = omega (arith, ap length f.split, length-append f.row.pairs f.rest, ap (λ (r : Row). length r.pairs) f.first.is);
           gives =
               f.gives
-              ∙ ap (λ (l : List Two). inFront f.row (modulate (nextBit f.row) l)) rest-is
-              ∙ ap (λ (r : Row). inFront r (modulate (nextBit r) (drop (length r.pairs) (d ∷ ds)))) (sym f.first.is);
+              ∙ ap (λ (l : List Two). in_front f.row (modulate (next_bit f.row) l)) rest-is
+              ∙ ap (λ (r : Row). in_front r (modulate (next_bit r) (drop (length r.pairs) (d ∷ ds)))) (sym f.first.is);
         }
 
-pub fitting : {before : Bool} {n p k : ℕ} → 0 < n → k ≡ fittingRow before (fewPairs n p) → Fitting before n p k
+pub fitting : {before : Bool} {n p k : ℕ} → 0 < n → k ≡ fitting_row before (few_pairs n p) → Fitting before n p k
 fitting {before} {n} {p} {k} h e =
-    let f = word-found before (fewPairs n p) k (omega (arith, few-size n p)) e in
+    let f = word-found before (few_pairs n p) k (omega (arith, few-size n p)) e in
     record { first-is = e; below = f.below; within = omega (arith, f.within, few-size n p) }
 
 -- the first word and what follows it
-word-step : {b b' : Bool} {n p k len : ℕ} → 0 < n → p < 2 ^ (2 * n) → Fitting b n p k → Sized k len → b' ≡ nextBit (row_at k)
-    → modulate b (fewPairs n p) ≡ inFront (row_at k) (modulate b' (fewPairs (n - len) (p % 2 ^ (2 * (n - len)))))
+word-step : {b b' : Bool} {n p k len : ℕ} → 0 < n → p < 2 ^ (2 * n) → Fitting b n p k → Sized k len → b' ≡ next_bit (row_at k)
+    → modulate b (few_pairs n p) ≡ in_front (row_at k) (modulate b' (few_pairs (n - len) (p % 2 ^ (2 * (n - len)))))
 word-step {b} {b'} {n} {p} {k} {len} h small fit sized eb =
-    (word-found b (fewPairs n p) k (omega (arith, few-size n p)) fit.first-is).gives
-    ∙ ap (inFront (row_at k)) (ap₂ modulate (sym eb) (ap (λ (j : ℕ). drop j (fewPairs n p)) (sym sized.pairs-are) ∙ sym (few-rest n p small len)))
+    (word-found b (few_pairs n p) k (omega (arith, few-size n p)) fit.first-is).gives
+    ∙ ap (in_front (row_at k)) (ap₂ modulate (sym eb) (ap (λ (j : ℕ). drop j (few_pairs n p)) (sym sized.pairs-are) ∙ sym (few-rest n p small len)))
 
 -- whether some word is a terminating one, from those passed, the next one and the rest
-ends-step : (k : ℕ) (t : Bool) {t' m : Bool} (f rest : Modulated) → f ≡ inFront (row_at k) rest → t' ≡ (t || terminates (row_at k).when) → (t || f.terminated) ≡ m
+ends-step : (k : ℕ) (t : Bool) {t' m : Bool} (f rest : Modulated) → f ≡ in_front (row_at k) rest → t' ≡ (t || terminates (row_at k).when) → (t || f.terminated) ≡ m
     → (t' || rest.terminated) ≡ m
 ends-step k t f rest e et em =
     ap (λ (z : Bool). z || rest.terminated) et ∙ or_assoc t (terminates (row_at k).when) rest.terminated ∙ ap (λ (g : Modulated). t || g.terminated) (sym e) ∙ em
@@ -99,13 +99,13 @@ behind-none v = omega arith
 pub record Modulating (before : Bool) (n p value : ℕ) (t b : Bool) (left rest : ℕ) : Type 0 where
   pub within : left ≤ n
   pub small : rest < 2 ^ (2 * left)
-  pub value-is : behind value (bits (modulate b (fewPairs left rest)).groups) ≡ number (bits (modulate before (fewPairs n p)).groups)
-  pub ends : (t || (modulate b (fewPairs left rest)).terminated) ≡ (modulate before (fewPairs n p)).terminated
+  pub value-is : behind value (bits (modulate b (few_pairs left rest)).groups) ≡ number (bits (modulate before (few_pairs n p)).groups)
+  pub ends : (t || (modulate b (few_pairs left rest)).terminated) ≡ (modulate before (few_pairs n p)).terminated
 
-whole-lt : (before : Bool) (n p : ℕ) → n ≤ 6 → number (bits (modulate before (fewPairs n p)).groups) < 262144
+whole-lt : (before : Bool) (n p : ℕ) → n ≤ 6 → number (bits (modulate before (few_pairs n p)).groups) < 262144
 whole-lt before n p h =
-    let g = (modulate before (fewPairs n p)).groups in
-    let long : length (bits g) ≡ 3 * n = length-bits g ∙ ap (λ (k : ℕ). 3 * k) (size before (fewPairs n p) ∙ few-size n p) in
+    let g = (modulate before (few_pairs n p)).groups in
+    let long : length (bits g) ≡ 3 * n = length-bits g ∙ ap (λ (k : ℕ). 3 * k) (size before (few_pairs n p) ∙ few-size n p) in
     omega (arith, number_lt (bits g) (bits-groups g), pow_mono {i = length (bits g)} {j = 18} (omega arith))
 
 module _ {before : Bool} {n p : ℕ} where
@@ -114,15 +114,15 @@ module _ {before : Bool} {n p : ℕ} where
 
   module _ {value : ℕ} {t b : Bool} {left rest : ℕ} (m : Modulating before n p value t b left rest) where
     pub modulating-small : n ≤ 6 → value < 262144
-    modulating-small h = omega (arith, behind-le value (bits (modulate b (fewPairs left rest)).groups), m.value-is, whole-lt before n p h)
+    modulating-small h = omega (arith, behind-le value (bits (modulate b (few_pairs left rest)).groups), m.value-is, whole-lt before n p h)
 
     pub modulating-more : {k len value' rest' : ℕ} {t' b' : Bool} → 0 < left → Fitting b left rest k
-        → value' ≡ value * 2 ^ length (bits (row_at k).groups) + number (bits (row_at k).groups) → t' ≡ (t || terminates (row_at k).when) → b' ≡ nextBit (row_at k)
+        → value' ≡ value * 2 ^ length (bits (row_at k).groups) + number (bits (row_at k).groups) → t' ≡ (t || terminates (row_at k).when) → b' ≡ next_bit (row_at k)
         → Sized k len → rest' ≡ rest % 2 ^ (2 * (left - len)) → Modulating before n p value' t' b' (left - len) rest'
     modulating-more {k} {len} {value'} {rest'} {t'} {b'} h fit ev et eb sized er =
-        let f = modulate b' (fewPairs (left - len) rest') in
-        let step : modulate b (fewPairs left rest) ≡ inFront (row_at k) f =
-        word-step h m.small fit sized eb ∙ ap (λ (x : ℕ). inFront (row_at k) (modulate b' (fewPairs (left - len) x))) (sym er) in
+        let f = modulate b' (few_pairs (left - len) rest') in
+        let step : modulate b (few_pairs left rest) ≡ in_front (row_at k) f =
+        word-step h m.small fit sized eb ∙ ap (λ (x : ℕ). in_front (row_at k) (modulate b' (few_pairs (left - len) x))) (sym er) in
         record {
           within = omega (arith, m.within);
           small = rw er (mod-lt rest (pow_pos (2 * (left - len))));
@@ -132,10 +132,10 @@ module _ {before : Bool} {n p : ℕ} where
               ∙ ap (behind value) (sym (bits-append (row_at k).groups f.groups))
               ∙ ap (λ (g : Modulated). behind value (bits g.groups)) (sym step)
               ∙ m.value-is;
-          ends = ends-step k t (modulate b (fewPairs left rest)) f step et m.ends;
+          ends = ends-step k t (modulate b (few_pairs left rest)) f step et m.ends;
         }
 
-    pub modulating-all : n ≤ 6 → left ≤ 0 → BitsGiven (modulate before (fewPairs n p)) value t
+    pub modulating-all : n ≤ 6 → left ≤ 0 → BitsGiven (modulate before (few_pairs n p)) value t
     modulating-all h end =
         let over = no_words b left rest end in
         record {
@@ -148,5 +148,5 @@ module _ {before : Bool} {n p : ℕ} where
         no_pairs [] h = refl
         no_pairs (d ∷ ds) h = absurd (not-suc-le-zero h)
 
-        no_words : (b : Bool) (left rest : ℕ) → left ≤ 0 → modulate b (fewPairs left rest) ≡ record { groups = []; terminated = false }
-        no_words b left rest h = ap (modulate b) (no_pairs (fewPairs left rest) (omega (arith, few-size left rest))) ∙ modulate-none b
+        no_words : (b : Bool) (left rest : ℕ) → left ≤ 0 → modulate b (few_pairs left rest) ≡ record { groups = []; terminated = false }
+        no_words b left rest h = ap (modulate b) (no_pairs (few_pairs left rest) (omega (arith, few-size left rest))) ∙ modulate-none b

@@ -1,8 +1,9 @@
 // Data bits to modulation bits by the rows of Figure 38 (13.17.2), a few pairs at a time: types and definitions. `conversion_rows` has the rows, `few_pairs` the
 // conversion.
+#![tactic(auto)]
 
 // When a row may be taken.
-#[derive(Drop)]
+#[derive(Clone, Copy)]
 pub enum When {
     Always,
     AfterOne,
@@ -12,14 +13,14 @@ pub enum When {
 }
 
 // A row of Figure 38: how many pairs it has, its data bits, its modulation bits, and when it may be taken.
-#[derive(Drop)]
+#[derive(Clone, Copy)]
 pub struct Row(pub usize, pub u8, pub u16, pub When);
 
 // The rows, a number each. Reading a constant copies it, so the rows are packed once and lent.
 pub type PackedRows = [u32; 16];
 
 // What a few pairs give: their modulation bits as a number, and whether a terminating row ended them.
-#[derive(Drop)]
+#[derive(Clone, Copy)]
 pub struct Few {
     pub value: u32,
     pub terminated: bool,

@@ -1,9 +1,9 @@
 // The rows, packed to numbers that are lent.
 ghost use Rattle.std.specs.Prelude.{false, ◌≡◌, ◌+◌, ◌*◌, ◌^◌, ◌<◌, length};
 ghost use Rattle.bits.specs.Bits.{number};
-ghost use Rattle.modulation.specs.Modulation.{row_at, startsWith010, lastBit, terminates};
+ghost use Rattle.modulation.specs.Modulation.{row_at, starts_with010, last_bit, terminates};
 ghost use Rattle.modulation.specs.Bits.{bits};
-ghost use Rattle.conversion.specs.steps.Rows.{coded, whenNumber, whenAt, packedRow, packedRows, IsRow, Sized};
+ghost use Rattle.conversion.specs.steps.Rows.{coded, when_number, when_at, packed_row, packed_rows, IsRow, Sized};
 
 use conversion::{PackedRows, Row, When};
 
@@ -36,7 +36,7 @@ fn table_row(k: usize) -> Row
 }
 
 fn when_number(when: When) -> u32
-    ensures { (result ≡ whenNumber when) × (result < 5) }
+    ensures { (result ≡ when_number when) × (result < 5) }
 {
     match when {
         When::Always => 0,
@@ -48,7 +48,7 @@ fn when_number(when: When) -> u32
 }
 
 fn when_at(number: u32) -> When
-    ensures { result ≡ whenAt number }
+    ensures { result ≡ when_at number }
 {
     match number {
         0 => When::Always,
@@ -62,7 +62,7 @@ fn when_at(number: u32) -> When
 // Row k as a number: how many pairs it has, three bits for its condition, eight for its data bits, twelve for its modulation bits.
 fn packed_row(k: usize) -> u32
     requires { k < 16 }
-    ensures { result ≡ packedRow (coded (row_at k)) }
+    ensures { result ≡ packed_row (coded (row_at k)) }
 {
     let r = table_row(k);
     let when = r.3;
@@ -72,7 +72,7 @@ fn packed_row(k: usize) -> u32
 
 // The rows to lend.
 pub fn packed_rows() -> PackedRows
-    ensures { result ≡ packedRows }
+    ensures { result ≡ packed_rows }
 {
     let mut rows = [0u32; 16];
     let mut k = 0;
@@ -85,7 +85,7 @@ pub fn packed_rows() -> PackedRows
 
 // Row k.
 pub fn row_at(rows: &PackedRows, k: usize) -> Row
-    requires { (rows.now ≡ packedRows) × (k < 16) }
+    requires { (rows.now ≡ packed_rows) × (k < 16) }
     ensures { IsRow k result }
 {
     let row = rows[k];
@@ -100,7 +100,7 @@ pub fn row_at(rows: &PackedRows, k: usize) -> Row
 
 // How many pairs row k has.
 pub fn row_len(rows: &PackedRows, k: usize) -> usize
-    requires { (rows.now ≡ packedRows) × (k < 16) }
+    requires { (rows.now ≡ packed_rows) × (k < 16) }
     ensures { Sized k result }
 {
     let r = row_at(rows, k);
@@ -109,8 +109,8 @@ pub fn row_len(rows: &PackedRows, k: usize) -> usize
 
 // Whether the modulation bits of row k start with 010.
 pub fn leads_010(rows: &PackedRows, k: usize) -> bool
-    requires { (rows.now ≡ packedRows) × (k < 16) }
-    ensures { result ≡ startsWith010 (row_at k).groups }
+    requires { (rows.now ≡ packed_rows) × (k < 16) }
+    ensures { result ≡ starts_with010 (row_at k).groups }
 {
     let r = row_at(rows, k);
     r.2 >> (3 * (r.0 - 1)) == 0b010
@@ -118,8 +118,8 @@ pub fn leads_010(rows: &PackedRows, k: usize) -> bool
 
 // Whether the last modulation bit of row k is a ONE.
 pub fn ends_in_one(rows: &PackedRows, k: usize) -> bool
-    requires { (rows.now ≡ packedRows) × (k < 16) }
-    ensures { result ≡ lastBit false (row_at k).groups }
+    requires { (rows.now ≡ packed_rows) × (k < 16) }
+    ensures { result ≡ last_bit false (row_at k).groups }
 {
     let r = row_at(rows, k);
     r.2 % 2 == 1
@@ -127,7 +127,7 @@ pub fn ends_in_one(rows: &PackedRows, k: usize) -> bool
 
 // Whether row k is a terminating one.
 pub fn is_terminating(rows: &PackedRows, k: usize) -> bool
-    requires { (rows.now ≡ packedRows) × (k < 16) }
+    requires { (rows.now ≡ packed_rows) × (k < 16) }
     ensures { result ≡ terminates (row_at k).when }
 {
     let r = row_at(rows, k);
@@ -143,7 +143,7 @@ pub fn is_terminating(rows: &PackedRows, k: usize) -> bool
 
 // The modulation bits of row k behind those of a value.
 pub fn followed(rows: &PackedRows, value: u32, k: usize) -> u32
-    requires { (rows.now ≡ packedRows) × ((k < 16) × (value < 262144)) }
+    requires { (rows.now ≡ packed_rows) × ((k < 16) × (value < 262144)) }
     ensures { result ≡ value * 2 ^ length (bits (row_at k).groups) + number (bits (row_at k).groups) }
 {
     let r = row_at(rows, k);

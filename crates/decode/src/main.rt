@@ -1,4 +1,6 @@
 // decode IMAGE USER SIDE DC: reads an image strictly, and writes what it was made of to files.
+#![tactic(auto)]
+
 use texts::Text;
 
 // The image is none of the files that are written, and these are three.

@@ -1,6 +1,8 @@
 // What decode does between its files, on slices.
+#![tactic(auto)]
+
 ghost use Rattle.std.specs.Prelude.{◌≡◌};
-ghost use Rattle.decoding.specs.Decoded.{SaidOf, decodedWords, decoded};
+ghost use Rattle.decoding.specs.Decoded.{SaidOf, decoded_words, decoded};
 
 use address::Psn;
 use answer::Answer;
@@ -32,7 +34,7 @@ fn decode_words(
     dc: &mut [u8],
 ) -> Said
     ensures { record { keep = result.keep; text = result.text; user = user.new; side = side.new; dc = dc.new }
-        ≡ decodedWords image.now user.old side.old words.old dc.old }
+        ≡ decoded_words image.now user.old side.old words.old dc.old }
 {
     let mut work = buffers::work_bytes();
     let read = reader::read_image(image, user, side, words, &mut work);

@@ -10,12 +10,12 @@ use lib.Seq.{ext_get_or, get_or-set_same, get_or-set_other}
 use Rattle.laws.proofs.Tabulate.{length-tabulate, get_d_tabulate}
 use Rattle.bits.specs.Bits.{number}
 use Rattle.bits.proofs.Number.{below-block, number_bit}
-use Rattle.modulation.specs.Modulation.{Two, twoNumber}
-use Rattle.modulation.specs.Bits.{dataBits}
-use Rattle.modulation.proofs.Bits.{length-dataBits}
-use Rattle.modulation.proofs.Fronts.{bits-dataBits}
+use Rattle.modulation.specs.Modulation.{Two, two_number}
+use Rattle.modulation.specs.Bits.{data_bits}
+use Rattle.modulation.proofs.Bits.{length-data_bits}
+use Rattle.modulation.proofs.Fronts.{bits-data_bits}
 use Rattle.automaton.specs.Automaton.{onto}
-use Rattle.modulation.specs.steps.Words.{bitsIn}
+use Rattle.modulation.specs.steps.Words.{bits_in}
 use Rattle.automaton.proofs.Sound.{plain, onto-shift}
 
 -- ---- the first n words as a number
@@ -80,23 +80,23 @@ module _ (ws : List ℕ) (h : (i : ℕ) → get_or ws i 0 < 70368744177664) wher
 
 -- ---- the number of data bits
 
-weight : (ds : List Two) → 2 ^ length (dataBits ds) ≡ 4 ^ length ds
+weight : (ds : List Two) → 2 ^ length (data_bits ds) ≡ 4 ^ length ds
 weight [] = refl
-weight (d ∷ ds) = twice (length (dataBits ds)) ∙ ap (λ (x : ℕ). x * 4) (weight ds) ∙ sym (pow-suc 4 (length ds))
+weight (d ∷ ds) = twice (length (data_bits ds)) ∙ ap (λ (x : ℕ). x * 4) (weight ds) ∙ sym (pow-suc 4 (length ds))
   where
     twice : (n : ℕ) → 2 ^ suc (suc n) ≡ 2 ^ n * 4
     twice n = pow-suc 2 (suc n) ∙ ap (λ (x : ℕ). x * 2) (pow-suc 2 n) ∙ mul_assoc (2 ^ n) 2 2
 
-pub number-bits : (ds : List Two) → number (dataBits ds) ≡ onto 0 ds
+pub number-bits : (ds : List Two) → number (data_bits ds) ≡ onto 0 ds
 unfolding number onto
 number-bits [] = refl
 number-bits (d ∷ ds) =
-    let p : ℕ = 2 ^ length (dataBits ds) in
-    ap (λ (x : ℕ). twoNumber d / 2 * x + (twoNumber d % 2 * p + number (dataBits ds))) (pow-suc 2 (length (dataBits ds)))
-    ∙ halves (twoNumber d) p (number (dataBits ds))
-    ∙ ap₂ (λ (x y : ℕ). twoNumber d * x + y) (weight ds) (number-bits ds)
-    ∙ ap (λ (x : ℕ). x * 4 ^ length ds + onto 0 ds) (sym (plain (twoNumber d)))
-    ∙ sym (onto-shift (4 * 0 + twoNumber d) ds)
+    let p : ℕ = 2 ^ length (data_bits ds) in
+    ap (λ (x : ℕ). two_number d / 2 * x + (two_number d % 2 * p + number (data_bits ds))) (pow-suc 2 (length (data_bits ds)))
+    ∙ halves (two_number d) p (number (data_bits ds))
+    ∙ ap₂ (λ (x y : ℕ). two_number d * x + y) (weight ds) (number-bits ds)
+    ∙ ap (λ (x : ℕ). x * 4 ^ length ds + onto 0 ds) (sym (plain (two_number d)))
+    ∙ sym (onto-shift (4 * 0 + two_number d) ds)
   where
     halves : (d p r : ℕ) → d / 2 * (p * 2) + (d % 2 * p + r) ≡ d * p + r
     halves d p r =
@@ -106,19 +106,19 @@ number-bits (d ∷ ds) =
         omega (arith, one, three)
 
 -- the words of a number hold its data bits
-pub words-bits : (ws : List ℕ) (ds : List Two) → ((i : ℕ) → get_or ws i 0 < 70368744177664) → length ds ≡ 634 → onto 0 ds ≡ joined ws 28 → dataBits ds ≡ bitsIn ws
-unfolding bitsIn
-words-bits ws ds h size e = ext_get_or 0 (dataBits ds) (bitsIn ws) (long ∙ sym (length-tabulate 1268 f)) (λ j l. at j (omega (arith, long)))
+pub words-bits : (ws : List ℕ) (ds : List Two) → ((i : ℕ) → get_or ws i 0 < 70368744177664) → length ds ≡ 634 → onto 0 ds ≡ joined ws 28 → data_bits ds ≡ bits_in ws
+unfolding bits_in
+words-bits ws ds h size e = ext_get_or 0 (data_bits ds) (bits_in ws) (long ∙ sym (length-tabulate 1268 f)) (λ j l. at j (omega (arith, long)))
   where
     f : ℕ → ℕ
     f j = get_or ws ((j + 20) / 46) 0 / 2 ^ (45 - (j + 20) % 46) % 2
 
-    long : length (dataBits ds) ≡ 1268
-    long = omega (arith, length-dataBits ds)
+    long : length (data_bits ds) ≡ 1268
+    long = omega (arith, length-data_bits ds)
 
-    at : (j : ℕ) → j < 1268 → get_or (dataBits ds) j 0 ≡ get_or (bitsIn ws) j 0
+    at : (j : ℕ) → j < 1268 → get_or (data_bits ds) j 0 ≡ get_or (bits_in ws) j 0
     at j l =
-        sym (number_bit (dataBits ds) j (bits-dataBits ds) (omega (arith, long)))
+        sym (number_bit (data_bits ds) j (bits-data_bits ds) (omega (arith, long)))
         ∙ ap₂ (λ (x y : ℕ). x / 2 ^ (y - 1 - j) % 2) (number-bits ds ∙ e) long
         ∙ joined-bit ws h j l
         ∙ sym (get_d_tabulate 1268 f j 0 l)

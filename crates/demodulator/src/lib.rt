@@ -1,8 +1,10 @@
 // The 17PP demodulator (13.17.2): strict, by the automaton. `steps` reads frames, for the crates of this repository.
+#![tactic(auto)]
+
 pub mod steps;
 
 // Which of two frames were found.
-#[derive(Drop)]
+#[derive(Clone, Copy)]
 pub struct Found {
     pub first: bool,
     pub second: bool,

@@ -6,37 +6,37 @@ use native.Mathlib.Omega.{arith}
 use lib.Dec.{eqb, eqb→eq}
 use lib.ListN.{get_or}
 use Rattle.laws.proofs.Finite.{all, all₂, all₃, all₃-at}
-use Rattle.bits.specs.Bits.{Bits, threeAt}
+use Rattle.bits.specs.Bits.{Bits, three_at}
 use Rattle.bits.specs.steps.LowBits.{LowBits}
 use Rattle.bits.proofs.Read.{eight-sum}
-use Rattle.modulation.specs.Modulation.{Three, threeNumber}
+use Rattle.modulation.specs.Modulation.{Three, three_number}
 use Rattle.modulation.specs.Bits.{three}
 use Rattle.modulation.proofs.Fronts.{three-injective}
-use Rattle.modulation.specs.steps.Groups.{groupsAt}
-use Rattle.automaton.specs.steps.Table.{groupNumbered, twoGroups, threeGroups}
+use Rattle.modulation.specs.steps.Groups.{groups_at}
+use Rattle.automaton.specs.steps.Table.{group_numbered, two_groups, three_groups}
 
 -- ---- groups by number
 
-group-three : (x y z : ℕ) → x < 2 → y < 2 → z < 2 → groupNumbered (4 * x + 2 * y + z) ≡ three x y z
+group-three : (x y z : ℕ) → x < 2 → y < 2 → z < 2 → group_numbered (4 * x + 2 * y + z) ≡ three x y z
 unfolding all all₂ all₃
 group-three x y z hx hy hz =
-    three-injective (groupNumbered (4 * x + 2 * y + z)) (three x y z)
-    (eqb→eq _ _ (all₃-at 2 2 2 (λ x y z. eqb (threeNumber (groupNumbered (4 * x + 2 * y + z))) (threeNumber (three x y z))) tt x y z hx hy hz))
+    three-injective (group_numbered (4 * x + 2 * y + z)) (three x y z)
+    (eqb→eq _ _ (all₃-at 2 2 2 (λ x y z. eqb (three_number (group_numbered (4 * x + 2 * y + z))) (three_number (three x y z))) tt x y z hx hy hz))
 
 module _ (b : List ℕ) (h : Bits b) where
-  group-here : (p g : ℕ) → g ≡ threeAt b p → groupNumbered g ≡ three (get_or b p 0) (get_or b (p + 1) 0) (get_or b (p + 2) 0)
-  group-here p g e = ap groupNumbered e ∙ group-three (get_or b p 0) (get_or b (p + 1) 0) (get_or b (p + 2) 0) (h p) (h (p + 1)) (h (p + 2))
+  group-here : (p g : ℕ) → g ≡ three_at b p → group_numbered g ≡ three (get_or b p 0) (get_or b (p + 1) 0) (get_or b (p + 2) 0)
+  group-here p g e = ap group_numbered e ∙ group-three (get_or b p 0) (get_or b (p + 1) 0) (get_or b (p + 2) 0) (h p) (h (p + 1)) (h (p + 2))
 
-  three-below-8 : (p : ℕ) → threeAt b p < 8
+  three-below-8 : (p : ℕ) → three_at b p < 8
   three-below-8 p = omega (arith, h p, h (p + 1), h (p + 2))
 
-  two-groups : (p v : ℕ) → v ≡ 8 * threeAt b p + threeAt b (p + 3) → twoGroups v ≡ groupsAt b p 2
-  unfolding groupsAt
+  two-groups : (p v : ℕ) → v ≡ 8 * three_at b p + three_at b (p + 3) → two_groups v ≡ groups_at b p 2
+  unfolding groups_at
   two-groups p v e =
       ap₂ (λ (x y : Three). x ∷ y ∷ []) (group-here p (v / 8) (omega (arith, three-below-8 (p + 3)))) (group-here (p + 3) (v % 8) (omega (arith, three-below-8 (p + 3))))
 
-  three-groups : (p v : ℕ) → v ≡ 64 * threeAt b p + 8 * threeAt b (p + 3) + threeAt b (p + 3 + 3) → threeGroups v ≡ groupsAt b p 3
-  unfolding groupsAt
+  three-groups : (p v : ℕ) → v ≡ 64 * three_at b p + 8 * three_at b (p + 3) + three_at b (p + 3 + 3) → three_groups v ≡ groups_at b p 3
+  unfolding groups_at
   three-groups p v e =
       let one = group-here p (v / 64) (omega (arith, three-below-8 (p + 3), three-below-8 (p + 3 + 3))) in
       let two = group-here (p + 3) (v / 8 % 8) (omega (arith, three-below-8 p, three-below-8 (p + 3), three-below-8 (p + 3 + 3))) in
@@ -70,7 +70,7 @@ module _ (b : List ℕ) (h : Bits b) (p v : ℕ) where
   on : (q r : ℕ) → q ≡ r → bit q ≡ bit r
   on q r e = ap bit e
 
-  pub six-groups : LowBits b p 6 v → twoGroups (v % 64) ≡ groupsAt b p 2
+  pub six-groups : LowBits b p 6 v → two_groups (v % 64) ≡ groups_at b p 2
   six-groups low =
       let e0 = low.each 0 (omega arith) ∙ on (p + 0) p (omega arith) in
       let e1 = low.each 1 (omega arith) in
@@ -78,11 +78,11 @@ module _ (b : List ℕ) (h : Bits b) (p v : ℕ) where
       let e3 = low.each 3 (omega arith) in
       let e4 = low.each 4 (omega arith) ∙ on (p + 4) (p + 3 + 1) (omega arith) in
       let e5 = whole v ∙ low.each 5 (omega arith) ∙ on (p + 5) (p + 3 + 2) (omega arith) in
-      let one : v / 8 % 8 ≡ threeAt b p = eight-high v ∙ λ i. 4 * e0 i + 2 * e1 i + e2 i in
-      let two : v % 8 ≡ threeAt b (p + 3) = eight-sum v ∙ λ i. 4 * e3 i + 2 * e4 i + e5 i in
+      let one : v / 8 % 8 ≡ three_at b p = eight-high v ∙ λ i. 4 * e0 i + 2 * e1 i + e2 i in
+      let two : v % 8 ≡ three_at b (p + 3) = eight-sum v ∙ λ i. 4 * e3 i + 2 * e4 i + e5 i in
       two-groups b h p (v % 64) (six-parts v ∙ ap₂ (λ (x y : ℕ). 8 * x + y) one two)
 
-  pub nine-groups : LowBits b p 9 v → threeGroups (v % 512) ≡ groupsAt b p 3
+  pub nine-groups : LowBits b p 9 v → three_groups (v % 512) ≡ groups_at b p 3
   nine-groups low =
       let e0 = low.each 0 (omega arith) ∙ on (p + 0) p (omega arith) in
       let e1 = low.each 1 (omega arith) in
@@ -93,23 +93,23 @@ module _ (b : List ℕ) (h : Bits b) (p v : ℕ) where
       let e6 = low.each 6 (omega arith) ∙ on (p + 6) (p + 3 + 3) (omega arith) in
       let e7 = low.each 7 (omega arith) ∙ on (p + 7) (p + 3 + 3 + 1) (omega arith) in
       let e8 = whole v ∙ low.each 8 (omega arith) ∙ on (p + 8) (p + 3 + 3 + 2) (omega arith) in
-      let one : v / 64 % 8 ≡ threeAt b p = eight-higher v ∙ λ i. 4 * e0 i + 2 * e1 i + e2 i in
-      let two : v / 8 % 8 ≡ threeAt b (p + 3) = eight-high v ∙ λ i. 4 * e3 i + 2 * e4 i + e5 i in
-      let three : v % 8 ≡ threeAt b (p + 3 + 3) = eight-sum v ∙ λ i. 4 * e6 i + 2 * e7 i + e8 i in
+      let one : v / 64 % 8 ≡ three_at b p = eight-higher v ∙ λ i. 4 * e0 i + 2 * e1 i + e2 i in
+      let two : v / 8 % 8 ≡ three_at b (p + 3) = eight-high v ∙ λ i. 4 * e3 i + 2 * e4 i + e5 i in
+      let three : v % 8 ≡ three_at b (p + 3 + 3) = eight-sum v ∙ λ i. 4 * e6 i + 2 * e7 i + e8 i in
       three-groups b h p (v % 512) (nine-parts v ∙ λ i. 64 * one i + 8 * two i + three i)
 
 -- ---- groups behind groups
 
-pub groups-append : (b : List ℕ) (p m n : ℕ) → groupsAt b p (m + n) ≡ groupsAt b p m ++ groupsAt b (p + 3 * m) n
-unfolding groupsAt
-groups-append b p zero n = ap₂ (groupsAt b) (here p) (none n)
+pub groups-append : (b : List ℕ) (p m n : ℕ) → groups_at b p (m + n) ≡ groups_at b p m ++ groups_at b (p + 3 * m) n
+unfolding groups_at
+groups-append b p zero n = ap₂ (groups_at b) (here p) (none n)
   where
     here : (p : ℕ) → p ≡ p + 3 * 0
     here p = omega arith
 
     none : (n : ℕ) → 0 + n ≡ n
     none n = omega arith
-groups-append b p (suc m) n = ap (groupsAt b p) (one m n) ∙ ap (λ (gs : List Three). three (get_or b p 0) (get_or b (p + 1) 0) (get_or b (p + 2) 0) ∷ gs) (groups-append b (p + 3) m n ∙ ap (λ (q : ℕ). groupsAt b (p + 3) m ++ groupsAt b q n) (on p m))
+groups-append b p (suc m) n = ap (groups_at b p) (one m n) ∙ ap (λ (gs : List Three). three (get_or b p 0) (get_or b (p + 1) 0) (get_or b (p + 2) 0) ∷ gs) (groups-append b (p + 3) m n ∙ ap (λ (q : ℕ). groups_at b (p + 3) m ++ groups_at b q n) (on p m))
   where
     one : (m n : ℕ) → suc m + n ≡ suc (m + n)
     one m n = omega arith

@@ -1,9 +1,9 @@
 // The groups at a bit, three a step.
 ghost use Rattle.std.specs.Prelude.{◌≡◌, ◌+◌, ◌*◌, ◌<◌};
 ghost use Rattle.bits.specs.Bits.{bits_of};
-ghost use Rattle.modulation.specs.steps.Groups.{Inside, groupsAt};
+ghost use Rattle.modulation.specs.steps.Groups.{Inside, groups_at};
 ghost use Rattle.automaton.specs.Automaton.{start};
-ghost use Rattle.automaton.specs.steps.Table.{twoGroups, threeGroups, table, After};
+ghost use Rattle.automaton.specs.steps.Table.{two_groups, three_groups, table, After};
 
 use automaton::Table;
 use demodulator_table::steps::{flag, three_on, two_on};
@@ -11,7 +11,7 @@ use demodulator_table::steps::{flag, three_on, two_on};
 // The two groups at bit `at`.
 fn six(bytes: &[u8], at: usize) -> usize
     requires { Inside bytes.now at 2 }
-    ensures { (twoGroups result ≡ groupsAt (bits_of bytes.now) at 2) × (result < 64) }
+    ensures { (two_groups result ≡ groups_at (bits_of bytes.now) at 2) × (result < 64) }
 {
     (bits::steps::low_bits(bytes, at, 6) % 64) as usize
 }
@@ -19,7 +19,7 @@ fn six(bytes: &[u8], at: usize) -> usize
 // The three groups at bit `at`.
 fn nine(bytes: &[u8], at: usize) -> usize
     requires { Inside bytes.now at 3 }
-    ensures { (threeGroups result ≡ groupsAt (bits_of bytes.now) at 3) × (result < 512) }
+    ensures { (three_groups result ≡ groups_at (bits_of bytes.now) at 3) × (result < 512) }
 {
     (bits::steps::low_bits(bytes, at, 9) % 512) as usize
 }
@@ -27,7 +27,7 @@ fn nine(bytes: &[u8], at: usize) -> usize
 // The groups at bit `at`, three a turn.
 fn run(made: &Table, bytes: &[u8], at: usize, s: u64, turns: usize) -> u64
     requires { (made.now ≡ table) × ((s < 18) × ((turns < 8) × Inside bytes.now at (3 * turns))) }
-    ensures { After (groupsAt (bits_of bytes.now) at (3 * turns)) s result }
+    ensures { After (groups_at (bits_of bytes.now) at (3 * turns)) s result }
 {
     let mut x = s;
     let mut k = 0;
@@ -41,7 +41,7 @@ fn run(made: &Table, bytes: &[u8], at: usize, s: u64, turns: usize) -> u64
 // 23 groups: 46 data bits.
 pub fn segment(made: &Table, bytes: &[u8], at: usize, s: u64) -> u64
     requires { (made.now ≡ table) × ((s < 18) × Inside bytes.now at 23) }
-    ensures { After (groupsAt (bits_of bytes.now) at 23) s result }
+    ensures { After (groups_at (bits_of bytes.now) at 23) s result }
 {
     let x = run(made, bytes, at, s, 7);
     two_on(made, x, six(bytes, at + 63))
@@ -50,7 +50,7 @@ pub fn segment(made: &Table, bytes: &[u8], at: usize, s: u64) -> u64
 // The frame's first 13 groups: 26 data bits.
 pub fn begin(made: &Table, bytes: &[u8], at: usize, before: bool) -> u64
     requires { (made.now ≡ table) × Inside bytes.now at 13 }
-    ensures { After (groupsAt (bits_of bytes.now) at 13) (start before) result }
+    ensures { After (groups_at (bits_of bytes.now) at 13) (start before) result }
 {
     let x = run(made, bytes, at, flag(before), 3);
     let y = two_on(made, x, six(bytes, at + 27));

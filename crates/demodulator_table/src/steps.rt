@@ -1,7 +1,7 @@
 // The table, entry by entry, and its steps.
 ghost use Rattle.std.specs.Prelude.{cond, ◌≡◌, ◌%◌, ◌<◌, ◌≤◌, length};
 ghost use Rattle.automaton.specs.Automaton.{transitions, ending};
-ghost use Rattle.automaton.specs.steps.Table.{twoGroups, threeGroups, more, tableEntry, table, Twos, After};
+ghost use Rattle.automaton.specs.steps.Table.{two_groups, three_groups, more, table_entry, table, Twos, After};
 
 use automaton::Table;
 
@@ -16,7 +16,7 @@ fn one_more(ones: &[u16; 144], a: u16, g: usize) -> u16
 // Entry k of the table, for two groups.
 fn two_at(ones: &[u16; 144], k: usize) -> u16
     requires { (ones.now ≡ transitions) × (k < 1152) }
-    ensures { result ≡ tableEntry k }
+    ensures { result ≡ table_entry k }
 {
     let a = one_more(ones, (k % 18) as u16, k / 144);
     one_more(ones, a, k / 18 % 8)
@@ -25,7 +25,7 @@ fn two_at(ones: &[u16; 144], k: usize) -> u16
 // Entry k of the table, for three groups: one more than the two of an entry that is made.
 fn three_at(ones: &[u16; 144], made: &Table, k: usize) -> u16
     requires { (ones.now ≡ transitions) × (Twos made.now × ((1152 ≤ k) × (k < 10368))) }
-    ensures { result ≡ tableEntry k }
+    ensures { result ≡ table_entry k }
 {
     let j = k - 1152;
     let a = made[j / 144 * 18 + j % 18];
@@ -75,7 +75,7 @@ fn wide(a: u16) -> u64
 // Three groups v more.
 pub fn three_on(made: &Table, x: u64, v: usize) -> u64
     requires { (made.now ≡ table) × ((v < 512) × ((x % 32 < 18) × (x < 9007199254740992))) }
-    ensures { After (threeGroups v) x result }
+    ensures { After (three_groups v) x result }
 {
     x / 32 * 2048 + wide(made[1152 + 18 * v + (x % 32) as usize])
 }
@@ -83,7 +83,7 @@ pub fn three_on(made: &Table, x: u64, v: usize) -> u64
 // Two groups v more.
 pub fn two_on(made: &Table, x: u64, v: usize) -> u64
     requires { (made.now ≡ table) × ((v < 64) × ((x % 32 < 18) × (x < 9007199254740992))) }
-    ensures { After (twoGroups v) x result }
+    ensures { After (two_groups v) x result }
 {
     x / 32 * 512 + wide(made[18 * v + (x % 32) as usize])
 }

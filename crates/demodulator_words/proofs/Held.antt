@@ -9,10 +9,10 @@ use borrow.Author.Tests.{eq-eqb}
 use lib.Dec.{T, eqb, eqb→eq, leb, leb→le, ltb, ltb→lt}
 use lib.ListN.{length}
 use Rattle.laws.proofs.Finite.{all, all-at, all₂, all₂-at, all₃, all₃-at}
-use Rattle.modulation.specs.Modulation.{Three, threeNumber}
+use Rattle.modulation.specs.Modulation.{Three, three_number}
 use Rattle.laws.proofs.Booleans.{implies, given}
 use Rattle.modulation.proofs.Fronts.{three-below}
-use Rattle.automaton.specs.Automaton.{transitions, ends, next, valueAdded, ending, stateAfter, numberAfter}
+use Rattle.automaton.specs.Automaton.{transitions, ends, next, value_added, ending, state_after, number_after}
 use Rattle.automaton.specs.steps.Table.{After, limit}
 use Rattle.demodulator_words.specs.steps.Held.{Held, NextWord, LastWord}
 use Rattle.automaton.proofs.Entries.{entry-state, limit-pos, number-limit, number-shift, state-small}
@@ -21,24 +21,24 @@ use Rattle.automaton.proofs.Entries.{entry-state, limit-pos, number-limit, numbe
 abbrev Aligned : ℕ → ℕ → Type 0
 Aligned s a = a % 32 % limit s ≡ 0
 
-step-test : (s g r : ℕ) → s < 18 → g < 8 → r < 32 → T (implies (eqb (r % limit s) 0) (eqb ((4 * r + valueAdded s g) % 32 % limit (next s g)) 0))
+step-test : (s g r : ℕ) → s < 18 → g < 8 → r < 32 → T (implies (eqb (r % limit s) 0) (eqb ((4 * r + value_added s g) % 32 % limit (next s g)) 0))
 unfolding all all₂ all₃ transitions
-step-test = all₃-at 18 8 32 (λ s g r. implies (eqb (r % limit s) 0) (eqb ((4 * r + valueAdded s g) % 32 % limit (next s g)) 0)) tt
+step-test = all₃-at 18 8 32 (λ s g r. implies (eqb (r % limit s) 0) (eqb ((4 * r + value_added s g) % 32 % limit (next s g)) 0)) tt
 
-aligned-step : (s g a : ℕ) → s < 18 → g < 8 → Aligned s a → Aligned (next s g) (4 * a + valueAdded s g)
+aligned-step : (s g a : ℕ) → s < 18 → g < 8 → Aligned s a → Aligned (next s g) (4 * a + value_added s g)
 aligned-step s g a hs hg h =
-    let low : (4 * a + valueAdded s g) % 32 ≡ (4 * (a % 32) + valueAdded s g) % 32 = cut a (valueAdded s g) in
+    let low : (4 * a + value_added s g) % 32 ≡ (4 * (a % 32) + value_added s g) % 32 = cut a (value_added s g) in
     ap (λ (x : ℕ). x % limit (next s g)) low
     ∙ eqb→eq _ 0 (given (eqb (a % 32 % limit s) 0) _ (step-test s g (a % 32) hs hg (omega arith)) (eq-eqb (a % 32 % limit s) 0 h))
   where
     cut : (a d : ℕ) → (4 * a + d) % 32 ≡ (4 * (a % 32) + d) % 32
     cut a d = omega arith
 
-aligned : (s a : ℕ) (gs : List Three) → s < 18 → Aligned s a → Aligned (stateAfter s gs) (numberAfter s a gs)
-unfolding stateAfter numberAfter
+aligned : (s a : ℕ) (gs : List Three) → s < 18 → Aligned s a → Aligned (state_after s gs) (number_after s a gs)
+unfolding state_after number_after
 aligned s a [] hs h = h
 aligned s a (g ∷ gs) hs h =
-    aligned (next s (threeNumber g)) (4 * a + valueAdded s (threeNumber g)) gs (entry-state s (threeNumber g) hs (three-below g)) (aligned-step s (threeNumber g) a hs (three-below g) h)
+    aligned (next s (three_number g)) (4 * a + value_added s (three_number g)) gs (entry-state s (three_number g) hs (three-below g)) (aligned-step s (three_number g) a hs (three-below g) h)
 
 aligned-zero : (s : ℕ) → s < 18 → Aligned s 0
 unfolding all
@@ -63,22 +63,22 @@ ending-room s false h = ltb→lt (ending s false / 2) (limit s) (all-at 18 (λ s
 -- ---- groups read from a bare state
 
 module _ {gs : List Three} {s y : ℕ} (hs : s < 18) (a : After gs s y) where
-  pub read_number : y / 32 ≡ numberAfter s 0 gs
+  pub read_number : y / 32 ≡ number_after s 0 gs
   read_number =
       let state : s % 32 ≡ s = omega arith in
       let none : s / 32 ≡ 0 = omega arith in
-      a.number ∙ ap₂ (λ (t n : ℕ). numberAfter t n gs) state none
+      a.number ∙ ap₂ (λ (t n : ℕ). number_after t n gs) state none
 
-  pub read-state : y % 32 ≡ stateAfter s gs
-  read-state = let state : s % 32 ≡ s = omega arith in a.state ∙ ap (λ (t : ℕ). stateAfter t gs) state
+  pub read-state : y % 32 ≡ state_after s gs
+  read-state = let state : s % 32 ≡ s = omega arith in a.state ∙ ap (λ (t : ℕ). state_after t gs) state
 
   read-aligned : Aligned (y % 32) (y / 32)
   read-aligned =
       subst (λ (n : ℕ). Aligned (y % 32) n) (sym read_number)
-      (subst (λ (t : ℕ). Aligned t (numberAfter s 0 gs)) (sym read-state) (aligned s 0 gs hs (aligned-zero s hs)))
+      (subst (λ (t : ℕ). Aligned t (number_after s 0 gs)) (sym read-state) (aligned s 0 gs hs (aligned-zero s hs)))
 
   read-limit : y / 32 < limit s * 4 ^ length gs
-  read-limit = omega (arith, read_number, number-limit s gs hs, limit-pos (stateAfter s gs) (state-small s gs hs))
+  read-limit = omega (arith, read_number, number-limit s gs hs, limit-pos (state_after s gs) (state-small s gs hs))
 
   pub held_first : y < 2251799813685248 → Held y
   held_first h = record { state = a.small; below = h; pending = read-aligned }

@@ -1,7 +1,7 @@
 // A word, and what is held of the next.
 ghost use Rattle.std.specs.Prelude.{◌≡◌, ◌+◌, ◌*◌, ◌<◌};
 ghost use Rattle.bits.specs.Bits.{bits_of};
-ghost use Rattle.modulation.specs.steps.Groups.{Inside, groupsAt};
+ghost use Rattle.modulation.specs.steps.Groups.{Inside, groups_at};
 ghost use Rattle.automaton.specs.steps.Table.{table};
 ghost use Rattle.demodulator_words.specs.steps.Held.{Held, NextWord, LastWord};
 
@@ -16,7 +16,7 @@ const FULL: u64 = 2251799813685248;
 // The frame's word i: what is held, with 23 groups more.
 pub fn next_word(made: &Table, bytes: &[u8], at: usize, i: usize, x: u64) -> Next
     requires { (made.now ≡ table) × ((i < 27) × (Inside bytes.now at 634 × Held x)) }
-    ensures { NextWord (groupsAt (bits_of bytes.now) (at + 39 + 69 * i) 23) x result.word result.held }
+    ensures { NextWord (groups_at (bits_of bytes.now) (at + 39 + 69 * i) 23) x result.word result.held }
 {
     let y = segment(made, bytes, at + 39 + 69 * i, x % 32);
     Next {

@@ -8,15 +8,15 @@ use lib.ListN.{length}
 use Rattle.laws.specs.Bytes.{Bytes}
 use Rattle.laws.specs.Differing.{differing}
 use Rattle.laws.proofs.Differing.{differing-self, Between, list-between}
-use Rattle.column.specs.Column.{hasRoots}
+use Rattle.column.specs.Column.{has_roots}
 use Rattle.column.specs.Distance.{Right}
 use Rattle.column.proofs.Roots.{has-roots}
 use Rattle.column.proofs.Distance.{apart, near-once, distance_is, distance-once}
 use Rattle.ldc.proofs.CodeWords.{length-word-in, bytes-word-in}
-use Rattle.bis.specs.Reading.{wrongColumn}
-use Rattle.cluster.specs.EccCluster.{eccCluster}
-use Rattle.cluster.specs.Multiplex.{ldcIndex, ldcIn, columnIn, bisIn}
-use Rattle.cluster.specs.Reading.{ldcColumn, wrongWord}
+use Rattle.bis.specs.Reading.{wrong_column}
+use Rattle.cluster.specs.EccCluster.{ecc_cluster}
+use Rattle.cluster.specs.Multiplex.{ldc_index, ldc_in, column_in, bis_in}
+use Rattle.cluster.specs.Reading.{ldc_column, wrong_word}
 use Rattle.cluster.proofs.Multiplex.{block-column, is-block-in}
 use Rattle.cluster.proofs.Statements.{ldc-right, bis-right, other_word}
 use Rattle.image.specs.Image.{Input, IsAccepted, cluster}
@@ -35,7 +35,7 @@ columns-apart =
 
 -- a column that differs and has all its roots would differ in more
 notices : (n : ℕ) → n ≤ longest → (w c : List ℕ) → length w ≡ n → Bytes w → Right 32 n c → 0 < differing w c → differing w c ≤ noticeable
-    → (t : Bool) → hasRoots 32 w ≡ t → t ≡ false
+    → (t : Bool) → has_roots 32 w ≡ t → t ≡ false
 notices n short w c size bytes right some few false t = refl
 notices n short w c size bytes right some few true t = absurd (omega (arith, far))
   where
@@ -68,7 +68,7 @@ misleads e f sum c long short right =
 pub retry-limits : RetryLimits
 retry-limits =
     record {
-      noticed = λ w c long short bytes right some few. notices (length w) short w c refl bytes right some few (hasRoots 32 w) refl;
+      noticed = λ w c long short bytes right some few. notices (length w) short w c refl bytes right some few (has_roots 32 w) refl;
       corrected = λ w c c' long short near near'. near-once 32 correctable correctable (omega arith) w c c' (omega arith) near near';
       both = λ e f most w c c' long short near near'. near-once 32 e f (omega arith) w c' c (omega arith) near' near;
       no_more = λ e f sum c long short right. misleads e f sum c (omega arith) (omega arith) right;
@@ -77,29 +77,29 @@ retry-limits =
 -- TWO DIFFERENT USER CLUSTERS WITH THE SAME PSN AND SIDE DATA HAVE SOME LDC COLUMN THAT DIFFERS IN AT LEAST 33 PLACES
 
 module _ (a : Input) (ha : IsAccepted a) where
-  right-ldc : (L : ℕ) → L < 304 → Right 32 248 (ldcColumn (cluster a) L)
+  right-ldc : (L : ℕ) → L < 304 → Right 32 248 (ldc_column (cluster a) L)
   right-ldc = ldc-right a.user a.psn a.side ha.user ha.psn ha.side
 
-  right-bis : (C : ℕ) → C < 24 → Right 32 62 (columnIn (cluster a) C)
+  right-bis : (C : ℕ) → C < 24 → Right 32 62 (column_in (cluster a) C)
   right-bis = bis-right a.user a.psn a.side ha.user ha.psn ha.side
 
 module _ (a b : Input) (ha : IsAccepted a) (hb : IsAccepted b) where
-  each : (L : ℕ) → L < 304 → (ldcColumn (cluster a) L ≡ ldcColumn (cluster b) L → ⊥)
-      → distance ≤ differing (ldcColumn (cluster a) L) (ldcColumn (cluster b) L)
+  each : (L : ℕ) → L < 304 → (ldc_column (cluster a) L ≡ ldc_column (cluster b) L → ⊥)
+      → distance ≤ differing (ldc_column (cluster a) L) (ldc_column (cluster b) L)
   each L h different =
-      omega (arith, apart 32 248 (omega arith) (ldcColumn (cluster a) L) (ldcColumn (cluster b) L) (right-ldc a ha L h) (right-ldc b hb L h) different)
+      omega (arith, apart 32 248 (omega arith) (ldc_column (cluster a) L) (ldc_column (cluster b) L) (right-ldc a ha L h) (right-ldc b hb L h) different)
 
-  some : a.psn ≡ b.psn → (a.user ≡ b.user → ⊥) → (L : ℕ) × (L < 304) × (distance ≤ differing (ldcColumn (cluster a) L) (ldcColumn (cluster b) L))
+  some : a.psn ≡ b.psn → (a.user ≡ b.user → ⊥) → (L : ℕ) × (L < 304) × (distance ≤ differing (ldc_column (cluster a) L) (ldc_column (cluster b) L))
   some same users = (found.0, found.1, each found.0 found.1 (λ e. found.2 (e ∙ sym (moved found.0))))
     where
       -- b under the PSN of a
       other : ℕ → List ℕ
-      other = ldcColumn (eccCluster b.user a.psn b.side)
+      other = ldc_column (ecc_cluster b.user a.psn b.side)
 
-      moved : (L : ℕ) → other L ≡ ldcColumn (cluster b) L
-      moved L = ap (λ (p : ℕ). ldcColumn (eccCluster b.user p b.side) L) same
+      moved : (L : ℕ) → other L ≡ ldc_column (cluster b) L
+      moved L = ap (λ (p : ℕ). ldc_column (ecc_cluster b.user p b.side) L) same
 
-      found : (L : ℕ) × (L < 304) × (ldcColumn (cluster a) L ≡ other L → ⊥)
+      found : (L : ℕ) × (L < 304) × (ldc_column (cluster a) L ≡ other L → ⊥)
       found = other_word a.user b.user a.side b.side a.psn ha.user hb.user ha.psn ha.side hb.side users
 
 pub clusters-apart : ClustersApart
@@ -110,22 +110,22 @@ clusters-apart = record { each = each; some = some }
 pub clusters-noticed : ClustersNoticed
 clusters-noticed = record { ldc = ldc; bis = bis }
   where
-    ldc : (a : Input) → IsAccepted a → (work : List ℕ) → Bytes work → (L : ℕ) → L < 304 → 0 < differing (ldcColumn work L) (ldcColumn (cluster a) L)
-        → differing (ldcColumn work L) (ldcColumn (cluster a) L) ≤ noticeable → wrongWord work L ≡ true
+    ldc : (a : Input) → IsAccepted a → (work : List ℕ) → Bytes work → (L : ℕ) → L < 304 → 0 < differing (ldc_column work L) (ldc_column (cluster a) L)
+        → differing (ldc_column work L) (ldc_column (cluster a) L) ≤ noticeable → wrong_word work L ≡ true
     ldc a ha work bytes L h some few =
-        unfold wrongWord in
-        ap not (notices 248 (omega arith) (ldcColumn work L) (ldcColumn (cluster a) L) (length-word-in (ldcIn work) L)
-        (bytes-word-in (ldcIn work) (λ row column hr hc. bytes (ldcIndex row column)) L) (right-ldc a ha L h) some few (hasRoots 32 (ldcColumn work L)) refl)
+        unfold wrong_word in
+        ap not (notices 248 (omega arith) (ldc_column work L) (ldc_column (cluster a) L) (length-word-in (ldc_in work) L)
+        (bytes-word-in (ldc_in work) (λ row column hr hc. bytes (ldc_index row column)) L) (right-ldc a ha L h) some few (has_roots 32 (ldc_column work L)) refl)
 
-    bis : (a : Input) → IsAccepted a → (work : List ℕ) → Bytes work → (C : ℕ) → C < 24 → 0 < differing (columnIn work C) (columnIn (cluster a) C)
-        → differing (columnIn work C) (columnIn (cluster a) C) ≤ noticeable → wrongColumn (bisIn work) C ≡ true
+    bis : (a : Input) → IsAccepted a → (work : List ℕ) → Bytes work → (C : ℕ) → C < 24 → 0 < differing (column_in work C) (column_in (cluster a) C)
+        → differing (column_in work C) (column_in (cluster a) C) ≤ noticeable → wrong_column (bis_in work) C ≡ true
     bis a ha work bytes C h some few =
-        unfold wrongColumn in
-        ap (λ (c : List ℕ). not (hasRoots 32 c)) (block-column work C h)
-        ∙ ap not (notices 62 (omega arith) (columnIn work C) (columnIn (cluster a) C) size all (right-bis a ha C h) some few (hasRoots 32 (columnIn work C)) refl)
+        unfold wrong_column in
+        ap (λ (c : List ℕ). not (has_roots 32 c)) (block-column work C h)
+        ∙ ap not (notices 62 (omega arith) (column_in work C) (column_in (cluster a) C) size all (right-bis a ha C h) some few (has_roots 32 (column_in work C)) refl)
       where
-        size : length (columnIn work C) ≡ 62
+        size : length (column_in work C) ≡ 62
         size = ap length (sym (block-column work C h)) ∙ (is-block-in work bytes).size C h
 
-        all : Bytes (columnIn work C)
+        all : Bytes (column_in work C)
         all = subst Bytes (block-column work C h) ((is-block-in work bytes).bytes C h)

@@ -2,11 +2,11 @@
 use Rattle.std.specs.Prelude.{◌≡◌, true, false, List, ℕ, suc, ◌+◌, ◌<◌, ◌≤◌, length}
 use Rattle.laws.specs.Bytes.{Bytes}
 use Rattle.laws.specs.Differing.{differing}
-use Rattle.column.specs.Column.{hasRoots}
+use Rattle.column.specs.Column.{has_roots}
 use Rattle.column.specs.Distance.{Right, Near, IsDistance}
-use Rattle.bis.specs.Reading.{wrongColumn}
-use Rattle.cluster.specs.Multiplex.{columnIn, bisIn}
-use Rattle.cluster.specs.Reading.{ldcColumn, wrongWord}
+use Rattle.bis.specs.Reading.{wrong_column}
+use Rattle.cluster.specs.Multiplex.{column_in, bis_in}
+use Rattle.cluster.specs.Reading.{ldc_column, wrong_word}
 use Rattle.image.specs.Image.{Input, IsAccepted, cluster}
 
 -- how many bytes a column has
@@ -41,7 +41,7 @@ pub record ColumnsApart : Type 0 where
 -- where 1 to m bytes of a right column c are wrong in w, they are noticed: w has not all its roots
 abbrev pub Notices : ℕ → Type 0
 Notices m = (w c : List ℕ) → shortest ≤ length w → length w ≤ longest → Bytes w → Right 32 (length w) c → 0 < differing w c → differing w c ≤ m
-    → hasRoots 32 w ≡ false
+    → has_roots 32 w ≡ false
 
 -- at most one right column lies within m bytes of w
 abbrev pub OneWithin : ℕ → Type 0
@@ -71,20 +71,20 @@ pub record RetryLimits : Type 0 where
 
 -- ---- clusters
 
--- of the ECC clusters (`eccCluster`) of two accepted inputs, whatever their dc words and #, which no ECC cluster has
+-- of the ECC clusters (`ecc_cluster`) of two accepted inputs, whatever their dc words and #, which no ECC cluster has
 pub record ClustersApart : Type 0 where
   -- an LDC column that is not the same in both differs in at least 33 places
-  pub each : (a b : Input) → IsAccepted a → IsAccepted b → (L : ℕ) → L < 304 → (ldcColumn (cluster a) L ≡ ldcColumn (cluster b) L → ⊥)
-      → distance ≤ differing (ldcColumn (cluster a) L) (ldcColumn (cluster b) L)
+  pub each : (a b : Input) → IsAccepted a → IsAccepted b → (L : ℕ) → L < 304 → (ldc_column (cluster a) L ≡ ldc_column (cluster b) L → ⊥)
+      → distance ≤ differing (ldc_column (cluster a) L) (ldc_column (cluster b) L)
   -- under one PSN, where the user bytes differ, there is such a column, whatever the side data
   pub some : (a b : Input) → IsAccepted a → IsAccepted b → a.psn ≡ b.psn → (a.user ≡ b.user → ⊥)
-      → (L : ℕ) × (L < 304) × (distance ≤ differing (ldcColumn (cluster a) L) (ldcColumn (cluster b) L))
+      → (L : ℕ) × (L < 304) × (distance ≤ differing (ldc_column (cluster a) L) (ldc_column (cluster b) L))
 
 -- of a cluster that is read, work, where 1 to 32 bytes of a column of an accepted input are wrong in it: test 15, or 12, fails there
 pub record ClustersNoticed : Type 0 where
   pub ldc : (a : Input) → IsAccepted a → (work : List ℕ) → Bytes work → (L : ℕ) → L < 304
-      → 0 < differing (ldcColumn work L) (ldcColumn (cluster a) L) → differing (ldcColumn work L) (ldcColumn (cluster a) L) ≤ noticeable
-      → wrongWord work L ≡ true
+      → 0 < differing (ldc_column work L) (ldc_column (cluster a) L) → differing (ldc_column work L) (ldc_column (cluster a) L) ≤ noticeable
+      → wrong_word work L ≡ true
   pub bis : (a : Input) → IsAccepted a → (work : List ℕ) → Bytes work → (C : ℕ) → C < 24
-      → 0 < differing (columnIn work C) (columnIn (cluster a) C) → differing (columnIn work C) (columnIn (cluster a) C) ≤ noticeable
-      → wrongColumn (bisIn work) C ≡ true
+      → 0 < differing (column_in work C) (column_in (cluster a) C) → differing (column_in work C) (column_in (cluster a) C) ≤ noticeable
+      → wrong_column (bis_in work) C ≡ true

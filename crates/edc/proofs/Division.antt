@@ -10,14 +10,14 @@ use lib.Bits.{bit_xor, xor_comm, xor_self, xor_zero_r, xor_lt, xor_block, xor_sh
 use lib.ListN.{length}
 use Rattle.laws.proofs.Xor.{xor_assoc, xor-cancel, xor-left, xor-equal, xor-scaled}
 use Rattle.bits.specs.Bits.{Bits, number}
-use Rattle.edc.specs.Edc.{polynomialG, timesG, MultipleOfG, divided, remainderByG}
+use Rattle.edc.specs.Edc.{polynomial_g, times_g, MultipleOfG, divided, remainder_by_g}
 use Rattle.edc.proofs.Polynomial.{times_zero, times-one, times-add, times-scaled, times-low}
 
 -- r is the remainder of p(x)
 pub record Leaves (p r : ℕ) : Type 0 where
   pub low : r < 2 ^ 32
   pub quotient : ℕ
-  pub whole : p ≡ bit_xor (timesG quotient) r
+  pub whole : p ≡ bit_xor (times_g quotient) r
 
 -- what is of degree below 32 is its own remainder
 pub leaves-self : (r : ℕ) → r < 2 ^ 32 → Leaves r r
@@ -35,19 +35,19 @@ leaves-add {p} {q} {r} {s} a b =
 pub leaves-one : {p r s : ℕ} → Leaves p r → Leaves p s → r ≡ s
 leaves-one {p} {r} {s} a b =
     let sum : Leaves (bit_xor p p) (bit_xor r s) = leaves-add a b in
-    let multiple : timesG sum.quotient ≡ bit_xor r s = xor-equal (timesG sum.quotient) (bit_xor r s) (sym sum.whole ∙ xor_self p) in
+    let multiple : times_g sum.quotient ≡ bit_xor r s = xor-equal (times_g sum.quotient) (bit_xor r s) (sym sum.whole ∙ xor_self p) in
     let none : sum.quotient ≡ 0 = times-low sum.quotient (omega (arith, multiple, sum.low)) in
-    xor-equal r s (sym multiple ∙ ap timesG none ∙ times_zero)
+    xor-equal r s (sym multiple ∙ ap times_g none ∙ times_zero)
 
 -- a multiple of G(x) is what leaves 0
 pub leaves-zero : {p : ℕ} → Leaves p 0 → MultipleOfG p
-leaves-zero a = record { quotient = a.quotient; product = a.whole ∙ xor_zero_r (timesG a.quotient) }
+leaves-zero a = record { quotient = a.quotient; product = a.whole ∙ xor_zero_r (times_g a.quotient) }
 
 pub multiple-leaves : {p : ℕ} → MultipleOfG p → Leaves p 0
-multiple-leaves m = record { low = omega arith; quotient = m.quotient; whole = m.product ∙ sym (xor_zero_r (timesG m.quotient)) }
+multiple-leaves m = record { low = omega arith; quotient = m.quotient; whole = m.product ∙ sym (xor_zero_r (times_g m.quotient)) }
 
 pub leaves-multiple : {p r : ℕ} → Leaves p r → MultipleOfG (bit_xor p r)
-leaves-multiple {p} {r} a = record { quotient = a.quotient; product = ap (λ (x : ℕ). bit_xor x r) a.whole ∙ xor-cancel (timesG a.quotient) r }
+leaves-multiple {p} {r} a = record { quotient = a.quotient; product = ap (λ (x : ℕ). bit_xor x r) a.whole ∙ xor-cancel (times_g a.quotient) r }
 
 pub multiple-scaled : {p : ℕ} (k : ℕ) → MultipleOfG p → MultipleOfG (p * 2 ^ k)
 multiple-scaled k m = record { quotient = m.quotient * 2 ^ k; product = ap (λ (x : ℕ). x * 2 ^ k) m.product ∙ sym (times-scaled m.quotient k) }
@@ -59,31 +59,31 @@ abbrev pub tail : ℕ
 tail = 2 ^ 31 + 2 ^ 4 + 1
 
 -- what has a degree of 32 loses x^32 with G(x)
-pub taken-off : (d : ℕ) → 2 ^ 32 ≤ d → d < 2 ^ 33 → bit_xor d polynomialG ≡ bit_xor (d - 2 ^ 32) tail
+pub taken-off : (d : ℕ) → 2 ^ 32 ≤ d → d < 2 ^ 33 → bit_xor d polynomial_g ≡ bit_xor (d - 2 ^ 32) tail
 taken-off d h k =
     let split : d ≡ 1 * 2 ^ 32 + (d - 2 ^ 32) = omega arith in
-    ap (λ (x : ℕ). bit_xor x polynomialG) split ∙ xor_block 32 1 1 (d - 2 ^ 32) tail (omega arith) (omega arith) ∙ zero-add (bit_xor (d - 2 ^ 32) tail)
+    ap (λ (x : ℕ). bit_xor x polynomial_g) split ∙ xor_block 32 1 1 (d - 2 ^ 32) tail (omega arith) (omega arith) ∙ zero-add (bit_xor (d - 2 ^ 32) tail)
 
 module _ (p r b : ℕ) (hb : b < 2) (l : Leaves p r) where
   -- before G(x) is taken off
-  doubled : p * 2 + b ≡ bit_xor (timesG (l.quotient * 2)) (r * 2 + b)
+  doubled : p * 2 + b ≡ bit_xor (times_g (l.quotient * 2)) (r * 2 + b)
   doubled =
       sym (xor_shifted p 1 b hb)
       ∙ ap (λ (x : ℕ). bit_xor (x * 2) b) l.whole
-      ∙ ap (λ (x : ℕ). bit_xor x b) (xor-scaled (timesG l.quotient) r 1)
-      ∙ xor_assoc (timesG l.quotient * 2) (r * 2) b
+      ∙ ap (λ (x : ℕ). bit_xor x b) (xor-scaled (times_g l.quotient) r 1)
+      ∙ xor_assoc (times_g l.quotient * 2) (r * 2) b
       ∙ ap₂ bit_xor (sym (times-scaled l.quotient 1)) (xor_shifted r 1 b hb)
 
-  reduced : 2 ^ 32 ≤ r * 2 + b → Leaves (p * 2 + b) (bit_xor (r * 2 + b) polynomialG)
+  reduced : 2 ^ 32 ≤ r * 2 + b → Leaves (p * 2 + b) (bit_xor (r * 2 + b) polynomial_g)
   reduced h =
       record {
         low = omega (arith, taken-off (r * 2 + b) h (omega (arith, l.low)), xor_lt 32 (r * 2 + b - 2 ^ 32) tail (omega (arith, l.low)) (omega arith));
         quotient = bit_xor (l.quotient * 2) 1;
         whole =
             doubled
-            ∙ sym (ap (λ (x : ℕ). bit_xor x (bit_xor (r * 2 + b) polynomialG)) (times-add (l.quotient * 2) 1 ∙ ap (bit_xor (timesG (l.quotient * 2))) times-one)
-            ∙ xor_assoc (timesG (l.quotient * 2)) polynomialG (bit_xor (r * 2 + b) polynomialG)
-            ∙ ap (bit_xor (timesG (l.quotient * 2))) (xor_comm polynomialG (bit_xor (r * 2 + b) polynomialG) ∙ xor-cancel (r * 2 + b) polynomialG));
+            ∙ sym (ap (λ (x : ℕ). bit_xor x (bit_xor (r * 2 + b) polynomial_g)) (times-add (l.quotient * 2) 1 ∙ ap (bit_xor (times_g (l.quotient * 2))) times-one)
+            ∙ xor_assoc (times_g (l.quotient * 2)) polynomial_g (bit_xor (r * 2 + b) polynomial_g)
+            ∙ ap (bit_xor (times_g (l.quotient * 2))) (xor_comm polynomial_g (bit_xor (r * 2 + b) polynomial_g) ∙ xor-cancel (r * 2 + b) polynomial_g));
       }
 
   pub leaves-more : Leaves (p * 2 + b) (divided r b)
@@ -95,10 +95,10 @@ module _ (p r b : ℕ) (hb : b < 2) (l : Leaves p r) where
       ]
 
 -- the remainder of p(x), then bits
-pub leaves-bits : (b : List ℕ) {p r : ℕ} → Bits b → Leaves p r → Leaves (p * 2 ^ length b + number b) (remainderByG r b)
-unfolding remainderByG number
+pub leaves-bits : (b : List ℕ) {p r : ℕ} → Bits b → Leaves p r → Leaves (p * 2 ^ length b + number b) (remainder_by_g r b)
+unfolding remainder_by_g number
 leaves-bits [] {p} {r} bits l = subst (λ (n : ℕ). Leaves n r) (omega arith) l
 leaves-bits (x ∷ xs) {p} {r} bits l =
     let c : ℕ = 2 ^ length xs in
     let shifted : (p * 2 + x) * c + number xs ≡ p * 2 ^ suc (length xs) + (x * c + number xs) = rw (pow-suc 2 (length xs), mul_comm c 2, ← mul_assoc p 2 c, add-mul (p * 2) x c) (omega arith) in
-    subst (λ (n : ℕ). Leaves n (remainderByG (divided r x) xs)) shifted (leaves-bits xs (λ i. bits (suc i)) (leaves-more p r x (bits 0) l))
+    subst (λ (n : ℕ). Leaves n (remainder_by_g (divided r x) xs)) shifted (leaves-bits xs (λ i. bits (suc i)) (leaves-more p r x (bits 0) l))

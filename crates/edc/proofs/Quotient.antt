@@ -8,7 +8,7 @@ use lib.Bits.{bit_xor, xor_comm, xor_self, xor_zero_l, xor_zero_r, xor_lt, xor_s
 use lib.Count.{ones, ones_in, ones_step}
 use lib.Pow.{pow_pos, split, shr-shr, shr_le, shr_lt}
 use Rattle.laws.proofs.Xor.{xor_assoc, xor-cancel, xor-left, xor-twice, xor-equal, xor-half, xor-scaled, raised}
-use Rattle.edc.specs.Edc.{timesG}
+use Rattle.edc.specs.Edc.{times_g}
 use Rattle.edc.proofs.Division.{Leaves}
 
 -- ---- a number and itself k bits lower
@@ -104,11 +104,11 @@ unfolding folded
 sums-odd s = omega (arith, ones-xor s (s / 2), ones_step s)
 
 -- the sums of a number 32 bits higher go on below it with their lowest
-unfoldable pub sumsRaised : ℕ → ℕ
-sumsRaised s = s * 2 ^ 32 + s % 2 * (2 ^ 32 - 1)
+unfoldable pub sums_raised : ℕ → ℕ
+sums_raised s = s * 2 ^ 32 + s % 2 * (2 ^ 32 - 1)
 
-pub raised-sums : (s : ℕ) → folded 1 (sumsRaised s) ≡ folded 1 s * 2 ^ 32
-unfolding folded sumsRaised
+pub raised-sums : (s : ℕ) → folded 1 (sums_raised s) ≡ folded 1 s * 2 ^ 32
+unfolding folded sums_raised
 raised-sums s =
     let lower : ℕ = s % 2 * (2 ^ 32 - 1) in
     let lower-lt : lower < 2 ^ 32 = omega arith in
@@ -169,7 +169,7 @@ low-leaves q = subst (Leaves (high_of q * 2 ^ 32)) (low_word q) leaves
 
     leaves : Leaves (high_of q * 2 ^ 32) (bit_xor (bit_xor a b) c)
     leaves =
-        unfold timesG folded high_of in
+        unfold times_g folded high_of in
         record {
           low = xor_lt 32 (bit_xor a b) c (xor_lt 32 a b (mod-lt (q * 2 ^ 31) (pow_pos 32)) (mod-lt (q * 2 ^ 4) (pow_pos 32))) (mod-lt q (pow_pos 32));
           quotient = q;
@@ -189,15 +189,15 @@ high_small q h = ap (bit_xor (folded 1 q)) (div-eq_of_lt (folded-lt 4 28 q h)) �
 unfoldable pub carried : ℕ → ℕ
 carried v = bit_xor (v / 2 ^ 28) (v / 2 ^ 30)
 
-unfoldable pub carriedTwice : ℕ → ℕ
-carriedTwice v = bit_xor (bit_xor (v / 2 ^ 56) (v / 2 ^ 60)) (bit_xor (v / 2 ^ 57) (v / 2 ^ 61))
+unfoldable pub carried_twice : ℕ → ℕ
+carried_twice v = bit_xor (bit_xor (v / 2 ^ 56) (v / 2 ^ 60)) (bit_xor (v / 2 ^ 57) (v / 2 ^ 61))
 
 carried-folded : (v : ℕ) → carried v ≡ folded 2 (v / 2 ^ 28)
 unfolding carried folded
 carried-folded v = ap (bit_xor (v / 2 ^ 28)) (sym (shr-shr v 28 2))
 
-twice-folded : (v : ℕ) → carriedTwice v ≡ folded 1 (folded 4 (v / 2 ^ 56))
-unfolding carriedTwice folded
+twice-folded : (v : ℕ) → carried_twice v ≡ folded 1 (folded 4 (v / 2 ^ 56))
+unfolding carried_twice folded
 twice-folded v =
     let u : ℕ = v / 2 ^ 56 in
     let four : bit_xor u (v / 2 ^ 60) ≡ bit_xor u (u / 2 ^ 4) = ap (bit_xor u) (sym (shr-shr v 56 4)) in
@@ -206,11 +206,11 @@ twice-folded v =
     ap₂ bit_xor four one
 
 -- the quotient whose product has v from x^32 on: s are the sums of v
-unfoldable pub quotientByG : ℕ → ℕ → ℕ
-quotientByG v s = bit_xor (bit_xor s (carried v)) (carriedTwice v)
+unfoldable pub quotient_by_g : ℕ → ℕ → ℕ
+quotient_by_g v s = bit_xor (bit_xor s (carried v)) (carried_twice v)
 
-pub quotient-high : (v s : ℕ) → v < 2 ^ 64 → folded 1 s ≡ v → high_of (quotientByG v s) ≡ v
-unfolding high_of quotientByG
+pub quotient-high : (v s : ℕ) → v < 2 ^ 64 → folded 1 s ≡ v → high_of (quotient_by_g v s) ≡ v
+unfolding high_of quotient_by_g
 quotient-high v s h e =
     let u : ℕ = v / 2 ^ 56 in
     let b : ℕ = folded 2 (v / 2 ^ 28) in
@@ -231,7 +231,7 @@ quotient-high v s h e =
     ap (λ (x : ℕ). x / 2 ^ 28) (folded-xor 4 (bit_xor s b) c ∙ ap (λ (x : ℕ). bit_xor x (folded 4 c)) (folded-xor 4 s b))
     ∙ xor_shr (bit_xor (folded 4 s) (folded 4 b)) (folded 4 c) 28
     ∙ ap₂ bit_xor (xor_shr (folded 4 s) (folded 4 b) 28 ∙ ap₂ bit_xor first second) third in
-    let same : bit_xor (bit_xor s (carried v)) (carriedTwice v) ≡ bit_xor (bit_xor s b) c = ap₂ (λ (x y : ℕ). bit_xor (bit_xor s x) y) (carried-folded v) (twice-folded v) in
+    let same : bit_xor (bit_xor s (carried v)) (carried_twice v) ≡ bit_xor (bit_xor s b) c = ap₂ (λ (x y : ℕ). bit_xor (bit_xor s x) y) (carried-folded v) (twice-folded v) in
     ap (λ (q : ℕ). bit_xor (folded 1 q) (folded 4 q / 2 ^ 28)) same ∙ ap₂ bit_xor low high ∙ twice v (folded 1 b) (folded 1 c)
   where
     twice : (v b c : ℕ) → bit_xor (bit_xor (bit_xor v b) c) (bit_xor (bit_xor b c) 0) ≡ v

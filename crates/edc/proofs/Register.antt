@@ -10,15 +10,15 @@ use lib.Pow.{pow_pos}
 use Rattle.laws.proofs.Xor.{xor_assoc, xor-left, xor-twice, xor-scaled, raised}
 use Rattle.bits.specs.Bits.{bits_of, number}
 use Rattle.bits.proofs.Concat.{number-bytes, number-byte}
-use Rattle.big_endian.specs.Words.{eightBytes}
+use Rattle.big_endian.specs.Words.{eight_bytes}
 use Rattle.big_endian.proofs.Words.{number-of-eight}
-use Rattle.edc.specs.Edc.{edcOf}
+use Rattle.edc.specs.Edc.{edc_of}
 use Rattle.edc.proofs.Division.{Leaves, leaves-self, leaves-add, leaves-one, leaves-multiple, multiple-leaves, multiple-scaled}
 use Rattle.edc.proofs.Detection.{edc-leaves, edc-lt}
-use Rattle.edc.proofs.Quotient.{folded, folded-xor, folded_low, unsummed, sumsRaised, raised-sums, low_of, high_of, low-leaves, high_small, carried, carriedTwice, quotientByG, quotient-high}
+use Rattle.edc.proofs.Quotient.{folded, folded-xor, folded_low, unsummed, sums_raised, raised-sums, low_of, high_of, low-leaves, high_small, carried, carried_twice, quotient_by_g, quotient-high}
 
 -- the bytes l and their code, k bits higher, are a multiple of G(x)
-over : (l : List ℕ) (k : ℕ) → Leaves (bit_xor (number (bits_of l) * 2 ^ 32) (edcOf l) * 2 ^ k) 0
+over : (l : List ℕ) (k : ℕ) → Leaves (bit_xor (number (bits_of l) * 2 ^ 32) (edc_of l) * 2 ^ k) 0
 over l k = multiple-leaves (multiple-scaled k (leaves-multiple (edc-leaves l)))
 
 -- ---- eight bytes more
@@ -38,19 +38,19 @@ eight-behind n r w h =
     ∙ sym (xor-scaled (bit_xor (n * 2 ^ 32) r * 2 ^ 32) (bit_xor (r * 2 ^ 32) w) 32)
     ∙ ap (λ (x : ℕ). x * 2 ^ 32) both
 
-edc-eight-more : (l : List ℕ) (w q : ℕ) → w < 2 ^ 64 → high_of q ≡ bit_xor (edcOf l * 2 ^ 32) w → low_of (q % 2 ^ 32) ≡ edcOf (l ++ eightBytes w)
+edc-eight-more : (l : List ℕ) (w q : ℕ) → w < 2 ^ 64 → high_of q ≡ bit_xor (edc_of l * 2 ^ 32) w → low_of (q % 2 ^ 32) ≡ edc_of (l ++ eight_bytes w)
 edc-eight-more l w q h e =
     let n : ℕ = number (bits_of l) in
-    let whole : number (bits_of (l ++ eightBytes w)) ≡ n * 2 ^ 64 + w = number-bytes l (eightBytes w) ∙ ap (λ (x : ℕ). n * 2 ^ 64 + x) (number-of-eight w h) in
+    let whole : number (bits_of (l ++ eight_bytes w)) ≡ n * 2 ^ 64 + w = number-bytes l (eight_bytes w) ∙ ap (λ (x : ℕ). n * 2 ^ 64 + x) (number-of-eight w h) in
     leaves-one
-    (subst (λ (p : ℕ). Leaves p (low_of (q % 2 ^ 32))) (ap (λ (x : ℕ). bit_xor (bit_xor (n * 2 ^ 32) (edcOf l) * 2 ^ 64) (x * 2 ^ 32)) e ∙ eight-behind n (edcOf l) w h ∙ ap (λ (x : ℕ). x * 2 ^ 32) (sym whole))
+    (subst (λ (p : ℕ). Leaves p (low_of (q % 2 ^ 32))) (ap (λ (x : ℕ). bit_xor (bit_xor (n * 2 ^ 32) (edc_of l) * 2 ^ 64) (x * 2 ^ 32)) e ∙ eight-behind n (edc_of l) w h ∙ ap (λ (x : ℕ). x * 2 ^ 32) (sym whole))
     (leaves-add (over l 64) (low-leaves q)))
-    (edc-leaves (l ++ eightBytes w))
+    (edc-leaves (l ++ eight_bytes w))
 
 -- `eight_more`: s are the sums of w, o those of the register below it
-pub eight-taken : (l : List ℕ) (r w wide s a o b d : ℕ) → r ≡ edcOf l → w < 2 ^ 64 → wide ≡ r → folded 1 s ≡ w → a ≡ s % 2 ^ 32
-    → ((x : ℕ) → folded 1 x ≡ r → o ≡ x % 2 * (2 ^ 32 - 1)) → b ≡ carried (bit_xor (wide * 2 ^ 32) w) % 2 ^ 32 → d ≡ carriedTwice (bit_xor (wide * 2 ^ 32) w) % 2 ^ 32
-    → low_of (bit_xor (bit_xor (bit_xor a o) b) d) ≡ edcOf (l ++ eightBytes w)
+pub eight-taken : (l : List ℕ) (r w wide s a o b d : ℕ) → r ≡ edc_of l → w < 2 ^ 64 → wide ≡ r → folded 1 s ≡ w → a ≡ s % 2 ^ 32
+    → ((x : ℕ) → folded 1 x ≡ r → o ≡ x % 2 * (2 ^ 32 - 1)) → b ≡ carried (bit_xor (wide * 2 ^ 32) w) % 2 ^ 32 → d ≡ carried_twice (bit_xor (wide * 2 ^ 32) w) % 2 ^ 32
+    → low_of (bit_xor (bit_xor (bit_xor a o) b) d) ≡ edc_of (l ++ eight_bytes w)
 eight-taken l r w wide s a o b d er hw ew es ea eo eb ed =
     ap low_of (sym low) ∙ edc-eight-more l w q hw (quotient-high v (bit_xor s t) v-lt sums ∙ ap (λ (x : ℕ). bit_xor (x * 2 ^ 32) w) er)
   where
@@ -70,27 +70,27 @@ eight-taken l r w wide s a o b d er hw ew es ea eo eb ed =
     of-register = unsummed r (omega (arith, r-lt))
 
     t : ℕ
-    t = sumsRaised x
+    t = sums_raised x
 
     sums : folded 1 (bit_xor s t) ≡ v
     sums = folded-xor 1 s t ∙ ap₂ bit_xor es (raised-sums x ∙ ap (λ (y : ℕ). y * 2 ^ 32) of-register) ∙ xor_comm w (r * 2 ^ 32)
 
     q : ℕ
-    q = quotientByG v (bit_xor s t)
+    q = quotient_by_g v (bit_xor s t)
 
     below : t % 2 ^ 32 ≡ o
-    below = unfold sumsRaised in digits_mod x {r = x % 2 * (2 ^ 32 - 1)} (omega arith) ∙ sym (eo x of-register)
+    below = unfold sums_raised in digits_mod x {r = x % 2 * (2 ^ 32 - 1)} (omega arith) ∙ sym (eo x of-register)
 
     same : bit_xor (wide * 2 ^ 32) w ≡ v
     same = ap (λ (y : ℕ). bit_xor (y * 2 ^ 32) w) ew
 
     low : q % 2 ^ 32 ≡ bit_xor (bit_xor (bit_xor a o) b) d
     low =
-        unfold quotientByG in
-        xor_mod (bit_xor (bit_xor s t) (carried v)) (carriedTwice v) 32
+        unfold quotient_by_g in
+        xor_mod (bit_xor (bit_xor s t) (carried v)) (carried_twice v) 32
         ∙ ap₂ bit_xor
         (xor_mod (bit_xor s t) (carried v) 32 ∙ ap₂ bit_xor (xor_mod s t 32 ∙ ap₂ bit_xor (sym ea) below) (sym (eb ∙ ap (λ (y : ℕ). carried y % 2 ^ 32) same)))
-        (sym (ed ∙ ap (λ (y : ℕ). carriedTwice y % 2 ^ 32) same))
+        (sym (ed ∙ ap (λ (y : ℕ). carried_twice y % 2 ^ 32) same))
 
 -- ---- one byte more
 
@@ -105,9 +105,9 @@ byte-behind n r x h w e hx =
     rw (xor-scaled (n * 2 ^ 32) r 8, e, xor-scaled h x 32, cancel (n * 2 ^ 32 * 2 ^ 8) (h * 2 ^ 32) (x * 2 ^ 32) w, high)
     (xor_shifted n 40 (x * 2 ^ 32) (omega arith) ∙ omega arith)
 
-edc-byte-more : (l : List ℕ) (x q : ℕ) → x < 256 → high_of q ≡ bit_xor (edcOf l / 2 ^ 24) x → bit_xor (low_of (q % 2 ^ 32)) (edcOf l * 2 ^ 8 % 2 ^ 32) ≡ edcOf (l ++ (x ∷ []))
+edc-byte-more : (l : List ℕ) (x q : ℕ) → x < 256 → high_of q ≡ bit_xor (edc_of l / 2 ^ 24) x → bit_xor (low_of (q % 2 ^ 32)) (edc_of l * 2 ^ 8 % 2 ^ 32) ≡ edc_of (l ++ (x ∷ []))
 edc-byte-more l x q h e =
-    let r : ℕ = edcOf l in
+    let r : ℕ = edc_of l in
     let w : ℕ = r * 2 ^ 8 % 2 ^ 32 in
     let n : ℕ = number (bits_of l) in
     let whole : number (bits_of (l ++ (x ∷ []))) ≡ n * 2 ^ 8 + x = number-bytes l (x ∷ []) ∙ ap (λ (b : ℕ). n * 2 ^ 8 + b) (number-byte x ∙ mod-eq_of_lt h) in
@@ -117,8 +117,8 @@ edc-byte-more l x q h e =
     (edc-leaves (l ++ (x ∷ [])))
 
 -- `byte_more`: s are the sums of the register's highest byte and x
-pub byte-taken : (l : List ℕ) (r x top s a : ℕ) → r ≡ edcOf l → x < 256 → top ≡ r / 2 ^ 24 → folded 1 s ≡ bit_xor top x → a ≡ s % 2 ^ 32
-    → bit_xor (low_of a) (r * 2 ^ 8 % 2 ^ 32) ≡ edcOf (l ++ (x ∷ []))
+pub byte-taken : (l : List ℕ) (r x top s a : ℕ) → r ≡ edc_of l → x < 256 → top ≡ r / 2 ^ 24 → folded 1 s ≡ bit_xor top x → a ≡ s % 2 ^ 32
+    → bit_xor (low_of a) (r * 2 ^ 8 % 2 ^ 32) ≡ edc_of (l ++ (x ∷ []))
 byte-taken l r x top s a er hx et es ea =
     ap₂ (λ (y z : ℕ). bit_xor (low_of y) (z * 2 ^ 8 % 2 ^ 32)) ea er ∙ edc-byte-more l x s hx (high ∙ es ∙ ap (λ (y : ℕ). bit_xor y x) (et ∙ ap (λ (y : ℕ). y / 2 ^ 24) er))
   where

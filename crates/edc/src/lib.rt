@@ -1,14 +1,16 @@
 // 13.3: the error-detection code.
+#![tactic(auto)]
+
 pub mod steps;
 
 ghost use Rattle.std.specs.Prelude.{◌≡◌};
-ghost use Rattle.edc.specs.Edc.{edcOf};
+ghost use Rattle.edc.specs.Edc.{edc_of};
 
 use big_endian::steps::double_word_at;
 
 // The error-detection code of bytes, of any number.
 pub fn edc(bytes: &[u8]) -> u32
-    ensures { result ≡ edcOf bytes.now }
+    ensures { result ≡ edc_of bytes.now }
 {
     let mut register = steps::FIRST;
     let eights = bytes.len() / 8;

@@ -1,8 +1,8 @@
 // The register, eight bytes or one at a time, for the crates of this repository.
 ghost use Rattle.std.specs.Prelude.{◌≡◌, List, [], ◌∷◌, ◌++◌, ℕ, ◌*◌, ◌-◌, ◌/◌, ◌%◌, ◌^◌};
 ghost use Rattle.std.specs.Int.Bits.{bit_xor};
-ghost use Rattle.big_endian.specs.Words.{eightBytes};
-ghost use Rattle.edc.specs.Edc.{edcOf};
+ghost use Rattle.big_endian.specs.Words.{eight_bytes};
+ghost use Rattle.edc.specs.Edc.{edc_of};
 
 use big_endian::steps::wide;
 
@@ -45,7 +45,7 @@ fn below(q: u32) -> u32
 // The register after eight bytes more. v(x) is the register, 32 bits up, with the eight bytes. Of the quotient of v(x) x^32 by G(x) bits 31 to 0
 // are enough: those above have no part below x^32.
 pub fn eight_more(register: u32, eight: u64) -> u32
-    ensures { (bytes : List ℕ) → register ≡ edcOf bytes → result ≡ edcOf (bytes ++ eightBytes eight) }
+    ensures { (bytes : List ℕ) → register ≡ edc_of bytes → result ≡ edc_of (bytes ++ eight_bytes eight) }
 {
     let v = wide(register) * 0x1_0000_0000 ^ eight;
     let s = low(sums(eight)) ^ sum_below(register);
@@ -56,7 +56,7 @@ pub fn eight_more(register: u32, eight: u64) -> u32
 
 // The register after one byte more.
 pub fn byte_more(register: u32, byte: u8) -> u32
-    ensures { (bytes : List ℕ) → register ≡ edcOf bytes → result ≡ edcOf (bytes ++ (byte ∷ [])) }
+    ensures { (bytes : List ℕ) → register ≡ edc_of bytes → result ≡ edc_of (bytes ++ (byte ∷ [])) }
 {
     let q = low(sums(wide(register >> 24) ^ byte as u64));
     below(q) ^ (register << 8)

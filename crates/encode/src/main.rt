@@ -1,5 +1,7 @@
 // encode PSN USER SIDE DC IMAGE [FIRST]: the image of a cluster, written from files. `-` for SIDE or DC is zeros. FIRST is the first #, 0 or
 // 1, and 0 where it is left out.
+#![tactic(auto)]
+
 use address::Psn;
 use notation::{FirstText, PsnText};
 use texts::Text;

@@ -1,6 +1,8 @@
 // What encode does between its files, on slices.
+#![tactic(auto)]
+
 ghost use Rattle.std.specs.Prelude.{◌≡◌};
-ghost use Rattle.encoding.specs.Encoded.{encodedWords, encoded};
+ghost use Rattle.encoding.specs.Encoded.{encoded_words, encoded};
 
 use address::Psn;
 use report::Said;
@@ -15,7 +17,7 @@ fn encode_words(
     image: &mut [u8],
 ) -> Said
     ensures { record { keep = result.keep; text = result.text; image = image.new }
-        ≡ encodedWords psn.0 user.now side.now words.now first image.old }
+        ≡ encoded_words psn.0 user.now side.now words.now first image.old }
 {
     let mut work = buffers::work_bytes();
     let answer = writer::write_image(user, psn, side, words, first, image, &mut work);

@@ -5,11 +5,11 @@ use Rattle.address.specs.declared.PaaAnswer.{PaaAnswer}
 use Rattle.answer_numbers.specs.declared.Converted.{Converted}
 use Rattle.answer_numbers.specs.Numbers.{converted}
 
-abbrev pub psnSeen : PsnAnswer → Converted
-psnSeen a = converted a.answer a.psn.0
+abbrev pub psn_seen : PsnAnswer → Converted
+psn_seen a = converted a.answer a.psn.0
 
-abbrev pub aunSeen : AunAnswer → Converted
-aunSeen a = converted a.answer a.aun.0
+abbrev pub aun_seen : AunAnswer → Converted
+aun_seen a = converted a.answer a.aun.0
 
-abbrev pub paaSeen : PaaAnswer → Converted
-paaSeen a = converted a.answer a.paa.0
+abbrev pub paa_seen : PaaAnswer → Converted
+paa_seen a = converted a.answer a.paa.0

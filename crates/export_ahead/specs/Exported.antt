@@ -3,5 +3,5 @@ use Rattle.answer.specs.Answer.{number_of, place_of}
 use Rattle.look_ahead.specs.Outcome.{Outcome}
 use Rattle.export_ahead.specs.declared.AheadNumbers.{AheadNumbers}
 
-abbrev pub aheadSeen : Outcome → AheadNumbers
-aheadSeen o = record { number = number_of o.answer; place = place_of o.answer; bits = o.bits }
+abbrev pub ahead_seen : Outcome → AheadNumbers
+ahead_seen o = record { number = number_of o.answer; place = place_of o.answer; bits = o.bits }

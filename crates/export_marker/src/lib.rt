@@ -1,8 +1,10 @@
 // The marker for programs in other languages: numbers and slices only.
+#![tactic(auto)]
+
 ghost use Rattle.std.specs.Prelude.{◌≡◌, ◌↔◌};
 ghost use Rattle.reader.specs.Promise.{RightSlices};
 ghost use Rattle.marker.specs.Marked.{IsImageOf, marked};
-ghost use Rattle.export_marker.specs.Exported.{markedNumbers};
+ghost use Rattle.export_marker.specs.Exported.{marked_numbers};
 
 use address::Psn;
 use answer_numbers::Marking;
@@ -20,7 +22,7 @@ pub fn mark_image(
     work: &mut [u8],
 ) -> Marking
     ensures work_after { record { verdict = result.verdict; number = result.number; psn = result.psn; place = result.place; lent = record { user = bytes.new; side = control.new; dc = dc.new; work = work.new } }
-        ≡ markedNumbers (marked psn user.entry.now side.now image.now (record { user = bytes.old; side = control.old; dc = dc.old; work = work.old })) }
+        ≡ marked_numbers (marked psn user.entry.now side.now image.now (record { user = bytes.old; side = control.old; dc = dc.old; work = work.old })) }
     ensures variant { RightSlices (record { user = bytes.old; side = control.old; dc = dc.old; work = work.old })
         → (result.verdict ≡ 0) ↔ IsImageOf psn user.entry.now side.now image.now }
 {

@@ -1,4 +1,6 @@
 // The parity of a column for programs in other languages: numbers and slices only.
+#![tactic(auto)]
+
 ghost use Rattle.std.specs.Prelude.{◌≡◌};
 ghost use Rattle.column_parity.specs.Outcome.{outcome};
 ghost use Rattle.column_parity.specs.Promise.{CompletesExactly};

@@ -10,23 +10,23 @@ use Rattle.order_queue.specs.declared.Handled.{Handled}
 use Rattle.order_queue.specs.Queue.{order_of}
 use Rattle.export_queue.specs.declared.OrderNumbers.{OrderNumbers}
 use Rattle.export_queue.specs.declared.QueueNumbers.{QueueNumbers}
-use Rattle.export_queue.specs.Exported.{givenAt, queueGiven, orderSeen, queueSeen, handledSeen}
+use Rattle.export_queue.specs.Exported.{given_at, queue_given, order_seen, queue_seen, handled_seen}
 
 -- as the code has them, a, b, c and d are the four orders
-pub four-given : (queue : QueueNumbers) {a b c d : Order} → a ≡ givenAt queue 0 → b ≡ givenAt queue 1 → c ≡ givenAt queue 2 → d ≡ givenAt queue 3
-    → record { orders = a ∷ b ∷ c ∷ d ∷ []; turn = queue.turn } ≡ queueGiven queue
-unfolding queueGiven
+pub four-given : (queue : QueueNumbers) {a b c d : Order} → a ≡ given_at queue 0 → b ≡ given_at queue 1 → c ≡ given_at queue 2 → d ≡ given_at queue 3
+    → record { orders = a ∷ b ∷ c ∷ d ∷ []; turn = queue.turn } ≡ queue_given queue
+unfolding queue_given
 four-given queue ha hb hc hd = λ i. record { orders = ha i ∷ hb i ∷ hc i ∷ hd i ∷ []; turn = queue.turn }
 
-pub four-seen : (queue : Queue) {a b c d : OrderNumbers} → a ≡ orderSeen (order_of queue 0) → b ≡ orderSeen (order_of queue 1) → c ≡ orderSeen (order_of queue 2) → d ≡ orderSeen (order_of queue 3)
-    → record { orders = a ∷ b ∷ c ∷ d ∷ []; turn = queue.turn } ≡ queueSeen queue
-unfolding queueSeen
+pub four-seen : (queue : Queue) {a b c d : OrderNumbers} → a ≡ order_seen (order_of queue 0) → b ≡ order_seen (order_of queue 1) → c ≡ order_seen (order_of queue 2) → d ≡ order_seen (order_of queue 3)
+    → record { orders = a ∷ b ∷ c ∷ d ∷ []; turn = queue.turn } ≡ queue_seen queue
+unfolding queue_seen
 four-seen queue ha hb hc hd = λ i. record { orders = ha i ∷ hb i ∷ hc i ∷ hd i ∷ []; turn = queue.turn }
 
-pub order-seen : (order : Order) {n : ℕ} → n ≡ cond order.waiting 1 0 → record { waiting = n; psn = order.psn.0 } ≡ orderSeen order
+pub order-seen : (order : Order) {n : ℕ} → n ≡ cond order.waiting 1 0 → record { waiting = n; psn = order.psn.0 } ≡ order_seen order
 order-seen order hn = λ i. record { waiting = hn i; psn = order.psn.0 }
 
 -- h is what was handled, as the code has it, and q its queue in numbers
-pub in-numbers : {h is : Handled} {q : QueueNumbers} {n p : ℕ} → h ≡ is → q ≡ queueSeen h.queue → n ≡ number_of h.answer → p ≡ place_of h.answer
-    → record { queue = q; number = n; place = p; bench = h.bench; psn = h.psn.0 } ≡ handledSeen is
-in-numbers {h} hh hq hn hp = (λ i. record { queue = hq i; number = hn i; place = hp i; bench = h.bench; psn = h.psn.0 }) ∙ ap handledSeen hh
+pub in-numbers : {h is : Handled} {q : QueueNumbers} {n p : ℕ} → h ≡ is → q ≡ queue_seen h.queue → n ≡ number_of h.answer → p ≡ place_of h.answer
+    → record { queue = q; number = n; place = p; bench = h.bench; psn = h.psn.0 } ≡ handled_seen is
+in-numbers {h} hh hq hn hp = (λ i. record { queue = hq i; number = hn i; place = hp i; bench = h.bench; psn = h.psn.0 }) ∙ ap handled_seen hh

@@ -11,26 +11,26 @@ use Rattle.export_queue.specs.declared.HandledNumbers.{HandledNumbers}
 
 -- ---- as it is handed in: any number but 0 is a waiting order
 
-abbrev pub orderGiven : OrderNumbers → Order
-orderGiven o = record { waiting = not (eqb o.waiting 0); psn = record { 0 = o.psn } }
+abbrev pub order_given : OrderNumbers → Order
+order_given o = record { waiting = not (eqb o.waiting 0); psn = record { 0 = o.psn } }
 
-abbrev pub givenAt : QueueNumbers → ℕ → Order
-givenAt queue bench = orderGiven (get_or queue.orders bench (record { waiting = 0; psn = 0 }))
+abbrev pub given_at : QueueNumbers → ℕ → Order
+given_at queue bench = order_given (get_or queue.orders bench (record { waiting = 0; psn = 0 }))
 
-unfoldable pub queueGiven : QueueNumbers → Queue
-queueGiven queue = record { orders = givenAt queue 0 ∷ givenAt queue 1 ∷ givenAt queue 2 ∷ givenAt queue 3 ∷ []; turn = queue.turn }
+unfoldable pub queue_given : QueueNumbers → Queue
+queue_given queue = record { orders = given_at queue 0 ∷ given_at queue 1 ∷ given_at queue 2 ∷ given_at queue 3 ∷ []; turn = queue.turn }
 
 -- ---- as it is given back: 1 for a waiting order
 
-abbrev pub orderSeen : Order → OrderNumbers
-orderSeen o = record { waiting = cond o.waiting 1 0; psn = o.psn.0 }
+abbrev pub order_seen : Order → OrderNumbers
+order_seen o = record { waiting = cond o.waiting 1 0; psn = o.psn.0 }
 
-unfoldable pub queueSeen : Queue → QueueNumbers
-queueSeen queue =
-    record { orders = orderSeen (order_of queue 0) ∷ orderSeen (order_of queue 1) ∷ orderSeen (order_of queue 2) ∷ orderSeen (order_of queue 3) ∷ []; turn = queue.turn }
+unfoldable pub queue_seen : Queue → QueueNumbers
+queue_seen queue =
+    record { orders = order_seen (order_of queue 0) ∷ order_seen (order_of queue 1) ∷ order_seen (order_of queue 2) ∷ order_seen (order_of queue 3) ∷ []; turn = queue.turn }
 
-abbrev pub handledSeen : Handled → HandledNumbers
-handledSeen h = record { queue = queueSeen h.queue; number = number_of h.answer; place = place_of h.answer; bench = h.bench; psn = h.psn.0 }
+abbrev pub handled_seen : Handled → HandledNumbers
+handled_seen h = record { queue = queue_seen h.queue; number = number_of h.answer; place = place_of h.answer; bench = h.bench; psn = h.psn.0 }
 
 -- ---- what is promised
 

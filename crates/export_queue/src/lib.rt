@@ -1,21 +1,23 @@
 // The queue of four benches for programs in other languages: numbers, and structs and slices of them.
+#![tactic(auto)]
+
 ghost use Rattle.std.specs.Prelude.{◌≡◌, cond};
 ghost use Rattle.order_queue.specs.Queue.{handled};
-ghost use Rattle.export_queue.specs.Exported.{orderGiven, queueGiven, orderSeen, queueSeen, handledSeen};
+ghost use Rattle.export_queue.specs.Exported.{order_given, queue_given, order_seen, queue_seen, handled_seen};
 
 use address::Psn;
 use order_queue::{Order, Queue};
 
 // The order of a bench: 0 for none; any other number where one is waiting.
 #[repr(C)]
-#[derive(Drop)]
+#[derive(Clone, Copy)]
 pub struct OrderNumbers {
     pub waiting: u8,
     pub psn: u32,
 }
 
 #[repr(C)]
-#[derive(Drop)]
+#[derive(Clone, Copy)]
 pub struct QueueNumbers {
     pub orders: [OrderNumbers; order_queue::BENCHES],
     pub turn: u8,
@@ -23,7 +25,7 @@ pub struct QueueNumbers {
 
 // The queue behind a record, the documents' number and place, and for a serve the bench and the PSN of its order.
 #[repr(C)]
-#[derive(Drop)]
+#[derive(Clone, Copy)]
 pub struct HandledNumbers {
     pub queue: QueueNumbers,
     pub number: u32,
@@ -35,7 +37,7 @@ pub struct HandledNumbers {
 // ---- as it is handed in
 
 fn order_given(order: OrderNumbers) -> Order
-    ensures { result ≡ orderGiven order }
+    ensures { result ≡ order_given order }
 {
     let psn = Psn(order.psn);
     Order {
@@ -45,7 +47,7 @@ fn order_given(order: OrderNumbers) -> Order
 }
 
 fn queue_given(queue: QueueNumbers) -> Queue
-    ensures { result ≡ queueGiven queue }
+    ensures { result ≡ queue_given queue }
 {
     let orders = queue.orders;
     Queue {
@@ -71,7 +73,7 @@ fn flag(waiting: bool) -> u8
 }
 
 fn order_seen(order: Order) -> OrderNumbers
-    ensures { result ≡ orderSeen order }
+    ensures { result ≡ order_seen order }
 {
     let psn = order.psn;
     OrderNumbers {
@@ -81,7 +83,7 @@ fn order_seen(order: Order) -> OrderNumbers
 }
 
 fn queue_seen(queue: Queue) -> QueueNumbers
-    ensures { result ≡ queueSeen queue }
+    ensures { result ≡ queue_seen queue }
 {
     let orders = queue.orders;
     QueueNumbers {
@@ -97,7 +99,7 @@ fn queue_seen(queue: Queue) -> QueueNumbers
 
 // Handles a record.
 pub fn handle_record(queue: QueueNumbers, bytes: &[u8]) -> HandledNumbers
-    ensures { result ≡ handledSeen (handled (queueGiven queue) bytes.now) }
+    ensures { result ≡ handled_seen (handled (queue_given queue) bytes.now) }
 {
     let handled = order_queue::handle(queue_given(queue), bytes);
     let left = handled.queue;

@@ -1,4 +1,6 @@
 // The reader for programs in other languages: numbers and slices only.
+#![tactic(auto)]
+
 ghost use Rattle.std.specs.Prelude.{◌≡◌};
 ghost use Rattle.reader.specs.Outcome as reader;
 ghost use Rattle.reader.specs.Promise.{ReadsExactly};

@@ -4,9 +4,9 @@ use Rattle.laws.specs.Tabulate.{tabulate}
 use Rattle.address.specs.declared.Psn.{Psn}
 
 -- the PSN of each entry
-abbrev pub givenPsn : List ℕ → ℕ → ℕ
-givenPsn psns i = get_or psns i 0
+abbrev pub given_psn : List ℕ → ℕ → ℕ
+given_psn psns i = get_or psns i 0
 
 -- the first 64 of them
-unfoldable pub givenPsns : List ℕ → List Psn
-givenPsns psns = tabulate 64 (λ i. record { 0 = givenPsn psns i })
+unfoldable pub given_psns : List ℕ → List Psn
+given_psns psns = tabulate 64 (λ i. record { 0 = given_psn psns i })

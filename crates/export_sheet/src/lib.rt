@@ -1,16 +1,18 @@
 // A sheet of addresses for programs in other languages: numbers and slices only.
+#![tactic(auto)]
+
 ghost use Rattle.std.specs.Prelude.{◌≡◌, ◌↔◌, length};
 ghost use Rattle.answer_numbers.specs.Numbers.{answered};
-ghost use Rattle.address_sheet.specs.Sheet.{sheetAnswer};
+ghost use Rattle.address_sheet.specs.Sheet.{sheet_answer};
 ghost use Rattle.address_sheet.specs.Promise.{RightSheet};
-ghost use Rattle.export_sheet.specs.Exported.{givenPsn, givenPsns};
+ghost use Rattle.export_sheet.specs.Exported.{given_psn, given_psns};
 
 use address::Psn;
 use answer_numbers::Answered;
 
 // Number i, 0 where there is none.
 fn number_at(given: &[u32], i: usize) -> u32
-    ensures { result ≡ givenPsn given.now i }
+    ensures { result ≡ given_psn given.now i }
 {
     if i < given.len() {
         return given[i];
@@ -20,7 +22,7 @@ fn number_at(given: &[u32], i: usize) -> u32
 
 // The first 64 numbers as PSNs.
 fn psns_of(given: &[u32]) -> [Psn; address_sheet::SHEET]
-    ensures { result ≡ givenPsns given.now }
+    ensures { result ≡ given_psns given.now }
 {
     let mut psns = [Psn(0); address_sheet::SHEET];
     let mut i = 0;
@@ -33,8 +35,8 @@ fn psns_of(given: &[u32]) -> [Psn; address_sheet::SHEET]
 
 // Judges a sheet of PSNs.
 pub fn judge_sheet(psns: &[u32]) -> Answered
-    ensures value { result ≡ answered (sheetAnswer (length psns.now) (givenPsn psns.now)) }
-    ensures variant { (result.number ≡ 0) ↔ RightSheet (length psns.now) (givenPsn psns.now) }
+    ensures value { result ≡ answered (sheet_answer (length psns.now) (given_psn psns.now)) }
+    ensures variant { (result.number ≡ 0) ↔ RightSheet (length psns.now) (given_psn psns.now) }
 {
     let answer = address_sheet::judge(psns_of(psns), psns.len());
     Answered::of(answer)

@@ -1,4 +1,6 @@
 // The writer for programs in other languages: numbers and slices only.
+#![tactic(auto)]
+
 ghost use Rattle.std.specs.Prelude.{◌≡◌};
 ghost use Rattle.writer.specs.Outcome as writer;
 ghost use Rattle.writer.specs.Promise.{WritesExactly};

@@ -1,9 +1,9 @@
 // `count` pairs are given as the number of their bits.
 ghost use Rattle.std.specs.Prelude.{false, ◌≡◌, ◌*◌, ◌%◌, ◌^◌, ◌<◌, ◌≤◌, length};
 ghost use mathlib.Core.List.{tail};
-ghost use Rattle.modulation.specs.Modulation.{twoNumber, row_at, starts, startsWith010, allowed, fits, modulateFrom, modulate};
-ghost use Rattle.conversion.specs.steps.Rows.{packedRows};
-ghost use Rattle.conversion.specs.steps.Few.{fewPairs, standingRow, Fitting, BitsGiven};
+ghost use Rattle.modulation.specs.Modulation.{two_number, row_at, starts, starts_with010, allowed, fits, modulate_from, modulate};
+ghost use Rattle.conversion.specs.steps.Rows.{packed_rows};
+ghost use Rattle.conversion.specs.steps.Few.{few_pairs, standing_row, Fitting, BitsGiven};
 
 use conversion::{Few, PackedRows, When};
 
@@ -17,8 +17,8 @@ fn last_pairs(count: usize, pairs: u32) -> u32
 
 // Whether the pairs of row k stand first.
 fn pairs_stand(rows: &PackedRows, k: usize, count: usize, pairs: u32) -> bool
-    requires { ((rows.now ≡ packedRows) × (k < 16)) × ((count ≤ 6) × (pairs < 2 ^ (2 * count))) }
-    ensures { result ≡ starts twoNumber (row_at k).pairs (fewPairs count pairs) }
+    requires { ((rows.now ≡ packed_rows) × (k < 16)) × ((count ≤ 6) × (pairs < 2 ^ (2 * count))) }
+    ensures { result ≡ starts two_number (row_at k).pairs (few_pairs count pairs) }
 {
     let r = conversion_rows::steps::row_at(rows, k);
     if count < r.0 {
@@ -29,8 +29,8 @@ fn pairs_stand(rows: &PackedRows, k: usize, count: usize, pairs: u32) -> bool
 
 // The first row whose pairs stand first, or 16.
 fn standing_row(rows: &PackedRows, count: usize, pairs: u32) -> usize
-    requires { (rows.now ≡ packedRows) × ((count ≤ 6) × (pairs < 2 ^ (2 * count))) }
-    ensures { result ≡ standingRow (fewPairs count pairs) }
+    requires { (rows.now ≡ packed_rows) × ((count ≤ 6) × (pairs < 2 ^ (2 * count))) }
+    ensures { result ≡ standing_row (few_pairs count pairs) }
 {
     let mut k = 0;
     while k < 16 {
@@ -44,8 +44,8 @@ fn standing_row(rows: &PackedRows, count: usize, pairs: u32) -> usize
 
 // Whether the modulation bits of the pairs start with 010. Conditions do not change that: the first row that stands there decides it.
 fn starts_with_010(rows: &PackedRows, count: usize, pairs: u32) -> bool
-    requires { (rows.now ≡ packedRows) × ((count ≤ 6) × (pairs < 2 ^ (2 * count))) }
-    ensures { result ≡ startsWith010 (modulate false (fewPairs count pairs)).groups }
+    requires { (rows.now ≡ packed_rows) × ((count ≤ 6) × (pairs < 2 ^ (2 * count))) }
+    ensures { result ≡ starts_with010 (modulate false (few_pairs count pairs)).groups }
 {
     let k = standing_row(rows, count, pairs);
     if k < 16 {
@@ -57,8 +57,8 @@ fn starts_with_010(rows: &PackedRows, count: usize, pairs: u32) -> bool
 
 // Whether the condition of row k, whose pairs stand first, holds after the bit before.
 fn allowed_at(rows: &PackedRows, k: usize, count: usize, pairs: u32, before: bool) -> bool
-    requires { ((rows.now ≡ packedRows) × (k < 16)) × ((count ≤ 6) × ((pairs < 2 ^ (2 * count)) × (length (row_at k).pairs ≤ count))) }
-    ensures { result ≡ allowed (row_at k) (row_at k).when before (fewPairs count pairs) (modulateFrom (tail (fewPairs count pairs))) }
+    requires { ((rows.now ≡ packed_rows) × (k < 16)) × ((count ≤ 6) × ((pairs < 2 ^ (2 * count)) × (length (row_at k).pairs ≤ count))) }
+    ensures { result ≡ allowed (row_at k) (row_at k).when before (few_pairs count pairs) (modulate_from (tail (few_pairs count pairs))) }
 {
     let r = conversion_rows::steps::row_at(rows, k);
     let len = r.0;
@@ -74,8 +74,8 @@ fn allowed_at(rows: &PackedRows, k: usize, count: usize, pairs: u32, before: boo
 
 // Whether row k fits, after the bit before.
 fn fits_at(rows: &PackedRows, k: usize, count: usize, pairs: u32, before: bool) -> bool
-    requires { ((rows.now ≡ packedRows) × (k < 16)) × ((count ≤ 6) × (pairs < 2 ^ (2 * count))) }
-    ensures { result ≡ fits (row_at k) before (fewPairs count pairs) (modulateFrom (tail (fewPairs count pairs))) }
+    requires { ((rows.now ≡ packed_rows) × (k < 16)) × ((count ≤ 6) × (pairs < 2 ^ (2 * count))) }
+    ensures { result ≡ fits (row_at k) before (few_pairs count pairs) (modulate_from (tail (few_pairs count pairs))) }
 {
     if pairs_stand(rows, k, count, pairs) {
         allowed_at(rows, k, count, pairs, before)
@@ -86,7 +86,7 @@ fn fits_at(rows: &PackedRows, k: usize, count: usize, pairs: u32, before: bool) 
 
 // The row of the first word, after the bit before: the first that fits.
 fn fitting_row(rows: &PackedRows, count: usize, pairs: u32, before: bool) -> usize
-    requires { (rows.now ≡ packedRows) × (((0 < count) × (count ≤ 6)) × (pairs < 2 ^ (2 * count))) }
+    requires { (rows.now ≡ packed_rows) × (((0 < count) × (count ≤ 6)) × (pairs < 2 ^ (2 * count))) }
     ensures { Fitting before count pairs result }
 {
     let mut k = 0;
@@ -101,8 +101,8 @@ fn fitting_row(rows: &PackedRows, count: usize, pairs: u32, before: bool) -> usi
 
 // At most six pairs modulated after the bit before, as if the frame ended there.
 pub fn modulate(rows: &PackedRows, count: usize, pairs: u32, before: bool) -> Few
-    requires { (rows.now ≡ packedRows) × ((count ≤ 6) × (pairs < 2 ^ (2 * count))) }
-    ensures { BitsGiven (modulate before (fewPairs count pairs)) result.value result.terminated }
+    requires { (rows.now ≡ packed_rows) × ((count ≤ 6) × (pairs < 2 ^ (2 * count))) }
+    ensures { BitsGiven (modulate before (few_pairs count pairs)) result.value result.terminated }
 {
     let mut value = 0;
     let mut terminated = false;

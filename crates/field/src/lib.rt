@@ -1,12 +1,14 @@
 // 13.7: the elements of the field of 256 elements.
+#![tactic(auto)]
+
 ghost use Rattle.std.specs.Prelude.{◌≡◌, ◌<◌, get_or};
-ghost use Rattle.galois.specs.Tables.{productBy};
+ghost use Rattle.galois.specs.Tables.{product_by};
 ghost use Rattle.galois.specs.Field.{sum, product, power, inverse};
 
 use field_tables::{logs, powers};
 
 // An element: the byte of its coefficients, that of α^7 in the highest bit.
-#[derive(Drop)]
+#[derive(Clone, Copy)]
 pub struct Gf(pub u8);
 
 // A byte as an index or a part of one.
@@ -48,7 +50,7 @@ impl Gf {
 
     // The product by tables that are lent: those of `powers` and `logs` give the field's.
     pub fn product_by(self, other: Gf, powers: &[u8; 256], logs: &[u8; 256]) -> Gf
-        ensures { result.0 ≡ productBy powers.now logs.now self.0 other.0 }
+        ensures { result.0 ≡ product_by powers.now logs.now self.0 other.0 }
     {
         if self.0 == 0 {
             return Gf::ZERO;

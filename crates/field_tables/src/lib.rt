@@ -1,6 +1,8 @@
 // 13.7: the tables of the powers of α and of the logarithms. A constant is copied where it is read, so that a loop takes the tables once.
+#![tactic(auto)]
+
 ghost use Rattle.std.specs.Prelude.{◌≡◌};
-ghost use Rattle.galois.specs.Tables.{powerTable, logTable};
+ghost use Rattle.galois.specs.Tables.{power_table, log_table};
 
 // Entry k is α^k.
 const POWERS: [u8; 256] = [
@@ -37,13 +39,13 @@ const LOGS: [u8; 256] = [
 ];
 
 pub fn powers() -> [u8; 256]
-    ensures { result ≡ powerTable }
+    ensures { result ≡ power_table }
 {
     POWERS
 }
 
 pub fn logs() -> [u8; 256]
-    ensures { result ≡ logTable }
+    ensures { result ≡ log_table }
 {
     LOGS
 }

@@ -1,4 +1,6 @@
 // The field against a second method, with no table: the product by shift and add.
+#![tactic(auto)]
+
 use field::Gf;
 use test_support::lines;
 

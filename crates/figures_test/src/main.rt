@@ -1,6 +1,8 @@
 // What stands in the cells that the standard prints in Figures 23, 26, 31 and 34 to 36, found by the functions that place bytes. Standard
 // input has the places of the cells, each as <kind row column>, in a text that is printed as it is. A colon is a cell that a figure leaves
 // out, or that our text of it has not whole. UC 17,1 and UC 0,2 are read as in column 1 (docs/DECISIONS).
+#![tactic(auto)]
+
 mod cells;
 mod clusters;
 

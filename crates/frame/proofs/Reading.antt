@@ -10,23 +10,23 @@ use lib.Dec.{eqb}
 use lib.ListN.{length, take, drop, length-drop, drop_of_length-le}
 use lib.Seq.{take_all, take_at, drop_at, length-take-le}
 use Rattle.laws.specs.Bytes.{Bytes}
-use Rattle.modulation.specs.Modulation.{Two, lastBit, Modulated, modulate}
-use Rattle.modulation.specs.Bits.{pairs, dataBits, groups, bits, Gives}
-use Rattle.modulation.specs.Sync.{FS, syncId}
+use Rattle.modulation.specs.Modulation.{Two, last_bit, Modulated, modulate}
+use Rattle.modulation.specs.Bits.{pairs, data_bits, groups, bits, Gives}
+use Rattle.modulation.specs.Sync.{FS, sync_id}
 use Rattle.modulation.specs.Stream.{modulated}
 use Rattle.modulation.specs.Demodulator.{demodulate}
-use Rattle.modulation.specs.steps.Words.{bitsIn, WordsRead}
-use Rattle.modulation.proofs.Bits.{length-bits, groups-bits, length_pairs, length-dataBits, pairs-dataBits}
-use Rattle.modulation.proofs.Fronts.{bits-dataBits}
+use Rattle.modulation.specs.steps.Words.{bits_in, WordsRead}
+use Rattle.modulation.proofs.Bits.{length-bits, groups-bits, length_pairs, length-data_bits, pairs-data_bits}
+use Rattle.modulation.proofs.Fronts.{bits-data_bits}
 use Rattle.modulation.proofs.Size.{size}
 use Rattle.laws.proofs.Booleans.{and_left, and_right, and-true, true-T, beq_same, beq-refl}
 use Rattle.modulation.proofs.Statements.{comes_back, injective}
-use Rattle.frame_bits.specs.FrameBits.{frameBits, rowFrom, dcFrom}
-use Rattle.frame.specs.Frame.{framePairs, nextHash}
+use Rattle.frame_bits.specs.FrameBits.{frame_bits, row_from, dc_from}
+use Rattle.frame.specs.Frame.{frame_pairs, next_hash}
 use Rattle.laws.specs.Same.{same}
 use Rattle.frame.specs.declared.FrameRead.{FrameRead}
 use Rattle.frame.specs.declared.FrameRead.TheVariants.{Found, NoFrame}
-use Rattle.frame.specs.Reading.{BitsGive, RowGives, StrictlyRead, bitsRead, readable, frameRead, rowLeft}
+use Rattle.frame.specs.Reading.{BitsGive, RowGives, StrictlyRead, bits_read, readable, frame_read, row_left}
 use Rattle.frame.specs.steps.Taken.{Taken}
 use Rattle.laws.proofs.Same.{same_true, same_refl}
 use Rattle.frame_bits.proofs.FrameBits.{length-frame-bits, frame-bits-bits, frame-bits-back, frame-bits-inj, length-row, bytes-row, dc-word-lt}
@@ -35,7 +35,7 @@ use Rattle.frame_bits.proofs.Unweaving.{length-words-bits, words-bits-bits}
 -- ---- bits, and row and dc word
 
 module _ {n : FS} {m : List ℕ} {hash : Bool} where
-  pub row-bits : {row : List ℕ} {dc : ℕ} → RowGives n row dc m hash → BitsGive n (frameBits row dc) m hash
+  pub row-bits : {row : List ℕ} {dc : ℕ} → RowGives n row dc m hash → BitsGive n (frame_bits row dc) m hash
   row-bits {row} {dc} r =
       record {
         size = length-frame-bits row dc;
@@ -43,7 +43,7 @@ module _ {n : FS} {m : List ℕ} {hash : Bool} where
         gives = record { same_bits = r.bits_are; same_end = r.next-is };
       }
 
-  pub bits-row : {b : List ℕ} → BitsGive n b m hash → RowGives n (rowFrom b) (dcFrom b) m hash
+  pub bits-row : {b : List ℕ} → BitsGive n b m hash → RowGives n (row_from b) (dc_from b) m hash
   bits-row {b} g =
       let back = frame-bits-back b g.are-bits g.size in
       record {
@@ -57,7 +57,7 @@ module _ {n : FS} {m : List ℕ} {hash : Bool} where
   -- the data bits are the only ones
   pub bits-unique : {b c : List ℕ} → BitsGive n b m hash → BitsGive n c m hash → b ≡ c
   bits-unique {b} {c} g h =
-      injective (lastBit false (syncId n)) b c g.are-bits h.are-bits (rw g.size) (rw h.size) (g.gives.same_bits ∙ sym h.gives.same_bits)
+      injective (last_bit false (sync_id n)) b c g.are-bits h.are-bits (rw g.size) (rw h.size) (g.gives.same_bits ∙ sym h.gives.same_bits)
       (g.gives.same_end ∙ sym h.gives.same_end)
 
   -- and so are row and dc word
@@ -67,28 +67,28 @@ module _ {n : FS} {m : List ℕ} {hash : Bool} where
 
 -- a row and a dc word give what is written of them
 pub row_gives : (n : FS) (row : List ℕ) (dc : ℕ) → length row ≡ 155 → Bytes row → dc < 2 ^ 28
-    → RowGives n row dc (bits (modulated n (framePairs row dc)).groups) (nextHash n row dc)
+    → RowGives n row dc (bits (modulated n (frame_pairs row dc)).groups) (next_hash n row dc)
 row_gives n row dc size bytes small = record { size = size; bytes = bytes; small = small; bits_are = refl; next-is = refl }
 
 -- ---- the test
 
 module _ (n : FS) (m : List ℕ) (hash : Bool) where
   -- whatever gives m and # is what the demodulator finds
-  pub bits-read : {b : List ℕ} → BitsGive n b m hash → b ≡ bitsRead n m hash
-  unfolding bitsRead
-  bits-read {b} g = sym (comes_back before b g.are-bits (rw g.size)) ∙ ap (λ (f : Modulated). dataBits (demodulate before f)) is
+  pub bits-read : {b : List ℕ} → BitsGive n b m hash → b ≡ bits_read n m hash
+  unfolding bits_read
+  bits-read {b} g = sym (comes_back before b g.are-bits (rw g.size)) ∙ ap (λ (f : Modulated). data_bits (demodulate before f)) is
     where
       before : Bool
-      before = lastBit false (syncId n)
+      before = last_bit false (sync_id n)
 
       is : modulate before (pairs b) ≡ record { groups = groups m; terminated = hash }
       is = λ i. record { groups = (sym (groups-bits (modulate before (pairs b)).groups) ∙ ap groups g.gives.same_bits) i; terminated = g.gives.same_end i }
 
-  length-given : {ds : List Two} → Gives (lastBit false (syncId n)) ds m hash → length m ≡ 3 * length ds
+  length-given : {ds : List Two} → Gives (last_bit false (sync_id n)) ds m hash → length m ≡ 3 * length ds
   length-given {ds} g =
       sym (ap length g.same_bits)
       ∙ length-bits (modulated n ds).groups
-      ∙ ap (λ (k : ℕ). 3 * k) (size (lastBit false (syncId n)) ds)
+      ∙ ap (λ (k : ℕ). 3 * k) (size (last_bit false (sync_id n)) ds)
 
   pub gives-readable : {b : List ℕ} → BitsGive n b m hash → readable n m hash ≡ true
   unfolding readable
@@ -98,41 +98,41 @@ module _ (n : FS) (m : List ℕ) (hash : Bool) where
       (ap (same (bits f.groups)) (sym (ap (λ (l : List ℕ). bits (modulated n (pairs l)).groups) is ∙ g.gives.same_bits)) ∙ same_refl (bits f.groups))
       (ap (beq f.terminated) (sym (ap (λ (l : List ℕ). (modulated n (pairs l)).terminated) is ∙ g.gives.same_end)) ∙ beq-refl f.terminated))
     where
-      is : bitsRead n m hash ≡ b
+      is : bits_read n m hash ≡ b
       is = sym (bits-read g)
 
       f : Modulated
-      f = modulated n (pairs (bitsRead n m hash))
+      f = modulated n (pairs (bits_read n m hash))
 
       long : length m ≡ 1902
       long = omega (arith, length-given g.gives, length_pairs b, g.size)
 
-  pub readable-gives : readable n m hash ≡ true → BitsGive n (bitsRead n m hash) m hash
-  unfolding readable bitsRead
-  readable-gives e = record { size = long; are-bits = bits-dataBits ds; gives = subst (λ (l : List Two). Gives (lastBit false (syncId n)) l m hash) (sym (pairs-dataBits ds)) given }
+  pub readable-gives : readable n m hash ≡ true → BitsGive n (bits_read n m hash) m hash
+  unfolding readable bits_read
+  readable-gives e = record { size = long; are-bits = bits-data_bits ds; gives = subst (λ (l : List Two). Gives (last_bit false (sync_id n)) l m hash) (sym (pairs-data_bits ds)) given }
     where
       ds : List Two
-      ds = demodulate (lastBit false (syncId n)) (record { groups = groups m; terminated = hash })
+      ds = demodulate (last_bit false (sync_id n)) (record { groups = groups m; terminated = hash })
 
       f : Modulated
-      f = modulated n (pairs (dataBits ds))
+      f = modulated n (pairs (data_bits ds))
 
       again : (same (bits f.groups) m && beq f.terminated hash) ≡ true
       again = and_right (eqb (length m) 1902) _ e
 
-      given : Gives (lastBit false (syncId n)) ds m hash
+      given : Gives (last_bit false (sync_id n)) ds m hash
       given =
           record {
-            same_bits = ap (λ (l : List Two). bits (modulated n l).groups) (sym (pairs-dataBits ds)) ∙ same_true (bits f.groups) m (and_left (same (bits f.groups) m) _ again);
-            same_end = ap (λ (l : List Two). (modulated n l).terminated) (sym (pairs-dataBits ds)) ∙ beq_same f.terminated hash (true-T (beq f.terminated hash) (and_right (same (bits f.groups) m) _ again));
+            same_bits = ap (λ (l : List Two). bits (modulated n l).groups) (sym (pairs-data_bits ds)) ∙ same_true (bits f.groups) m (and_left (same (bits f.groups) m) _ again);
+            same_end = ap (λ (l : List Two). (modulated n l).terminated) (sym (pairs-data_bits ds)) ∙ beq_same f.terminated hash (true-T (beq f.terminated hash) (and_right (same (bits f.groups) m) _ again));
           }
 
-      long : length (dataBits ds) ≡ 1268
-      long = omega (arith, length-dataBits ds, length-given given, eqb-true (length m) 1902 (and_left (eqb (length m) 1902) _ e))
+      long : length (data_bits ds) ≡ 1268
+      long = omega (arith, length-data_bits ds, length-given given, eqb-true (length m) 1902 (and_left (eqb (length m) 1902) _ e))
 
 -- some bits give m and # if and only if the test says so
 pub readable-iff : (n : FS) (m : List ℕ) (hash : Bool) → (readable n m hash ≡ true) ↔ ((b : List ℕ) × BitsGive n b m hash)
-readable-iff n m hash = (λ e. (bitsRead n m hash, readable-gives n m hash e), λ p. gives-readable n m hash p.1)
+readable-iff n m hash = (λ e. (bits_read n m hash, readable-gives n m hash e), λ p. gives-readable n m hash p.1)
 
 -- ---- the reader's answer
 
@@ -143,21 +143,21 @@ module _ {n : FS} {m : List ℕ} {hash : Bool} {before after : List ℕ} {answer
     where
       go : (a : FrameRead) → answer ≡ a → (answer ≡ Found dc) × (after ≡ row)
       go (Found x) e = let u = row-unique (r.found x e) g in (e ∙ ap Found u.1, u.0)
-      go NoFrame e = absurd ((r.none e).1 (frameBits row dc) (row-bits g))
+      go NoFrame e = absurd ((r.none e).1 (frame_bits row dc) (row-bits g))
 
   -- answer and row are those of the definition
-  pub read_is : (answer ≡ frameRead n m hash) × (after ≡ rowLeft n m hash before)
-  unfolding frameRead rowLeft
+  pub read_is : (answer ≡ frame_read n m hash) × (after ≡ row_left n m hash before)
+  unfolding frame_read row_left
   read_is = go (readable n m hash) refl
     where
       b : List ℕ
-      b = bitsRead n m hash
+      b = bits_read n m hash
 
       none : readable n m hash ≡ false → (a : FrameRead) → answer ≡ a → answer ≡ NoFrame
       none f (Found x) e = absurd (true≢false (sym (gives-readable n m hash (row-bits (r.found x e))) ∙ f))
       none f NoFrame e = e
 
-      go : (t : Bool) → readable n m hash ≡ t → (answer ≡ cond (readable n m hash) (Found (dcFrom b)) NoFrame) × (after ≡ cond (readable n m hash) (rowFrom b) before)
+      go : (t : Bool) → readable n m hash ≡ t → (answer ≡ cond (readable n m hash) (Found (dc_from b)) NoFrame) × (after ≡ cond (readable n m hash) (row_from b) before)
       go true t = let u = read-row (bits-row (readable-gives n m hash t)) in rw t (u.0, u.1)
       go false t = let e = none t answer refl in rw t (e, (r.none e).0)
 
@@ -170,23 +170,23 @@ pub no_found : {dc : ℕ} → Found dc ≡ NoFrame → ⊥
 no_found e = let z : ◌≡◌ {A = ℕ} 0 1 = cc in omega arith
 
 -- the frame taken out of the words that were read; b is the sync's last bit
-pub reads : (n : FS) {b hash x : Bool} {m ws before after : List ℕ} {answer : FrameRead} → b ≡ lastBit false (syncId n) → WordsRead b m hash x ws
+pub reads : (n : FS) {b hash x : Bool} {m ws before after : List ℕ} {answer : FrameRead} → b ≡ last_bit false (sync_id n) → WordsRead b m hash x ws
     → Taken ws x before answer after → StrictlyRead n m hash before answer after
 reads n {b} {hash} {x} {m} {ws} {before} {after} {answer} eb d t = by x refl
   where
-    words-give : x ≡ true → BitsGive n (bitsIn ws) m hash
+    words-give : x ≡ true → BitsGive n (bits_in ws) m hash
     words-give e =
         record {
           size = length-words-bits ws;
           are-bits = words-bits-bits ws;
-          gives = subst (λ (y : Bool). Gives y (pairs (bitsIn ws)) m hash) eb (d.found e);
+          gives = subst (λ (y : Bool). Gives y (pairs (bits_in ws)) m hash) eb (d.found e);
         }
 
     by : (y : Bool) → x ≡ y → StrictlyRead n m hash before answer after
     by true e =
         let is = t.there e in
         record {
-          found = λ v f. let same : v ≡ dcFrom (bitsIn ws) = found-is v (dcFrom (bitsIn ws)) (sym f ∙ is.0) in rw (is.1, same) (bits-row (words-give e));
+          found = λ v f. let same : v ≡ dc_from (bits_in ws) = found-is v (dc_from (bits_in ws)) (sym f ∙ is.0) in rw (is.1, same) (bits-row (words-give e));
           none = λ f. absurd (no_found (sym is.0 ∙ f));
         }
     by false e =
@@ -196,7 +196,7 @@ reads n {b} {hash} {x} {m} {ws} {before} {after} {answer} eb d t = by x refl
           none = λ _. (is.1, λ c g. d.none e (pairs c) (subst (λ (y : Bool). Gives y (pairs c) m hash) (sym eb) g.gives));
         }
 
-pub taken-there : {ws before after : List ℕ} {x : Bool} {dc : ℕ} → x ≡ true → after ≡ rowFrom (bitsIn ws) → dc ≡ dcFrom (bitsIn ws) → Taken ws x before (Found dc) after
+pub taken-there : {ws before after : List ℕ} {x : Bool} {dc : ℕ} → x ≡ true → after ≡ row_from (bits_in ws) → dc ≡ dc_from (bits_in ws) → Taken ws x before (Found dc) after
 taken-there e er ed = record { there = λ _. (ap Found ed, er); none = λ f. absurd (true≢false (sym e ∙ f)) }
 
 pub taken_none : {ws before : List ℕ} {x : Bool} → x ≡ false → Taken ws x before NoFrame before
@@ -209,7 +209,7 @@ taken-size : {ws before after : List ℕ} {x : Bool} {answer : FrameRead} → Ta
 taken-size {ws} {before} {after} {x} t size = by x refl
   where
     by : (y : Bool) → x ≡ y → length after ≡ 155
-    by true e = ap length (t.there e).1 ∙ length-row (bitsIn ws) (words-bits-bits ws)
+    by true e = ap length (t.there e).1 ∙ length-row (bits_in ws) (words-bits-bits ws)
     by false e = ap length (t.none e).1 ∙ size
 
 -- p is left in the first half of rows, and then q in the second half

@@ -1,22 +1,23 @@
 // Recording frames (13.15, 13.17.4): a row of 155 bytes and a dc word, 1,932 modulation bits; what is read and handed on. No functions.
+#![tactic(auto)]
 
 // What the strict reader finds: the dc word, or that no 1,268 bits give the frame and # of the next sync. It has no number of its own: 11 is the
 // reader's answer.
-#[derive(Drop)]
+#[derive(Clone, Copy)]
 pub enum FrameRead {
     Found(u32),
     NoFrame,
 }
 
 // What is found of two frames.
-#[derive(Drop)]
+#[derive(Clone, Copy)]
 pub struct TwoRead {
     pub first: FrameRead,
     pub second: FrameRead,
 }
 
 // What a frame hands on to the next: # of its sync.
-#[derive(Drop)]
+#[derive(Clone, Copy)]
 pub struct State {
     pub hash: bool,
 }

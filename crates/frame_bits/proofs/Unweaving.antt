@@ -15,11 +15,11 @@ use Rattle.laws.specs.Tabulate.{tabulate}
 use Rattle.laws.proofs.Finite.{both, both_left, both_right}
 use Rattle.laws.proofs.Tabulate.{length-tabulate, get_d_tabulate, is-tabulate}
 use Rattle.laws.proofs.Fill.{Upto, upto-more, upto_all}
-use Rattle.bits.specs.Bits.{Bits, number, bitsOfNumber}
-use Rattle.bits.proofs.Number.{length-bits-of, getD-bits-of, number-of-bits}
-use Rattle.bits.proofs.Pack.{getD-packed}
+use Rattle.bits.specs.Bits.{Bits, number, bits_of_number}
+use Rattle.bits.proofs.Number.{length-bits-of, get_d-bits-of, number-of-bits}
+use Rattle.bits.proofs.Pack.{get_d-packed}
 use Rattle.modulation.specs.steps.Words as words
-use Rattle.frame_bits.specs.FrameBits.{dataPlace, dcPlace, rowFrom, dcFrom}
+use Rattle.frame_bits.specs.FrameBits.{data_place, dc_place, row_from, dc_from}
 use Rattle.frame_bits.specs.steps.Slices.{FiveBytes}
 use Rattle.frame_bits.proofs.FrameBits.{length-row}
 use Rattle.frame_bits.proofs.Window.{in-first, in-second}
@@ -70,55 +70,55 @@ module _ {f : ℕ → ℕ} {n : ℕ} where
 -- ---- the row and the dc word
 
 -- bit i of byte k of the row, and bit i of the dc word, in a frame's bits b
-unfoldable pub rowBit : List ℕ → ℕ → ℕ → ℕ
-rowBit b k i = get_or b (dataPlace (8 * k + i)) 0
+unfoldable pub row_bit : List ℕ → ℕ → ℕ → ℕ
+row_bit b k i = get_or b (data_place (8 * k + i)) 0
 
-unfoldable pub dcBit : List ℕ → ℕ → ℕ
-dcBit b i = get_or b (dcPlace i) 0
+unfoldable pub dc_bit : List ℕ → ℕ → ℕ
+dc_bit b i = get_or b (dc_place i) 0
 
-pub row-byte : (b : List ℕ) (k v : ℕ) → k < 155 → v ≡ number (tabulate 8 (rowBit b k)) → v ≡ get_or (rowFrom b) k 0
-unfolding rowFrom rowBit
-row-byte b k v h e = e ∙ sym (getD-packed all k (omega (arith, size)) ∙ ap number eight)
+pub row-byte : (b : List ℕ) (k v : ℕ) → k < 155 → v ≡ number (tabulate 8 (row_bit b k)) → v ≡ get_or (row_from b) k 0
+unfolding row_from row_bit
+row-byte b k v h e = e ∙ sym (get_d-packed all k (omega (arith, size)) ∙ ap number eight)
   where
     all : List ℕ
-    all = tabulate 1240 (λ p. get_or b (dataPlace p) 0)
+    all = tabulate 1240 (λ p. get_or b (data_place p) 0)
 
     size : length all ≡ 1240
-    size = length-tabulate 1240 (λ p. get_or b (dataPlace p) 0)
+    size = length-tabulate 1240 (λ p. get_or b (data_place p) 0)
 
-    eight : take 8 (drop (8 * k) all) ≡ tabulate 8 (rowBit b k)
+    eight : take 8 (drop (8 * k) all) ≡ tabulate 8 (row_bit b k)
     eight =
-        is-tabulate 0 8 (rowBit b k) (take 8 (drop (8 * k) all)) (length-take-le 8 (drop (8 * k) all) (omega (arith, length-drop (8 * k) all, size)))
+        is-tabulate 0 8 (row_bit b k) (take 8 (drop (8 * k) all)) (length-take-le 8 (drop (8 * k) all) (omega (arith, length-drop (8 * k) all, size)))
         (λ i hi.
         get_or-take 8 (drop (8 * k) all) i 0 hi
         ∙ get_or-drop (8 * k) all i 0
-        ∙ get_d_tabulate 1240 (λ p. get_or b (dataPlace p) 0) (8 * k + i) 0 (omega arith))
+        ∙ get_d_tabulate 1240 (λ p. get_or b (data_place p) 0) (8 * k + i) 0 (omega arith))
 
-pub dc-word : (b : List ℕ) {v : ℕ} → v ≡ number (tabulate 28 (dcBit b)) → v ≡ dcFrom b
-unfolding dcFrom dcBit
+pub dc-word : (b : List ℕ) {v : ℕ} → v ≡ number (tabulate 28 (dc_bit b)) → v ≡ dc_from b
+unfolding dc_from dc_bit
 dc-word b e = e
 
 -- ---- out of words
 
 -- bit j of the words
-pub word-bit : (ws : List ℕ) (j : ℕ) → j < 1268 → get_or (words.bitsIn ws) j 0 ≡ get_or ws ((j + 20) / 46) 0 / 2 ^ (45 - (j + 20) % 46) % 2
-unfolding words.bitsIn
+pub word-bit : (ws : List ℕ) (j : ℕ) → j < 1268 → get_or (words.bits_in ws) j 0 ≡ get_or ws ((j + 20) / 46) 0 / 2 ^ (45 - (j + 20) % 46) % 2
+unfolding words.bits_in
 word-bit ws j h = get_d_tabulate 1268 (λ j. get_or ws ((j + 20) / 46) 0 / 2 ^ (45 - (j + 20) % 46) % 2) j 0 h
 
-pub length-words-bits : (ws : List ℕ) → length (words.bitsIn ws) ≡ 1268
-unfolding words.bitsIn
+pub length-words-bits : (ws : List ℕ) → length (words.bits_in ws) ≡ 1268
+unfolding words.bits_in
 length-words-bits ws = length-tabulate 1268 (λ j. get_or ws ((j + 20) / 46) 0 / 2 ^ (45 - (j + 20) % 46) % 2)
 
-pub words-bits-bits : (ws : List ℕ) → Bits (words.bitsIn ws)
+pub words-bits-bits : (ws : List ℕ) → Bits (words.bits_in ws)
 words-bits-bits ws j =
     elim (dec_lt j 1268) [
       | yes h ↦ subst (λ (n : ℕ). n < 2) (sym (word-bit ws j h)) (mod-lt (get_or ws ((j + 20) / 46) 0 / 2 ^ (45 - (j + 20) % 46)) (zero-lt-suc 1))
-      | no h ↦ subst (λ (n : ℕ). n < 2) (sym (get_or-eq_default (words.bitsIn ws) 0 {n = j} (omega (arith, length-words-bits ws)))) (omega arith)
+      | no h ↦ subst (λ (n : ℕ). n < 2) (sym (get_or-eq_default (words.bits_in ws) 0 {n = j} (omega (arith, length-words-bits ws)))) (omega arith)
     ]
 
 -- the dc-control bit of word i
-pub dc-of-word : (ws : List ℕ) (i : ℕ) → i < 28 → (get_or ws i 0 % 2 ≡ dcBit (words.bitsIn ws) i) × (get_or ws i 0 % 2 < 2)
-unfolding dcBit
+pub dc-of-word : (ws : List ℕ) (i : ℕ) → i < 28 → (get_or ws i 0 % 2 ≡ dc_bit (words.bits_in ws) i) × (get_or ws i 0 % 2 < 2)
+unfolding dc_bit
 dc-of-word ws i h =
     let word : (46 * i + 25 + 20) / 46 ≡ i = omega arith in
     let place : 45 - (46 * i + 25 + 20) % 46 ≡ 0 = omega arith in
@@ -159,9 +159,9 @@ module _ (ws : List ℕ) (m : ℕ) (hm : m < 31) (h : (i : ℕ) → get_or ws i 
   small = omega (arith, h (i + 1))
 
   -- bit t of word k, without its dc-control bit
-  row-bit : (u k t : ℕ) → u < 40 → (40 * m + u + 20) / 45 ≡ k → (40 * m + u + 20) % 45 ≡ t → get_or ws k 0 / 2 / 2 ^ (44 - t) % 2 ≡ get_or (words.bitsIn ws) (dataPlace (40 * m + u)) 0
+  row-bit : (u k t : ℕ) → u < 40 → (40 * m + u + 20) / 45 ≡ k → (40 * m + u + 20) % 45 ≡ t → get_or ws k 0 / 2 / 2 ^ (44 - t) % 2 ≡ get_or (words.bits_in ws) (data_place (40 * m + u)) 0
   row-bit u k t hu ek et =
-      let j : ℕ = dataPlace (40 * m + u) in
+      let j : ℕ = data_place (40 * m + u) in
       let word : (j + 20) / 46 ≡ k = omega arith in
       let place : (j + 20) % 46 ≡ t = omega arith in
       let one : 1 + (44 - t) ≡ 45 - t = omega arith in
@@ -170,7 +170,7 @@ module _ (ws : List ℕ) (m : ℕ) (hm : m < 31) (h : (i : ℕ) → get_or ws i 
 
   module _ {v : ℕ} (is : v ≡ (a * 2 ^ off % 2 ^ 64 % 2 ^ 45 + b / 2 ^ (45 - off)) / 32) where
     -- bit u of the forty
-    five-bit : (u : ℕ) → u < 40 → v / 2 ^ (39 - u) % 2 ≡ get_or (words.bitsIn ws) (dataPlace (40 * m + u)) 0
+    five-bit : (u : ℕ) → u < 40 → v / 2 ^ (39 - u) % 2 ≡ get_or (words.bits_in ws) (data_place (40 * m + u)) 0
     five-bit u hu =
         let within : off < 45 = omega arith in
         elim (dec_lt (off + u) 45) [
@@ -178,21 +178,21 @@ module _ (ws : List ℕ) (m : ℕ) (hm : m < 31) (h : (i : ℕ) → get_or ws i 
           | no h ↦ in-second 45 a b off small within (omega arith) 40 (omega arith) is u hu (omega arith) ∙ row-bit u (i + 1) (off + u - 45) hu (omega arith) (omega arith)
         ]
 
-    pub five-bytes : FiveBytes (rowFrom (words.bitsIn ws)) m v
-    unfolding rowBit
-    five-bytes = record { each = λ t ht. (row-byte (words.bitsIn ws) (5 * m + t) (v / 2 ^ (32 - 8 * t) % 256) (omega arith) (sym (number-of-bits 8 (v / 2 ^ (32 - 8 * t))) ∙ ap number (eight t ht))) }
+    pub five-bytes : FiveBytes (row_from (words.bits_in ws)) m v
+    unfolding row_bit
+    five-bytes = record { each = λ t ht. (row-byte (words.bits_in ws) (5 * m + t) (v / 2 ^ (32 - 8 * t) % 256) (omega arith) (sym (number-of-bits 8 (v / 2 ^ (32 - 8 * t))) ∙ ap number (eight t ht))) }
       where
-        eight : (t : ℕ) → t < 5 → bitsOfNumber 8 (v / 2 ^ (32 - 8 * t)) ≡ tabulate 8 (rowBit (words.bitsIn ws) (5 * m + t))
-        eight t ht = is-tabulate 0 8 (rowBit (words.bitsIn ws) (5 * m + t)) (bitsOfNumber 8 (v / 2 ^ (32 - 8 * t))) (length-bits-of 8 (v / 2 ^ (32 - 8 * t))) (at t ht)
+        eight : (t : ℕ) → t < 5 → bits_of_number 8 (v / 2 ^ (32 - 8 * t)) ≡ tabulate 8 (row_bit (words.bits_in ws) (5 * m + t))
+        eight t ht = is-tabulate 0 8 (row_bit (words.bits_in ws) (5 * m + t)) (bits_of_number 8 (v / 2 ^ (32 - 8 * t))) (length-bits-of 8 (v / 2 ^ (32 - 8 * t))) (at t ht)
           where
-            at : (t : ℕ) → t < 5 → (j : ℕ) → j < 8 → get_or (bitsOfNumber 8 (v / 2 ^ (32 - 8 * t))) j 0 ≡ rowBit (words.bitsIn ws) (5 * m + t) j
+            at : (t : ℕ) → t < 5 → (j : ℕ) → j < 8 → get_or (bits_of_number 8 (v / 2 ^ (32 - 8 * t))) j 0 ≡ row_bit (words.bits_in ws) (5 * m + t) j
             at t ht j hj =
                 let sum : 32 - 8 * t + (8 - 1 - j) ≡ 39 - (8 * t + j) = omega arith in
                 let place : 40 * m + (8 * t + j) ≡ 8 * (5 * m + t) + j = omega arith in
-                getD-bits-of 8 (v / 2 ^ (32 - 8 * t)) j hj
+                get_d-bits-of 8 (v / 2 ^ (32 - 8 * t)) j hj
                 ∙ ap (λ (n : ℕ). n % 2) (shr-shr v (32 - 8 * t) (8 - 1 - j) ∙ ap (λ (n : ℕ). v / 2 ^ n) sum)
                 ∙ five-bit (8 * t + j) (omega arith)
-                ∙ ap (λ (p : ℕ). get_or (words.bitsIn ws) (dataPlace p) 0) place
+                ∙ ap (λ (p : ℕ). get_or (words.bits_in ws) (data_place p) 0) place
 
 -- five bytes more of the row
 pub row-five : {row l : List ℕ} {m v : ℕ} → m < 31 → FiveBytes row m v → Upto 0 (λ k. get_or row k 0) 155 (5 * m) l
@@ -214,5 +214,5 @@ row-five {row} {l} {m} {v} h five u =
     front : (m : ℕ) → 5 * m + 0 ≡ 5 * m
     front m = omega arith
 
-pub row-all : (b : List ℕ) {row : List ℕ} {m : ℕ} → Bits b → 31 ≤ m → Upto 0 (λ k. get_or (rowFrom b) k 0) 155 (5 * m) row → row ≡ rowFrom b
-row-all b bits h u = upto_all (omega arith) u ∙ sym (is-tabulate 0 155 (λ k. get_or (rowFrom b) k 0) (rowFrom b) (length-row b bits) (λ k _. refl))
+pub row-all : (b : List ℕ) {row : List ℕ} {m : ℕ} → Bits b → 31 ≤ m → Upto 0 (λ k. get_or (row_from b) k 0) 155 (5 * m) row → row ≡ row_from b
+row-all b bits h u = upto_all (omega arith) u ∙ sym (is-tabulate 0 155 (λ k. get_or (row_from b) k 0) (row_from b) (length-row b bits) (λ k _. refl))

@@ -13,10 +13,10 @@ use Rattle.laws.proofs.Tabulate.{is-tabulate}
 use Rattle.bits.specs.Bits.{bits_of}
 use Rattle.bits.proofs.Bits.{bit_in}
 use Rattle.modulation.specs.steps.Words as words
-use Rattle.frame_bits.specs.FrameBits.{frameBit, frameBits}
+use Rattle.frame_bits.specs.FrameBits.{frame_bit, frame_bits}
 use Rattle.frame_bits.specs.steps.Words.{Word, GroupData, SixteenFrom, SixteenOn, bit_of, LastTwo}
 use Rattle.modulation.specs.Bits.{pairs}
-use Rattle.modulation.specs.steps.Pairs.{bytePairs}
+use Rattle.modulation.specs.steps.Pairs.{byte_pairs}
 use Rattle.frame_bits.proofs.FrameBits.{data-bit, dc-bit}
 use Rattle.frame_bits.proofs.Pairs.{eight-pairs, last-pairs}
 use Rattle.frame_bits.proofs.Unweaving.{word-bit, length-words-bits}
@@ -25,21 +25,21 @@ use Rattle.frame_bits.proofs.Window.{low_bit, joined, window-lt, in-first, in-se
 -- ---- bytes of a row
 
 -- bit p of a row
-abbrev rowBits : List ℕ → ℕ → ℕ
-rowBits row p = get_or (bits_of row) p 0
+abbrev row_bits : List ℕ → ℕ → ℕ
+row_bits row p = get_or (bits_of row) p 0
 
 module _ (row : List ℕ) (bytes : Bytes row) where
-  byte : (p k : ℕ) {x : ℕ} → p ≡ 8 * k → k < length row → x ≡ get_or row k 0 → Word 8 (rowBits row) p x
+  byte : (p k : ℕ) {x : ℕ} → p ≡ 8 * k → k < length row → x ≡ get_or row k 0 → Word 8 (row_bits row) p x
   byte p k {x} e h is =
       record {
         small = subst (λ (y : ℕ). y < 256) (sym is) (bytes k);
         bit = λ j hj. ap (λ (y : ℕ). y / 2 ^ (7 - j) % 2) is ∙ sym (bit_in row (p + j) k j (omega arith) h hj);
       }
 
-  pub four_bytes : (i : ℕ) {x y z t : ℕ} → i + 3 < length row → x ≡ get_or row i 0 → y ≡ get_or row (i + 1) 0 → z ≡ get_or row (i + 2) 0 → t ≡ get_or row (i + 3) 0
-      → Word 32 (rowBits row) (8 * i) (x * 16777216 + y * 65536 + z * 256 + t)
-  four_bytes i {x} {y} {z} {t} h ex ey ez et =
-      subst (Word 32 (rowBits row) (8 * i)) (sym (horner x y z t))
+  pub four-bytes : (i : ℕ) {x y z t : ℕ} → i + 3 < length row → x ≡ get_or row i 0 → y ≡ get_or row (i + 1) 0 → z ≡ get_or row (i + 2) 0 → t ≡ get_or row (i + 3) 0
+      → Word 32 (row_bits row) (8 * i) (x * 16777216 + y * 65536 + z * 256 + t)
+  four-bytes i {x} {y} {z} {t} h ex ey ez et =
+      subst (Word 32 (row_bits row) (8 * i)) (sym (horner x y z t))
       (joined 24 8 (8 * i)
       (joined 16 8 (8 * i)
       (joined 8 8 (8 * i) (byte (8 * i) i refl (omega arith) ex) (byte (8 * i + 8) (i + 1) (omega arith) (omega arith) ey))
@@ -54,17 +54,17 @@ eight-bytes {f} {a} {b} i u v = let place : 8 * (i + 4) ≡ 8 * i + 32 = omega a
 
 -- ---- the data bits of a group
 
-pub first_group : {row : List ℕ} {v : ℕ} (i : ℕ) → i ≡ 0 → Word 32 (rowBits row) 0 v → GroupData row i (v / 128)
-first_group {row} {v} i e u =
+pub first-group : {row : List ℕ} {v : ℕ} (i : ℕ) → i ≡ 0 → Word 32 (row_bits row) 0 v → GroupData row i (v / 128)
+first-group {row} {v} i e u =
     record {
       small = omega (arith, u.small);
       bit = λ t ht some.
           let all : 7 + (44 - t) ≡ 31 - (t - 20) = omega arith in
           let place : 0 + (t - 20) ≡ 45 * i + t - 20 = omega arith in
-          ap (λ (x : ℕ). x % 2) (shr-shr v 7 (44 - t) ∙ ap (λ (k : ℕ). v / 2 ^ k) all) ∙ u.bit (t - 20) (omega arith) ∙ ap (rowBits row) place;
+          ap (λ (x : ℕ). x % 2) (shr-shr v 7 (44 - t) ∙ ap (λ (k : ℕ). v / 2 ^ k) all) ∙ u.bit (t - 20) (omega arith) ∙ ap (row_bits row) place;
     }
 
-pub later-group : {row : List ℕ} {v : ℕ} (i e s : ℕ) → 0 < i → 8 * e ≡ 45 * i + 25 + s → s < 8 → Word 64 (rowBits row) (8 * (e - 8)) v
+pub later-group : {row : List ℕ} {v : ℕ} (i e s : ℕ) → 0 < i → 8 * e ≡ 45 * i + 25 + s → s < 8 → Word 64 (row_bits row) (8 * (e - 8)) v
     → GroupData row i (v / 2 ^ s % 2 ^ 45)
 later-group {row} {v} i e s hi there hs u =
     record {
@@ -75,7 +75,7 @@ later-group {row} {v} i e s hi there hs u =
           low_bit 45 (v / 2 ^ s) (44 - t) (omega arith)
           ∙ ap (λ (x : ℕ). x % 2) (shr-shr v s (44 - t) ∙ ap (λ (k : ℕ). v / 2 ^ k) all)
           ∙ u.bit (19 - s + t) (omega arith)
-          ∙ ap (rowBits row) place;
+          ∙ ap (row_bits row) place;
     }
 
 -- ---- the words
@@ -83,7 +83,7 @@ later-group {row} {v} i e s hi there hs u =
 -- v is word i
 pub record WordIs (row : List ℕ) (dc i v : ℕ) : Type 0 where
   pub small : v < 70368744177664
-  pub bit : (t : ℕ) → t < 46 → 20 ≤ 46 * i + t → v / 2 ^ (45 - t) % 2 ≡ frameBit row dc (46 * i + t - 20)
+  pub bit : (t : ℕ) → t < 46 → 20 ≤ 46 * i + t → v / 2 ^ (45 - t) % 2 ≡ frame_bit row dc (46 * i + t - 20)
 
 word-is : {row : List ℕ} {dc i w d : ℕ} → GroupData row i w → d ≡ dc / 2 ^ (27 - i) % 2 → WordIs row dc i (w * 2 + d)
 word-is {row} {dc} {i} {w} {d} g e =
@@ -107,7 +107,7 @@ word-is {row} {dc} {i} {w} {d} g e =
                 ap (λ (k : ℕ). (w * 2 + d) / 2 ^ k % 2) up
                 ∙ ap (λ (x : ℕ). x % 2) (sym (shr-shr (w * 2 + d) 1 (44 - t)) ∙ ap (λ (x : ℕ). x / 2 ^ (44 - t)) (half w d bit-lt))
                 ∙ g.bit t (omega arith) (omega arith)
-                ∙ sym (data-bit row dc j (λ position. omega arith) ∙ ap (λ (k : ℕ). get_or (bits_of row) (j - k) 0) group ∙ ap (rowBits row) place)
+                ∙ sym (data-bit row dc j (λ position. omega arith) ∙ ap (λ (k : ℕ). get_or (bits_of row) (j - k) 0) group ∙ ap (row_bits row) place)
           ];
     }
   where
@@ -150,22 +150,22 @@ module _ {row : List ℕ} {dc : ℕ} where
             ];
       }
 
-  pub words-all : {i : ℕ} {ws : List ℕ} → 28 ≤ i → WordsTo row dc i ws → words.Words ws × (words.bitsIn ws ≡ frameBits row dc)
-  unfolding frameBits
-  words-all {i} {ws} h u = (u.fit, is-tabulate 0 1268 (frameBit row dc) (words.bitsIn ws) (length-words-bits ws) at)
+  pub words-all : {i : ℕ} {ws : List ℕ} → 28 ≤ i → WordsTo row dc i ws → words.Words ws × (words.bits_in ws ≡ frame_bits row dc)
+  unfolding frame_bits
+  words-all {i} {ws} h u = (u.fit, is-tabulate 0 1268 (frame_bit row dc) (words.bits_in ws) (length-words-bits ws) at)
     where
-      at : (j : ℕ) → j < 1268 → get_or (words.bitsIn ws) j 0 ≡ frameBit row dc j
+      at : (j : ℕ) → j < 1268 → get_or (words.bits_in ws) j 0 ≡ frame_bit row dc j
       at j hj =
           let place : 46 * ((j + 20) / 46) + (j + 20) % 46 - 20 ≡ j = omega arith in
           word-bit ws j hj
           ∙ (u.each ((j + 20) / 46) (omega arith)).bit ((j + 20) % 46) (omega arith) (omega arith)
-          ∙ ap (frameBit row dc) place
+          ∙ ap (frame_bit row dc) place
 
 -- ---- bits of the words
 
 -- sixteen from bit m on, which is bit c of word i
 pub sixteen : (ws : List ℕ) (i c m : ℕ) {v : ℕ} → words.Words ws → m + 20 ≡ 46 * i + c → c < 46 → m ≤ 1252
-    → v ≡ (get_or ws i 0 * 2 ^ c % 2 ^ 64 % 2 ^ 46 + get_or ws (i + 1) 0 / 2 ^ (46 - c)) / 2 ^ 30 → Word 16 (λ j. get_or (words.bitsIn ws) j 0) m v
+    → v ≡ (get_or ws i 0 * 2 ^ c % 2 ^ 64 % 2 ^ 46 + get_or ws (i + 1) 0 / 2 ^ (46 - c)) / 2 ^ 30 → Word 16 (λ j. get_or (words.bits_in ws) j 0) m v
 sixteen ws i c m {v} fit e hc hm is =
     let a : ℕ = get_or ws i 0 in
     let b : ℕ = get_or ws (i + 1) 0 in
@@ -189,9 +189,9 @@ sixteen ws i c m {v} fit e hc hm is =
     }
 
 -- the last four
-pub last-four : (ws : List ℕ) → LastTwo (pairs (words.bitsIn ws)) (get_or ws 27 0 % 16)
+pub last-four : (ws : List ℕ) → LastTwo (pairs (words.bits_in ws)) (get_or ws 27 0 % 16)
 last-four ws =
-    last-pairs (words.bitsIn ws) (length-words-bits ws) (get_or ws 27 0 % 16)
+    last-pairs (words.bits_in ws) (length-words-bits ws) (get_or ws 27 0 % 16)
     (record {
       small = mod-lt (get_or ws 27 0) (zero-lt-suc 15);
       bit = λ j hj.
@@ -219,6 +219,6 @@ module _ {k place : ℕ} (a : At k place) where
   at_more n = record { position = n.position; bit = omega (arith, a.bit, n.on) }
 
   -- sixteen bits there are eight pairs
-  pub at-pairs : (ws : List ℕ) {v : ℕ} → k < 79 → Word 16 (λ j. get_or (words.bitsIn ws) j 0) (bit_of place - 20) v
-      → take 8 (drop (8 * k) (pairs (words.bitsIn ws))) ≡ bytePairs (v / 256) ++ bytePairs (v % 256)
-  at-pairs ws {v} h u = eight-pairs (words.bitsIn ws) (length-words-bits ws) k (bit_of place - 20) v h (omega (arith, a.bit)) u
+  pub at-pairs : (ws : List ℕ) {v : ℕ} → k < 79 → Word 16 (λ j. get_or (words.bits_in ws) j 0) (bit_of place - 20) v
+      → take 8 (drop (8 * k) (pairs (words.bits_in ws))) ≡ byte_pairs (v / 256) ++ byte_pairs (v % 256)
+  at-pairs ws {v} h u = eight-pairs (words.bits_in ws) (length-words-bits ws) k (bit_of place - 20) v h (omega (arith, a.bit)) u

@@ -1,10 +1,12 @@
 // How often each gap length occurs in a frame: the answer of the tally program (document 01).
+#![tactic(auto)]
+
 ghost use Rattle.std.specs.Prelude.{◌≡◌, ◌<◌, length};
-ghost use Rattle.gaps.specs.Gaps.{gapCounts};
+ghost use Rattle.gaps.specs.Gaps.{gap_counts};
 ghost use Rattle.frame_sync.specs.Sync.{fs};
 ghost use Rattle.frame.specs.Frame.{frame};
 ghost use Rattle.frame_gaps.specs.Tally.{refusal, tallied};
-ghost use Rattle.sizes.specs.Sizes.{rowSize};
+ghost use Rattle.sizes.specs.Sizes.{row_size};
 
 use big_endian::steps::word_at;
 use frame::State;
@@ -12,8 +14,8 @@ use gaps::Tally;
 
 // The counts of the frame of a row and a dc word.
 fn frame_counts(row: &[u8], dc: u32, number: usize, hash: bool) -> [u32; 8]
-    requires { (length row.now ≡ rowSize) × (number < 7) }
-    ensures { result ≡ gapCounts (frame hash (fs number) row.now dc) }
+    requires { (length row.now ≡ row_size) × (number < 7) }
+    ensures { result ≡ gap_counts (frame hash (fs number) row.now dc) }
 {
     let mut table = modulator_table::steps::no_table();
     modulator_table::steps::fill_table(&mut table);

@@ -1,4 +1,6 @@
 // The tally's answers to inputs of a known cluster. Standard input holds seven records of 161 bytes: #, sync number, dc word, row.
+#![tactic(auto)]
+
 use gaps::Tally;
 use test_support::{compare, lines};
 

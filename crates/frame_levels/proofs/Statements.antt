@@ -6,15 +6,15 @@ use Prim.Native.Nat.{ℕ, ◌+◌, ◌-◌, ◌*◌, ◌<◌, ◌≤◌}
 use native.Mathlib.Omega.{arith}
 use lib.ListN.{take, drop}
 use Rattle.modulation.specs.Bits.{bits}
-use Rattle.modulation.specs.Sync.{syncNumber}
+use Rattle.modulation.specs.Sync.{sync_number}
 use Rattle.modulation.specs.Stream.{hash, recorded, run}
 use Rattle.modulation.proofs.Streams.{frame-bits, sync-bits}
 use Rattle.frame_sync.proofs.SyncRight.{hash-as-read}
-use Rattle.channel.specs.Channel.{levelAfter, sumAfter, Carried}
+use Rattle.channel.specs.Channel.{level_after, sum_after, Carried}
 use Rattle.channel.proofs.Channel.{level-other, sum-other}
 use Rattle.recording.specs.State.{handedOn}
 use Rattle.recording.proofs.State.{state-bound, state-frame}
-use Rattle.image.specs.Image.{Input, recording, imageBits}
+use Rattle.image.specs.Image.{Input, recording, image_bits}
 use Rattle.image.proofs.Recordings.{full, frames-front}
 use Rattle.frame_levels.specs.Levels.{Travels, Onward, Small, Other}
 
@@ -23,12 +23,12 @@ pub travels : (input : Input) (level : Bool) (n : ℕ) → n ≤ 496 → Travels
 unfolding handedOn
 travels input level n h =
     record {
-      hash-is = sym (hash-as-read (syncNumber n) (imageBits input) (1932 * n) (hash (recording input) n) (unfold imageBits in sync-bits (recording input) 496 n (full input 496) h));
-      level-is = ap (levelAfter level) (sym front);
-      sum_is = ap (sumAfter level) (sym front);
+      hash-is = sym (hash-as-read (sync_number n) (image_bits input) (1932 * n) (hash (recording input) n) (unfold image_bits in sync-bits (recording input) 496 n (full input 496) h));
+      level-is = ap (level_after level) (sym front);
+      sum_is = ap (sum_after level) (sym front);
     }
   where
-    front : take (1932 * n) (imageBits input) ≡ bits (run (recording input) n)
+    front : take (1932 * n) (image_bits input) ≡ bits (run (recording input) n)
     front = frames-front input n (496 - n) (omega arith)
 
 -- EACH FRAME TAKES THEM ON BY ITS OWN BITS
@@ -38,8 +38,8 @@ onward input level n h =
     let behind = handedOn (recording input) level (n + 1) in
     subst (λ (b : List ℕ). Carried before.level before.sum b behind.level behind.sum) (sym here) (state-frame (recording input) level n)
   where
-    here : take 1932 (drop (1932 * n) (imageBits input)) ≡ bits (recorded (recording input) n)
-    here = unfold imageBits in frame-bits (recording input) 496 n (full input 496) h
+    here : take 1932 (drop (1932 * n) (image_bits input)) ≡ bits (recorded (recording input) n)
+    here = unfold image_bits in frame-bits (recording input) 496 n (full input 496) h
 
 -- NO SUM LEAVES THE NUMBERS OF 32 BITS: none is above 958,272 or below -958,272
 pub small : (input : Input) (level : Bool) (n : ℕ) → n ≤ 496 → Small input level n

@@ -14,7 +14,7 @@ use Rattle.frame_modulation.specs.steps.Around.{Around}
 pub record Going (ws : List ℕ) (first lag last : ℕ) (out : List ℕ) (k place held state : ℕ) : Type 0 where
   pub words_are : words.Words ws
   pub around : Around first lag last
-  pub turning : Turning first lag (pairs (words.bitsIn ws)) out k held state
+  pub turning : Turning first lag (pairs (words.bits_in ws)) out k held state
   pub stands : At k place
 
 module _ {ws : List ℕ} {first lag last : ℕ} where

@@ -1,12 +1,12 @@
 // A frame as words, sixteen bits at a time by the table; and of a row and a dc word.
 ghost use Rattle.std.specs.Prelude.{◌≡◌, length};
-ghost use Rattle.frame.specs.Frame.{framePairs};
-ghost use Rattle.modulator.specs.steps.Table.{lentTable};
+ghost use Rattle.frame.specs.Frame.{frame_pairs};
+ghost use Rattle.modulator.specs.steps.Table.{lent_table};
 ghost use Rattle.modulator.specs.steps.Put.{FramePut};
 ghost use Rattle.modulation.specs.Bits.{pairs};
-ghost use Rattle.modulation.specs.steps.Words.{bitsIn, Words};
+ghost use Rattle.modulation.specs.steps.Words.{bits_in, Words};
 ghost use Rattle.frame_modulation.specs.steps.Around.{Around};
-ghost use Rattle.sizes.specs.Sizes.{rowSize};
+ghost use Rattle.sizes.specs.Sizes.{row_size};
 
 use modulator::Table;
 
@@ -20,8 +20,8 @@ fn modulate_words(
     last: u8,
     out: &mut [u8],
 ) -> bool
-    requires { ((table.now ≡ lentTable) × (Words words.now × (length out.old ≡ 242))) × Around first lag last }
-    ensures { FramePut first lag last (pairs (bitsIn words.now)) out.new result }
+    requires { ((table.now ≡ lent_table) × (Words words.now × (length out.old ≡ 242))) × Around first lag last }
+    ensures { FramePut first lag last (pairs (bits_in words.now)) out.new result }
 {
     let mut state = held_bits::steps::odd(first);
     let mut held = first;
@@ -58,8 +58,8 @@ pub fn modulate(
     last: u8,
     out: &mut [u8],
 ) -> bool
-    requires { ((table.now ≡ lentTable) × ((length row.now ≡ rowSize) × (length out.old ≡ 242))) × Around first lag last }
-    ensures { FramePut first lag last (framePairs row.now dc) out.new result }
+    requires { ((table.now ≡ lent_table) × ((length row.now ≡ row_size) × (length out.old ≡ 242))) × Around first lag last }
+    ensures { FramePut first lag last (frame_pairs row.now dc) out.new result }
 {
     let mut words = frame_bits::steps::no_words();
     weaving::steps::frame_words(row, dc, &mut words);

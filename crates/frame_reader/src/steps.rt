@@ -6,7 +6,7 @@ ghost use Rattle.modulation.specs.steps.Words.{Words};
 ghost use Rattle.frame_sync.specs.Sync.{fs};
 ghost use Rattle.frame.specs.Reading.{StrictlyRead};
 ghost use Rattle.frame.specs.steps.Taken.{Taken};
-ghost use Rattle.sizes.specs.Sizes.{frameSize, rowSize};
+ghost use Rattle.sizes.specs.Sizes.{frame_size, row_size};
 
 use automaton::Table;
 use demodulator::Found;
@@ -15,7 +15,7 @@ use frame_sync::steps::sync_end;
 
 // The frame of the words, if it was found: then its row is left in the slice.
 fn take_frame(words: &[u64; 29], found: bool, row: &mut [u8]) -> FrameRead
-    requires { Words words.now × (length row.old ≡ rowSize) }
+    requires { Words words.now × (length row.old ≡ row_size) }
     ensures { Taken words.now found row.old result row.new }
 {
     if found {
@@ -35,7 +35,7 @@ pub fn read_frame(
     hash: bool,
     row: &mut [u8],
 ) -> FrameRead
-    requires { (steps.now ≡ table) × (((number < 7) × (length row.old ≡ rowSize)) × ((at + frameSize ≤ 8 * length image.now) × (at + frameSize < 18446744073709551616))) }
+    requires { (steps.now ≡ table) × (((number < 7) × (length row.old ≡ row_size)) × ((at + frame_size ≤ 8 * length image.now) × (at + frame_size < 18446744073709551616))) }
     ensures { StrictlyRead (fs number) (take 1902 (drop (at + 30) (bits_of image.now))) hash row.old result row.new }
 {
     let mut words = frame_bits::steps::no_words();
@@ -53,8 +53,8 @@ pub fn read_frame(
 // The frames of two times 29 words, if they were found: their rows are left in the slice, one behind the other.
 fn take_two(words: &[u64; 29], more: &[u64; 29], found: Found, rows: &mut [u8]) -> TwoRead
     requires { (Words words.now × Words more.now) × (length rows.old ≡ 310) }
-    ensures { Taken words.now found.first (take rowSize rows.old) result.first (take rowSize rows.new)
-        × Taken more.now found.second (drop rowSize rows.old) result.second (drop rowSize rows.new) }
+    ensures { Taken words.now found.first (take row_size rows.old) result.first (take row_size rows.new)
+        × Taken more.now found.second (drop row_size rows.old) result.second (drop row_size rows.new) }
 {
     let one = take_frame(words, found.first, &mut rows[0..sizes::ROW]);
     let two = take_frame(more, found.second, &mut rows[sizes::ROW..310]);
@@ -76,8 +76,8 @@ pub fn read_two(
     rows: &mut [u8],
 ) -> TwoRead
     requires { (steps.now ≡ table) × (((first < 7) × (second < 7)) × ((length rows.old ≡ 310) × ((at + 3864 ≤ 8 * length image.now) × (at + 3864 < 18446744073709551616)))) }
-    ensures { StrictlyRead (fs first) (take 1902 (drop (at + 30) (bits_of image.now))) hash (take rowSize rows.old) result.first (take rowSize rows.new)
-        × StrictlyRead (fs second) (take 1902 (drop (at + 1962) (bits_of image.now))) sign (drop rowSize rows.old) result.second (drop rowSize rows.new) }
+    ensures { StrictlyRead (fs first) (take 1902 (drop (at + 30) (bits_of image.now))) hash (take row_size rows.old) result.first (take row_size rows.new)
+        × StrictlyRead (fs second) (take 1902 (drop (at + 1962) (bits_of image.now))) sign (drop row_size rows.old) result.second (drop row_size rows.new) }
 {
     let mut words = frame_bits::steps::no_words();
     let mut more = frame_bits::steps::no_words();

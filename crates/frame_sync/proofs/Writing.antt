@@ -8,7 +8,7 @@ use native.Mathlib.Omega.{arith}
 use native.Mathlib.Numerals.{add-one}
 use lib.ListN.{length, drop, drop_of_length-le}
 use lib.Seq.{sets, length-sets, drop-cons}
-use Rattle.bits.specs.Bits.{bits_of, number, threeOf}
+use Rattle.bits.specs.Bits.{bits_of, number, three_of}
 use Rattle.bits.proofs.Bits.{length-bits}
 use Rattle.modulation.specs.Modulation.{Three, m000}
 use Rattle.modulation.specs.Bits.{bits}
@@ -16,7 +16,7 @@ use Rattle.modulation.specs.Sync.{FS, sync}
 use Rattle.modulation.proofs.Streams.{length-sync}
 use Rattle.frame_sync.specs.Sync.{group_of}
 use Rattle.frame_sync.specs.steps.Written.{SyncWritten}
-use Rattle.frame_sync.proofs.SyncTables.{syncGroup, group_at}
+use Rattle.frame_sync.proofs.SyncTables.{sync_group, group_at}
 use Rattle.laws.proofs.Fill.{sets-append}
 
 -- of `all`, to be written over `first` from `at` on, vs are still to be written over l, from p on
@@ -54,16 +54,16 @@ module _ {n : FS} {hash : Bool} {before : List ℕ} {at word : ℕ} where
   sync-none e = record { word-is = e; left = left-none (omega arith) }
 
   module _ {out : List ℕ} {j : ℕ} (u : SyncUpto n hash before at word out j) where
-    pub sync-more : {after : List ℕ} {v : ℕ} → j < 10 → v ≡ group_of word j → bits_of after ≡ sets (bits_of out) (at + 3 * j) (threeOf v)
+    pub sync-more : {after : List ℕ} {v : ℕ} → j < 10 → v ≡ group_of word j → bits_of after ≡ sets (bits_of out) (at + 3 * j) (three_of v)
         → SyncUpto n hash before at word after (j + 1)
-    unfolding syncGroup
+    unfolding sync_group
     sync-more {after} {v} h is w =
         let ms = sync hash n in
         let next : j < length ms = omega (arith, length-sync hash n) in
-        let e : v ≡ syncGroup n hash j = group_at hash n j word v h u.word-is is in
-        let front : bits (drop j ms) ≡ threeOf v ++ bits (drop (j + 1) ms) =
-        rw (add-one, drop-cons ms j m000 next) (ap (λ (x : ℕ). threeOf x ++ bits (drop (suc j) ms)) (sym e)) in
-        record { word-is = u.word-is; left = left-more (threeOf v) w (omega arith) (subst (Left (bits_of before) at (bits ms) (bits_of out) (at + 3 * j)) front u.left) }
+        let e : v ≡ sync_group n hash j = group_at hash n j word v h u.word-is is in
+        let front : bits (drop j ms) ≡ three_of v ++ bits (drop (j + 1) ms) =
+        rw (add-one, drop-cons ms j m000 next) (ap (λ (x : ℕ). three_of x ++ bits (drop (suc j) ms)) (sym e)) in
+        record { word-is = u.word-is; left = left-more (three_of v) w (omega arith) (subst (Left (bits_of before) at (bits ms) (bits_of out) (at + 3 * j)) front u.left) }
 
     pub sync-all : 10 ≤ j → SyncWritten n hash before at out
     sync-all h =

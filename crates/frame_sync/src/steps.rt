@@ -2,9 +2,9 @@
 ghost use Rattle.std.specs.Prelude.{◌≡◌, false, ◌+◌, ◌*◌, ◌<◌, ◌≤◌, length};
 ghost use Rattle.bits.specs.Bits.{bits_of, number as number_of};
 ghost use Rattle.modulation.specs.Bits.{bits};
-ghost use Rattle.modulation.specs.Modulation.{lastBit};
-ghost use Rattle.modulation.specs.Sync.{sync, syncId};
-ghost use Rattle.frame_sync.specs.Sync.{fs, group_of, syncRight};
+ghost use Rattle.modulation.specs.Modulation.{last_bit};
+ghost use Rattle.modulation.specs.Sync.{sync, sync_id};
+ghost use Rattle.frame_sync.specs.Sync.{fs, group_of, sync_right};
 ghost use Rattle.frame_sync.specs.steps.Written.{SyncWritten};
 
 use crate::hash_at;
@@ -40,7 +40,7 @@ fn group_of(word: u64, j: usize) -> u8
 // The last bit of a frame sync.
 pub fn sync_end(number: usize) -> bool
     requires { number < 7 }
-    ensures { result ≡ lastBit false (syncId (fs number)) }
+    ensures { result ≡ last_bit false (sync_id (fs number)) }
 {
     SYNC_IDS[number] % 2 == 1
 }
@@ -61,7 +61,7 @@ pub fn write_sync(hash: bool, number: usize, image: &mut [u8], at: usize)
 // Whether the 30 bits from `at` on are the frame sync of a number; its # is not judged.
 pub fn sync_right(image: &[u8], at: usize, number: usize) -> bool
     requires { (number < 7) × ((at + 30 ≤ 8 * length image.now) × (at + 30 < 18446744073709551616)) }
-    ensures { result ≡ syncRight (fs number) (bits_of image.now) at }
+    ensures { result ≡ sync_right (fs number) (bits_of image.now) at }
 {
     let hash = hash_at(image, at);
     let wanted = sync_word(hash, number);

@@ -1,5 +1,7 @@
 // Frames of a known cluster written into slices of 245 bytes, from bit 8 on and then a bit later each, read back and damaged. Standard input
 // holds seven records of 161 bytes: #, sync number, dc word, row.
+#![tactic(auto)]
+
 ghost use Rattle.std.specs.Prelude.{◌≡◌, ◌<◌};
 ghost use Rattle.automaton.specs.steps.Table.{table};
 
@@ -20,7 +22,7 @@ fn sync_numbers() {
 }
 
 // Where a frame stands in an image, its sync number, and # of the next sync.
-#[derive(Drop)]
+#[derive(Clone, Copy)]
 struct Place {
     at: usize,
     sync: usize,
@@ -28,7 +30,7 @@ struct Place {
 }
 
 // How often nothing was read, and of what was read the sum of the dc words and the count of bytes that differ.
-#[derive(Drop)]
+#[derive(Clone, Copy)]
 struct Seen {
     none: u64,
     dcs: u64,
@@ -135,7 +137,7 @@ fn read_lines(steps: &Table, image: [u8; 245], row: [u8; 155], place: Place)
     flips_line(flips(steps, image, row, place));
 }
 
-#[derive(Drop)]
+#[derive(Clone, Copy)]
 struct Written {
     image: [u8; 245],
     next: bool,

@@ -4,8 +4,8 @@ ghost use Rattle.std.proofs.lemmas.List.Edits.{sets};
 ghost use Rattle.bits.specs.Bits.{bits_of};
 ghost use Rattle.frame_sync.specs.Sync.{fs};
 ghost use Rattle.frame_writer.specs.steps.Written.{FrameWritten};
-ghost use Rattle.modulator.specs.steps.Table.{lentTable};
-ghost use Rattle.sizes.specs.Sizes.{frameSize, rowSize};
+ghost use Rattle.modulator.specs.steps.Table.{lent_table};
+ghost use Rattle.sizes.specs.Sizes.{frame_size, row_size};
 
 use frame::State;
 use modulator::Table;
@@ -20,7 +20,7 @@ fn write_whole(
     image: &mut [u8],
     at: usize,
 ) -> bool
-    requires { ((table.now ≡ lentTable) × (length row.now ≡ rowSize)) × ((number < 7) × ((at % 4 ≡ 0) × (at + frameSize ≤ 8 * length image.old))) }
+    requires { ((table.now ≡ lent_table) × (length row.now ≡ row_size)) × ((number < 7) × ((at % 4 ≡ 0) × (at + frame_size ≤ 8 * length image.old))) }
     ensures { FrameWritten (fs number) hash row.now dc image.old at image.new result }
 {
     let sync = frame_sync::steps::sync_word(hash, number);
@@ -51,8 +51,8 @@ pub fn blank() -> [u8; 242]
 
 // The first 1,932 bits of 242 bytes, from bit `at` of the image on, one by one.
 fn copy_bits(bytes: &[u8], image: &mut [u8], at: usize)
-    requires { (length bytes.now ≡ 242) × (at + frameSize < 18446744073709551616) }
-    ensures { bits_of image.new ≡ sets (bits_of image.old) at (take frameSize (bits_of bytes.now)) }
+    requires { (length bytes.now ≡ 242) × (at + frame_size < 18446744073709551616) }
+    ensures { bits_of image.new ≡ sets (bits_of image.old) at (take frame_size (bits_of bytes.now)) }
 {
     let mut k = 0;
     while k < sizes::FRAME {
@@ -72,7 +72,7 @@ pub fn write_frame(
     image: &mut [u8],
     at: usize,
 ) -> State
-    requires { ((table.now ≡ lentTable) × (length row.now ≡ rowSize)) × ((number < 7) × (at + frameSize < 18446744073709551616)) }
+    requires { ((table.now ≡ lent_table) × (length row.now ≡ row_size)) × ((number < 7) × (at + frame_size < 18446744073709551616)) }
     ensures { FrameWritten (fs number) state.hash row.now dc image.old at image.new result.hash }
 {
     if at % 4 == 0 {

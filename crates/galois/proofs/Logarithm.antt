@@ -11,12 +11,12 @@ use Rattle.laws.proofs.Finite.{both, both_left, both_right, all, all-at, equal-b
 use Rattle.laws.proofs.First.{first-at}
 use Rattle.laws.proofs.Tabulate.{get_d_tabulate, is-tabulate}
 use Rattle.galois.specs.Field.{α, sum, timesα, power}
-use Rattle.galois.specs.Tables.{log, powerTable, logTable}
+use Rattle.galois.specs.Tables.{log, power_table, log_table}
 use Rattle.galois.proofs.Product.{α-product}
 use Rattle.galois.proofs.Power.{power-byte}
 
-unfoldable pub powerList : List ℕ
-powerList =
+unfoldable pub power_list : List ℕ
+power_list =
     1 ∷ 2 ∷ 4 ∷ 8 ∷ 16 ∷ 32 ∷ 64 ∷ 128 ∷ 29 ∷ 58 ∷ 116 ∷ 232 ∷ 205 ∷ 135 ∷ 19 ∷ 38 ∷
     76 ∷ 152 ∷ 45 ∷ 90 ∷ 180 ∷ 117 ∷ 234 ∷ 201 ∷ 143 ∷ 3 ∷ 6 ∷ 12 ∷ 24 ∷ 48 ∷ 96 ∷ 192 ∷
     157 ∷ 39 ∷ 78 ∷ 156 ∷ 37 ∷ 74 ∷ 148 ∷ 53 ∷ 106 ∷ 212 ∷ 181 ∷ 119 ∷ 238 ∷ 193 ∷ 159 ∷ 35 ∷
@@ -34,8 +34,8 @@ powerList =
     18 ∷ 36 ∷ 72 ∷ 144 ∷ 61 ∷ 122 ∷ 244 ∷ 245 ∷ 247 ∷ 243 ∷ 251 ∷ 235 ∷ 203 ∷ 139 ∷ 11 ∷ 22 ∷
     44 ∷ 88 ∷ 176 ∷ 125 ∷ 250 ∷ 233 ∷ 207 ∷ 131 ∷ 27 ∷ 54 ∷ 108 ∷ 216 ∷ 173 ∷ 71 ∷ 142 ∷ 1 ∷ []
 
-unfoldable pub logList : List ℕ
-logList =
+unfoldable pub log_list : List ℕ
+log_list =
     0 ∷ 0 ∷ 1 ∷ 25 ∷ 2 ∷ 50 ∷ 26 ∷ 198 ∷ 3 ∷ 223 ∷ 51 ∷ 238 ∷ 27 ∷ 104 ∷ 199 ∷ 75 ∷
     4 ∷ 100 ∷ 224 ∷ 14 ∷ 52 ∷ 141 ∷ 239 ∷ 129 ∷ 28 ∷ 193 ∷ 105 ∷ 248 ∷ 200 ∷ 8 ∷ 76 ∷ 113 ∷
     5 ∷ 138 ∷ 101 ∷ 47 ∷ 225 ∷ 36 ∷ 15 ∷ 33 ∷ 53 ∷ 147 ∷ 142 ∷ 218 ∷ 240 ∷ 18 ∷ 130 ∷ 69 ∷
@@ -55,95 +55,95 @@ logList =
 
 -- ---- the powers: the first is 1, and each other is α times the one before
 
-powers-first : get_or powerList 0 0 ≡ 1
-unfolding powerList
+powers-first : get_or power_list 0 0 ≡ 1
+unfolding power_list
 powers-first = refl
 
-powers-climb : T (all 255 (λ k. eqb (get_or powerList (suc k) 0) (timesα (get_or powerList k 0))))
-unfolding all powerList timesα sum
+powers-climb : T (all 255 (λ k. eqb (get_or power_list (suc k) 0) (timesα (get_or power_list k 0))))
+unfolding all power_list timesα sum
 powers-climb = tt
 
-powers-right : (k : ℕ) → k < 256 → get_or powerList k 0 ≡ power α k
+powers-right : (k : ℕ) → k < 256 → get_or power_list k 0 ≡ power α k
 unfolding power
 powers-right zero h = powers-first
 powers-right (suc k) h =
-    equal-below 255 (λ k. get_or powerList (suc k) 0) (λ k. timesα (get_or powerList k 0)) powers-climb k (omega arith)
+    equal-below 255 (λ k. get_or power_list (suc k) 0) (λ k. timesα (get_or power_list k 0)) powers-climb k (omega arith)
     ∙ ap timesα (powers-right k (omega arith))
     ∙ sym (α-product (power α k) (power-byte α k))
 
-pub powers-table : powerList ≡ powerTable
-unfolding powerList powerTable
-powers-table = is-tabulate 0 256 (power α) powerList refl powers-right
+pub powers-table : power_list ≡ power_table
+unfolding power_list power_table
+powers-table = is-tabulate 0 256 (power α) power_list refl powers-right
 
-pub powers-at : (k : ℕ) → k < 256 → get_or powerTable k 0 ≡ power α k
-unfolding powerTable
+pub powers-at : (k : ℕ) → k < 256 → get_or power_table k 0 ≡ power α k
+unfolding power_table
 powers-at k h = get_d_tabulate 256 (power α) k 0 h
 
 -- ---- the logarithms: that of k + 1 is below 255, and its place among the powers; and that of α^k is k, so that it has no other place
 
 logs-test : ℕ → Bool
 logs-test k =
-    both (ltb (get_or logList (suc k) 0) 255)
-    (both (eqb (get_or powerList (get_or logList (suc k) 0) 0) (suc k)) (eqb (get_or logList (get_or powerList k 0) 0) k))
+    both (ltb (get_or log_list (suc k) 0) 255)
+    (both (eqb (get_or power_list (get_or log_list (suc k) 0) 0) (suc k)) (eqb (get_or log_list (get_or power_list k 0) 0) k))
 
 logs-tested : T (all 255 logs-test)
-unfolding all logs-test powerList logList
+unfolding all logs-test power_list log_list
 logs-tested = tt
 
 module _ (k : ℕ) (h : k < 255) where
-  places : T (both (eqb (get_or powerList (get_or logList (suc k) 0) 0) (suc k)) (eqb (get_or logList (get_or powerList k 0) 0) k))
+  places : T (both (eqb (get_or power_list (get_or log_list (suc k) 0) 0) (suc k)) (eqb (get_or log_list (get_or power_list k 0) 0) k))
   unfolding logs-test
   places =
-      both_right (ltb (get_or logList (suc k) 0) 255)
-      (both (eqb (get_or powerList (get_or logList (suc k) 0) 0) (suc k)) (eqb (get_or logList (get_or powerList k 0) 0) k)) (all-at 255 logs-test logs-tested k h)
+      both_right (ltb (get_or log_list (suc k) 0) 255)
+      (both (eqb (get_or power_list (get_or log_list (suc k) 0) 0) (suc k)) (eqb (get_or log_list (get_or power_list k 0) 0) k)) (all-at 255 logs-test logs-tested k h)
 
-  small : get_or logList (suc k) 0 < 255
+  small : get_or log_list (suc k) 0 < 255
   unfolding logs-test
   small =
-      ltb→lt (get_or logList (suc k) 0) 255
-      (both_left (ltb (get_or logList (suc k) 0) 255)
-      (both (eqb (get_or powerList (get_or logList (suc k) 0) 0) (suc k)) (eqb (get_or logList (get_or powerList k 0) 0) k)) (all-at 255 logs-test logs-tested k h))
+      ltb→lt (get_or log_list (suc k) 0) 255
+      (both_left (ltb (get_or log_list (suc k) 0) 255)
+      (both (eqb (get_or power_list (get_or log_list (suc k) 0) 0) (suc k)) (eqb (get_or log_list (get_or power_list k 0) 0) k)) (all-at 255 logs-test logs-tested k h))
 
-  place : power α (get_or logList (suc k) 0) ≡ suc k
+  place : power α (get_or log_list (suc k) 0) ≡ suc k
   place =
-      sym (powers-right (get_or logList (suc k) 0) (omega (arith, small)))
-      ∙ eqb→eq (get_or powerList (get_or logList (suc k) 0) 0) (suc k)
-      (both_left (eqb (get_or powerList (get_or logList (suc k) 0) 0) (suc k)) (eqb (get_or logList (get_or powerList k 0) 0) k) places)
+      sym (powers-right (get_or log_list (suc k) 0) (omega (arith, small)))
+      ∙ eqb→eq (get_or power_list (get_or log_list (suc k) 0) 0) (suc k)
+      (both_left (eqb (get_or power_list (get_or log_list (suc k) 0) 0) (suc k)) (eqb (get_or log_list (get_or power_list k 0) 0) k) places)
 
-  back : get_or logList (power α k) 0 ≡ k
+  back : get_or log_list (power α k) 0 ≡ k
   back =
-      ap (λ (x : ℕ). get_or logList x 0) (sym (powers-right k (omega arith)))
-      ∙ eqb→eq (get_or logList (get_or powerList k 0) 0) k
-      (both_right (eqb (get_or powerList (get_or logList (suc k) 0) 0) (suc k)) (eqb (get_or logList (get_or powerList k 0) 0) k) places)
+      ap (λ (x : ℕ). get_or log_list x 0) (sym (powers-right k (omega arith)))
+      ∙ eqb→eq (get_or log_list (get_or power_list k 0) 0) k
+      (both_right (eqb (get_or power_list (get_or log_list (suc k) 0) 0) (suc k)) (eqb (get_or log_list (get_or power_list k 0) 0) k) places)
 
 pub α-distinct : (i j : ℕ) → i < 255 → j < 255 → power α i ≡ power α j → i ≡ j
-α-distinct i j hi hj e = sym (back i hi) ∙ ap (λ (x : ℕ). get_or logList x 0) e ∙ back j hj
+α-distinct i j hi hj e = sym (back i hi) ∙ ap (λ (x : ℕ). get_or log_list x 0) e ∙ back j hj
 
-log-first : (a : ℕ) → a < 255 → get_or logList (suc a) 0 ≡ log (suc a)
+log-first : (a : ℕ) → a < 255 → get_or log_list (suc a) 0 ≡ log (suc a)
 unfolding log
 log-first a h =
     sym
-    (first-at 255 (λ k. eqb (power α k) (suc a)) (get_or logList (suc a) 0) (small a h)
+    (first-at 255 (λ k. eqb (power α k) (suc a)) (get_or log_list (suc a) 0) (small a h)
     (record { fails = λ k lower. ne_eqb (power α k) (suc a) (λ e. other k lower (e ∙ sym (place a h))) })
-    (eq-eqb (power α (get_or logList (suc a) 0)) (suc a) (place a h)))
+    (eq-eqb (power α (get_or log_list (suc a) 0)) (suc a) (place a h)))
   where
-    other : (k : ℕ) → k < get_or logList (suc a) 0 → power α k ≡ power α (get_or logList (suc a) 0) → ⊥
-    other k lower e = omega (arith, α-distinct k (get_or logList (suc a) 0) (omega (arith, small a h)) (small a h) e)
+    other : (k : ℕ) → k < get_or log_list (suc a) 0 → power α k ≡ power α (get_or log_list (suc a) 0) → ⊥
+    other k lower e = omega (arith, α-distinct k (get_or log_list (suc a) 0) (omega (arith, small a h)) (small a h) e)
 
-log-zero : get_or logList 0 0 ≡ log 0
-unfolding logList log
+log-zero : get_or log_list 0 0 ≡ log 0
+unfolding log_list log
 log-zero = refl
 
-logs-right : (a : ℕ) → a < 256 → get_or logList a 0 ≡ log a
+logs-right : (a : ℕ) → a < 256 → get_or log_list a 0 ≡ log a
 logs-right zero h = log-zero
 logs-right (suc a) h = log-first a (omega arith)
 
-pub logs-table : logList ≡ logTable
-unfolding logList logTable
-logs-table = is-tabulate 0 256 log logList refl logs-right
+pub logs-table : log_list ≡ log_table
+unfolding log_list log_table
+logs-table = is-tabulate 0 256 log log_list refl logs-right
 
-pub logs_at : (a : ℕ) → a < 256 → get_or logTable a 0 ≡ log a
-unfolding logTable
+pub logs_at : (a : ℕ) → a < 256 → get_or log_table a 0 ≡ log a
+unfolding log_table
 logs_at a h = get_d_tabulate 256 log a 0 h
 
 -- the logarithm of an element other than 0
@@ -157,16 +157,16 @@ power-log (suc a) h below = ap (power α) (sym (log-first a (omega arith))) ∙ 
 
 -- ---- single entries
 
-pub powers-last : get_or powerTable 255 0 ≡ 1
-unfolding powerList
+pub powers-last : get_or power_table 255 0 ≡ 1
+unfolding power_list
 powers-last = ap (λ (l : List ℕ). get_or l 255 0) (sym powers-table)
 
-pub logs-one : get_or logTable 1 0 ≡ 0
-unfolding logList
+pub logs-one : get_or log_table 1 0 ≡ 0
+unfolding log_list
 logs-one = ap (λ (l : List ℕ). get_or l 1 0) (sym logs-table)
 
-pub logs-zero : get_or logTable 0 0 ≡ 0
-unfolding logList
+pub logs-zero : get_or log_table 0 0 ≡ 0
+unfolding log_list
 logs-zero = ap (λ (l : List ℕ). get_or l 0 0) (sym logs-table)
 
 pub α-cycle : power α 255 ≡ 1

@@ -9,7 +9,7 @@ use borrow.Author.Tests.{lt-ltb, le-ltb, ne_eqb}
 use lib.ListN.{get_or, set}
 use lib.Seq.{get_or-set_other}
 use Rattle.galois.specs.Field.{α, product, power, inverse}
-use Rattle.galois.specs.Tables.{log, powerTable, logTable, AreTables, powerBy, productBy}
+use Rattle.galois.specs.Tables.{log, power_table, log_table, AreTables, power_by, product_by}
 use Rattle.galois.proofs.Product.{product-zero, zero-product}
 use Rattle.galois.proofs.Power.{power-byte, power-add, power-mul}
 use Rattle.galois.proofs.Logarithm.{powers-at, logs_at, log-small, power-log, α-cycle}
@@ -38,16 +38,16 @@ module _ (a : ℕ) (h : 0 < a) (below : a < 256) where
 
 -- ---- the product
 
-power-by : (k : ℕ) → k < 510 → powerBy powerTable k ≡ power α k
-unfolding powerBy
+power-by : (k : ℕ) → k < 510 → power_by power_table k ≡ power α k
+unfolding power_by
 power-by k h =
     elim (dec_lt k 255) [
       | yes l ↦ rw (lt-ltb k 255 l) (powers-at k (omega arith))
       | no l ↦ rw (le-ltb k 255 (omega arith)) (powers-at (k - 255) (omega arith) ∙ power-wrap k (omega arith))
     ]
 
-product-by : (a b : ℕ) → a < 256 → b < 256 → productBy powerTable logTable a b ≡ product a b
-unfolding productBy
+product-by : (a b : ℕ) → a < 256 → b < 256 → product_by power_table log_table a b ≡ product a b
+unfolding product_by
 product-by zero b ha hb = sym (zero-product b)
 product-by (suc a) zero ha hb = rw (ne_eqb (suc a) 0 (λ e. omega (arith, e))) (sym (product-zero (suc a)))
 product-by (suc a) (suc b) ha hb =
@@ -57,17 +57,17 @@ product-by (suc a) (suc b) ha hb =
 
 -- its cases, for any two tables: i and j are the entries of a and b
 module _ (p l : List ℕ) {a b i j : ℕ} (ha : a ≡ 0 → ⊥) (hb : b ≡ 0 → ⊥) (ea : i ≡ get_or l a 0) (eb : j ≡ get_or l b 0) where
-  pub product-low : i + j < 255 → get_or p (i + j) 0 ≡ productBy p l a b
-  unfolding productBy powerBy
+  pub product-low : i + j < 255 → get_or p (i + j) 0 ≡ product_by p l a b
+  unfolding product_by power_by
   product-low h = rw (ne_eqb a 0 ha, ne_eqb b 0 hb, ← ea, ← eb, lt-ltb (i + j) 255 h)
 
-  pub product_high : 255 ≤ i + j → get_or p (i + j - 255) 0 ≡ productBy p l a b
-  unfolding productBy powerBy
+  pub product_high : 255 ≤ i + j → get_or p (i + j - 255) 0 ≡ product_by p l a b
+  unfolding product_by power_by
   product_high h = rw (ne_eqb a 0 ha, ne_eqb b 0 hb, ← ea, ← eb, le-ltb (i + j) 255 h)
 
 -- the entry at 0 of the table of logarithms is not used
-pub log-zero-unused : (p l : List ℕ) (x a b : ℕ) → productBy p (set l 0 x) a b ≡ productBy p l a b
-unfolding productBy
+pub log-zero-unused : (p l : List ℕ) (x a b : ℕ) → product_by p (set l 0 x) a b ≡ product_by p l a b
+unfolding product_by
 log-zero-unused p l x zero b = refl
 log-zero-unused p l x (suc a) zero = rw (ne_eqb (suc a) 0 (λ e. omega (arith, e)))
 log-zero-unused p l x (suc a) (suc b) =
@@ -76,8 +76,8 @@ log-zero-unused p l x (suc a) (suc b) =
 -- ---- in tables that are lent
 
 module _ {p l : List ℕ} (tables : AreTables p l) where
-  pub product-table : {a b r : ℕ} → a < 256 → b < 256 → r ≡ productBy p l a b → r ≡ product a b
-  product-table {a} {b} ha hb e = e ∙ ap₂ (λ (x y : List ℕ). productBy x y a b) tables.powers tables.logs ∙ product-by a b ha hb
+  pub product-table : {a b r : ℕ} → a < 256 → b < 256 → r ≡ product_by p l a b → r ≡ product a b
+  product-table {a} {b} ha hb e = e ∙ ap₂ (λ (x y : List ℕ). product_by x y a b) tables.powers tables.logs ∙ product-by a b ha hb
 
   -- i is the entry of a in the table of logarithms
   module _ {a i : ℕ} (h : 0 < a) (below : a < 256) (e : i ≡ get_or l a 0) where

@@ -9,21 +9,21 @@ unfoldable pub log : ℕ → ℕ
 log zero = 0
 log (suc a) = first 255 (λ k. eqb (power α k) (suc a))
 
-unfoldable pub powerTable : List ℕ
-powerTable = tabulate 256 (power α)
+unfoldable pub power_table : List ℕ
+power_table = tabulate 256 (power α)
 
-unfoldable pub logTable : List ℕ
-logTable = tabulate 256 log
+unfoldable pub log_table : List ℕ
+log_table = tabulate 256 log
 
 -- p and l are the two tables
 pub record AreTables (p l : List ℕ) : Type 0 where
-  pub powers : p ≡ powerTable
-  pub logs : l ≡ logTable
+  pub powers : p ≡ power_table
+  pub logs : l ≡ log_table
 
 -- what stands in a table of powers at k, the sum of two logarithms; 255 is taken off once where k is not below it
-unfoldable pub powerBy : List ℕ → ℕ → ℕ
-powerBy powers k = cond (ltb k 255) (get_or powers k 0) (get_or powers (k - 255) 0)
+unfoldable pub power_by : List ℕ → ℕ → ℕ
+power_by powers k = cond (ltb k 255) (get_or powers k 0) (get_or powers (k - 255) 0)
 
 -- the product of a and b by way of two tables
-unfoldable pub productBy : List ℕ → List ℕ → ℕ → ℕ → ℕ
-productBy powers logs a b = cond (eqb a 0) 0 (cond (eqb b 0) 0 (powerBy powers (get_or logs a 0 + get_or logs b 0)))
+unfoldable pub product_by : List ℕ → List ℕ → ℕ → ℕ → ℕ
+product_by powers logs a b = cond (eqb a 0) 0 (cond (eqb b 0) 0 (power_by powers (get_or logs a 0 + get_or logs b 0)))

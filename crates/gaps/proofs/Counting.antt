@@ -11,7 +11,7 @@ use lib.Seq.{get_or-set_same, get_or-set_other, drop-cons, get_or-take, length-t
 use Rattle.laws.proofs.Tabulate.{is-tabulate}
 use Rattle.bits.specs.Bits.{bits_of}
 use Rattle.bits.proofs.Bits.{length-bits}
-use Rattle.gaps.specs.Gaps.{gapsAfter, gaps, count, gapCounts}
+use Rattle.gaps.specs.Gaps.{gaps_after, gaps, count, gap_counts}
 use Rattle.gaps.specs.steps.Counted.{BitCounted, Counts}
 
 count_same : (n x : ℕ) (l : List ℕ) → x ≡ n → count n (x ∷ l) ≡ suc (count n l)
@@ -28,7 +28,7 @@ zero-counted bit zeros c e =
       size = refl;
       zeros-are = omega arith;
       most = λ k. omega arith;
-      counts-are = λ l k h. ap (λ (g : List ℕ). get_or c k 0 + count (suc k) g) (ap (λ (z : ℕ). gapsAfter z l) (add-one zeros) ∙ sym (ap (λ (x : ℕ). gapsAfter zeros (x ∷ l)) e));
+      counts-are = λ l k h. ap (λ (g : List ℕ). get_or c k 0 + count (suc k) g) (ap (λ (z : ℕ). gaps_after z l) (add-one zeros) ∙ sym (ap (λ (x : ℕ). gaps_after zeros (x ∷ l)) e));
     }
 
 -- no gap, or one of another length
@@ -39,7 +39,7 @@ other-counted (suc b) zeros c e f =
       size = refl;
       zeros-are = omega arith;
       most = λ k. omega arith;
-      counts-are = λ l k h. sym (ap (λ (n : ℕ). get_or c k 0 + n) (count-other (suc k) zeros (gapsAfter 0 l) (f k h)));
+      counts-are = λ l k h. sym (ap (λ (n : ℕ). get_or c k 0 + n) (count-other (suc k) zeros (gaps_after 0 l) (f k h)));
     }
 
 pub empty-counted : (bit zeros : ℕ) (c : List ℕ) → (bit ≡ 0 → ⊥) → zeros ≡ 0 → BitCounted bit zeros c c 0
@@ -60,8 +60,8 @@ gap-counted (suc b) zeros c e f g s =
         | no q ↦ omega (arith, get_or-set_other c i k v 0 q)
       ];
       counts-are = λ l k h. elim (ℕ_discrete k i) [
-        | yes q ↦ omega (arith, same k q, ap (λ (j : ℕ). get_or c j 0) q, count_same (suc k) zeros (gapsAfter 0 l) (omega arith))
-        | no q ↦ omega (arith, get_or-set_other c i k v 0 q, count-other (suc k) zeros (gapsAfter 0 l) (λ r. q (omega arith)))
+        | yes q ↦ omega (arith, same k q, ap (λ (j : ℕ). get_or c j 0) q, count_same (suc k) zeros (gaps_after 0 l) (omega arith))
+        | no q ↦ omega (arith, get_or-set_other c i k v 0 q, count-other (suc k) zeros (gaps_after 0 l) (λ r. q (omega arith)))
       ];
     }
   where
@@ -81,13 +81,13 @@ pub record Counting (l : List ℕ) (n i : ℕ) (c : List ℕ) (zeros : ℕ) : Ty
   pub within : i ≤ n
   pub few : Counts i c
   pub zeros-are : zeros ≤ i + 9
-  pub counts-are : (k : ℕ) → k < 8 → get_or c k 0 + count (suc k) (gapsAfter zeros (drop i (take n (bits_of l)))) ≡ count (suc k) (gaps (take n (bits_of l)))
+  pub counts-are : (k : ℕ) → k < 8 → get_or c k 0 + count (suc k) (gaps_after zeros (drop i (take n (bits_of l)))) ≡ count (suc k) (gaps (take n (bits_of l)))
 
 -- what stands in front of the first one is no gap
-before-first : (l : List ℕ) (n z : ℕ) → n < z → count n (gapsAfter z l) ≡ count n (gaps l)
+before-first : (l : List ℕ) (n z : ℕ) → n < z → count n (gaps_after z l) ≡ count n (gaps l)
 before-first [] n z h = refl
 before-first (zero ∷ l) n z h = before-first l n (suc z) (omega arith)
-before-first (suc x ∷ l) n z h = count-other n z (gapsAfter 0 l) (λ e. omega arith)
+before-first (suc x ∷ l) n z h = count-other n z (gaps_after 0 l) (λ e. omega arith)
 
 pub counting-none : {l : List ℕ} {n : ℕ} → Counting l n 0 (replicate 8 0) 9
 counting-none {l} {n} =
@@ -117,9 +117,9 @@ module _ {l : List ℕ} {n i : ℕ} {c : List ℕ} {zeros : ℕ} (u : Counting l
         few = record { size = w.size ∙ u.few.size; most = λ k. omega (arith, w.most k, u.few.most k) };
         zeros-are = omega (arith, w.zeros-are, u.zeros-are);
         counts-are = λ k hk.
-            ap (λ (j : ℕ). get_or after k 0 + count (suc k) (gapsAfter r (drop j (take n (bits_of l))))) (add-one i)
+            ap (λ (j : ℕ). get_or after k 0 + count (suc k) (gaps_after r (drop j (take n (bits_of l))))) (add-one i)
             ∙ w.counts-are (drop (suc i) (take n (bits_of l))) k hk
-            ∙ ap (λ (m : List ℕ). get_or c k 0 + count (suc k) (gapsAfter zeros m)) (sym front)
+            ∙ ap (λ (m : List ℕ). get_or c k 0 + count (suc k) (gaps_after zeros m)) (sym front)
             ∙ u.counts-are k hk;
       }
     where
@@ -131,11 +131,11 @@ module _ {l : List ℕ} {n i : ℕ} {c : List ℕ} {zeros : ℕ} (u : Counting l
           drop-cons (take n (bits_of l)) i 0 (omega (arith, size))
           ∙ ap (λ (x : ℕ). x ∷ drop (suc i) (take n (bits_of l))) (get_or-take n (bits_of l) i 0 h ∙ sym e)
 
-  pub counting-all : n ≤ i → n ≤ 8 * length l → c ≡ gapCounts (take n (bits_of l))
-  unfolding gapCounts
+  pub counting-all : n ≤ i → n ≤ 8 * length l → c ≡ gap_counts (take n (bits_of l))
+  unfolding gap_counts
   counting-all h fits =
       is-tabulate 0 8 (λ k. count (suc k) (gaps (take n (bits_of l)))) c u.few.size
-      (λ k hk. omega (arith, u.counts-are k hk, ap (λ (m : List ℕ). count (suc k) (gapsAfter zeros m)) (drop_of_length-le (take n (bits_of l)) {i = i} (omega (arith, size)))))
+      (λ k hk. omega (arith, u.counts-are k hk, ap (λ (m : List ℕ). count (suc k) (gaps_after zeros m)) (drop_of_length-le (take n (bits_of l)) {i = i} (omega (arith, size)))))
     where
       size : length (take n (bits_of l)) ≡ n
       size = length-take-le n (bits_of l) (omega (arith, length-bits l))

@@ -1,7 +1,7 @@
 // Gap lengths counted bit by bit.
 ghost use Rattle.std.specs.Prelude.{◌≡◌, ◌*◌, ◌<◌, ◌≤◌, length, take};
 ghost use Rattle.bits.specs.Bits.{bits_of};
-ghost use Rattle.gaps.specs.Gaps.{gapCounts};
+ghost use Rattle.gaps.specs.Gaps.{gap_counts};
 ghost use Rattle.gaps.specs.steps.Counted.{BitCounted, Counts};
 
 // A bit more, behind `zeros` zeros. A gap of 1 to 8 zeros that it ends is counted; answers how many zeros the next gap has.
@@ -25,7 +25,7 @@ fn count_bit(counts: &mut [u32], zeros: usize, bit: u8) -> usize
 // How often the gap lengths 1 to 8 occur in the first n bits of a slice. In front of the first one `zeros` is above 8: it ends no gap.
 pub fn gap_counts(bytes: &[u8], n: usize) -> [u32; 8]
     requires { (n ≤ 8 * length bytes.now) × (n < 4294967296) }
-    ensures { result ≡ gapCounts (take n (bits_of bytes.now)) }
+    ensures { result ≡ gap_counts (take n (bits_of bytes.now)) }
 {
     let mut counts = [0u32; 8];
     let mut zeros = 9;

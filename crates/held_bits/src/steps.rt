@@ -1,22 +1,22 @@
 // The table's entries, and the bits that are held behind them.
 ghost use Rattle.std.specs.Prelude.{◌≡◌, ◌+◌, ◌*◌, ◌-◌, ◌/◌, ◌%◌, ◌^◌, ◌<◌, ◌≤◌, length};
-ghost use Rattle.modulator.specs.steps.Table.{lentTable, byteEntry, lastEntry};
+ghost use Rattle.modulator.specs.steps.Table.{lent_table, byte_entry, last_entry};
 ghost use Rattle.modulator.specs.steps.Put.{Put};
 
 use modulator::Table;
 
 // The entry for a byte.
 pub fn byte_at(table: &Table, s: usize, byte: usize) -> u32
-    requires { (table.now ≡ lentTable) × ((s < 20) × (byte < 256)) }
-    ensures { result ≡ byteEntry s byte }
+    requires { (table.now ≡ lent_table) × ((s < 20) × (byte < 256)) }
+    ensures { result ≡ byte_entry s byte }
 {
     table[20 * byte + s]
 }
 
 // The entry for the last four bits of a frame.
 pub fn last_at(table: &Table, s: usize, nibble: usize) -> u32
-    requires { (table.now ≡ lentTable) × ((s < 20) × (nibble < 16)) }
-    ensures { result ≡ lastEntry s nibble }
+    requires { (table.now ≡ lent_table) × ((s < 20) × (nibble < 16)) }
+    ensures { result ≡ last_entry s nibble }
 {
     table[20 * (nibble + 256) + s]
 }

@@ -6,9 +6,9 @@ use Rattle.address.specs.Judged.{judged}
 use Rattle.modulation.specs.Bits.{bits}
 use Rattle.modulation.specs.Stream.{Recording, stream}
 use Rattle.bis.specs.AccessBlock.{Side}
-use Rattle.cluster.specs.EccCluster.{User, eccCluster}
-use Rattle.recording.specs.Recording.{recordingOf}
-use Rattle.sizes.specs.Sizes.{frameCount}
+use Rattle.cluster.specs.EccCluster.{User, ecc_cluster}
+use Rattle.recording.specs.Recording.{recording_of}
+use Rattle.sizes.specs.Sizes.{frame_count}
 
 -- what an image is made of; side data is document 01's term for the flag bytes and the user control data (the demand's control data)
 pub record Input : Type 0 where
@@ -21,8 +21,8 @@ pub record Input : Type 0 where
 
 -- 496 dc words, one for each frame, none above 0FFFFFFFh
 pub record DcWords (dc : List ℕ) : Type 0 where
-  pub size : length dc ≡ frameCount
-  pub small : (n : ℕ) → n < frameCount → get_or dc n 0 ≤ 0x0FFF_FFFF
+  pub size : length dc ≡ frame_count
+  pub small : (n : ℕ) → n < frame_count → get_or dc n 0 ≤ 0x0FFF_FFFF
 
 -- 65,536 user bytes, a PSN that is a multiple of 32 and lies in a data zone, 592 bytes of side data, 496 dc words; either first #
 pub record IsAccepted (input : Input) : Type 0 where
@@ -33,16 +33,16 @@ pub record IsAccepted (input : Input) : Type 0 where
 
 -- its ECC cluster
 abbrev pub cluster : Input → List ℕ
-cluster input = eccCluster input.user input.psn input.side
+cluster input = ecc_cluster input.user input.psn input.side
 
 -- its recording
 abbrev pub recording : Input → Recording
-recording input = recordingOf input.first (cluster input) input.dc
+recording input = recording_of input.first (cluster input) input.dc
 
 -- the 496 frames and the sync that follows, FS0: 958,302 bits
-unfoldable pub imageBits : Input → List ℕ
-imageBits input = bits (stream (recording input) frameCount)
+unfoldable pub image_bits : Input → List ℕ
+image_bits input = bits (stream (recording input) frame_count)
 
 -- then two zero bits, and packed msb first: 119,788 bytes
 unfoldable pub image : Input → List ℕ
-image input = packed (imageBits input ++ (0 ∷ 0 ∷ []))
+image input = packed (image_bits input ++ (0 ∷ 0 ∷ []))

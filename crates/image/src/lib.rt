@@ -1,1 +1,2 @@
 // The image of a physical cluster, as a definition. No code.
+#![tactic(auto)]

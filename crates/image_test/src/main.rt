@@ -1,4 +1,6 @@
 // Writer and reader on whole images: the clusters of an independent program both ways, its damaged images, round trips, and each refusal.
+#![tactic(auto)]
+
 mod damage;
 mod reading;
 mod writing;

@@ -12,17 +12,17 @@ use Rattle.bits.specs.Bits.{bits_of, packed}
 use Rattle.bits.proofs.Bits as B
 use Rattle.bits.proofs.Pack.{packed-bits}
 use Rattle.modulation.specs.Bits.{bits}
-use Rattle.modulation.specs.Sync.{sync, syncNumber}
+use Rattle.modulation.specs.Sync.{sync, sync_number}
 use Rattle.modulation.specs.Stream as Stream
 use Rattle.modulation.proofs.Bits.{bits-append, length-bits}
 use Rattle.modulation.proofs.Streams.{length-sync, length-run-bits}
 use Rattle.frame_sync.specs.Sync.{fs}
 use Rattle.frame_sync.specs.steps.Written.{SyncWritten}
-use Rattle.cluster.specs.EccCluster.{eccCluster}
-use Rattle.recording.specs.Recording.{recordingOf}
+use Rattle.cluster.specs.EccCluster.{ecc_cluster}
+use Rattle.recording.specs.Recording.{recording_of}
 use Rattle.recording_writer.specs.steps.Written.{FramesWritten}
 use Rattle.recording.proofs.Frames.{full-of}
-use Rattle.image.specs.Image.{Input, cluster, imageBits, image}
+use Rattle.image.specs.Image.{Input, cluster, image_bits, image}
 use Rattle.image_writer.specs.steps.Written.{ImageWritten, Filled}
 
 -- the frames, the sync that follows the last, and two zero bits
@@ -44,7 +44,7 @@ image-done first work dc before now synced third fourth hash size w s e f =
     }
   where
     c : Stream.Recording
-    c = recordingOf first work dc
+    c = recording_of first work dc
 
     frames : List ℕ
     frames = bits (Stream.run c 496)
@@ -70,20 +70,20 @@ image-done first work dc before now synced third fourth hash size w s e f =
     all : length (frames ++ (closing ++ zeros)) ≡ length (bits_of before)
     all = omega (arith, length-append frames (closing ++ zeros), length-append closing zeros, frames-long, closing-long, B.length-bits before, size)
 
-    last : bits (sync (Stream.hash c 496) (fs 0)) ≡ bits (sync (Stream.hash c 496) (syncNumber 496))
-    last = unfold fs syncNumber in refl
+    last : bits (sync (Stream.hash c 496) (fs 0)) ≡ bits (sync (Stream.hash c 496) (sync_number 496))
+    last = unfold fs sync_number in refl
 
     stream-is : frames ++ closing ≡ bits (Stream.stream c 496)
     stream-is =
         ap (◌++◌ frames) (ap (λ (b : Bool). bits (sync b (fs 0))) w.next-is ∙ last)
-        ∙ sym (bits-append (Stream.run c 496) (sync (Stream.hash c 496) (syncNumber 496)))
+        ∙ sym (bits-append (Stream.run c 496) (sync (Stream.hash c 496) (sync_number 496)))
 
 -- ---- the bytes
 
 pub image-is : (input : Input) (work after : List ℕ) → Bytes after → work ≡ cluster input → ImageWritten input.first work input.dc after → after ≡ image input
-unfolding image imageBits
+unfolding image image_bits
 image-is input work after bytes e w =
-    sym (packed-bits after bytes) ∙ ap packed (w.whole ∙ ap (λ (l : List ℕ). bits (Stream.stream (recordingOf input.first l input.dc) 496) ++ (0 ∷ 0 ∷ [])) e)
+    sym (packed-bits after bytes) ∙ ap packed (w.whole ∙ ap (λ (l : List ℕ). bits (Stream.stream (recording_of input.first l input.dc) 496) ++ (0 ∷ 0 ∷ [])) e)
 
-pub filled : (input : Input) (work after : List ℕ) → Bytes after → work ≡ eccCluster input.user input.psn input.side → ImageWritten input.first work input.dc after → Filled input after work
+pub filled : (input : Input) (work after : List ℕ) → Bytes after → work ≡ ecc_cluster input.user input.psn input.side → ImageWritten input.first work input.dc after → Filled input after work
 filled input work after bytes e w = record { image-is = image-is input work after bytes e w; work-is = e }

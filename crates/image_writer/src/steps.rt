@@ -4,14 +4,14 @@ ghost use Rattle.answer.specs.declared.Answer.TheVariants.{Done};
 ghost use Rattle.lengths.specs.Lengths.{RightLengths};
 ghost use Rattle.address.specs.Judged.{judged};
 ghost use Rattle.image_writer.specs.steps.Written.{ImageWritten, Filled};
-ghost use Rattle.sizes.specs.Sizes.{workSize, imageSize, frameCount};
+ghost use Rattle.sizes.specs.Sizes.{work_size, image_size, frame_count};
 
 use address::Psn;
 use frame::State;
 
 // The frames, the sync that follows, which is FS0, and two zero bits. # of the first sync is given.
 fn put_image(work: &[u8], dc: &[u32], first: bool, image: &mut [u8])
-    requires { ((length work.now ≡ workSize) × (length dc.now ≡ frameCount)) × (length image.old ≡ imageSize) }
+    requires { ((length work.now ≡ work_size) × (length dc.now ≡ frame_count)) × (length image.old ≡ image_size) }
     ensures { ImageWritten first work.now dc.now image.new }
 {
     let state = recording_writer::steps::put_frames(work, dc, State { hash: first }, image, 0);
@@ -30,7 +30,7 @@ pub fn write(
     image: &mut [u8],
     work: &mut [u8],
 )
-    requires { RightLengths (length user.now) (length side.now) (length dc.now) (length work.old) × ((length image.old ≡ imageSize) × (judged psn.0 ≡ Done)) }
+    requires { RightLengths (length user.now) (length side.now) (length dc.now) (length work.old) × ((length image.old ≡ image_size) × (judged psn.0 ≡ Done)) }
     ensures { Filled (record { user = user.entry.now; psn = psn.0; side = side.now; dc = dc.now; first = first }) image.new work.new }
 {
     cluster_writer::steps::encode(user, psn, side, work);

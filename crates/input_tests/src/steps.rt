@@ -1,15 +1,15 @@
 // The tests, in rising order.
 ghost use Rattle.std.specs.Prelude.{◌≡◌, length};
-ghost use Rattle.sizes.specs.Sizes.{frameCount};
-ghost use Rattle.input_tests.specs.Parts.{firstTooLarge, partsAnswer};
+ghost use Rattle.sizes.specs.Sizes.{frame_count};
+ghost use Rattle.input_tests.specs.Parts.{first_too_large, parts_answer};
 
 use address::Psn;
 use answer::Answer;
 
 // Test 8: the first dc word above 0FFFFFFFh, or 496.
 fn first_too_large(dc: &[u32]) -> usize
-    requires { length dc.now ≡ frameCount }
-    ensures { result ≡ firstTooLarge dc.now }
+    requires { length dc.now ≡ frame_count }
+    ensures { result ≡ first_too_large dc.now }
 {
     let mut n = 0;
     while n < sizes::FRAMES {
@@ -23,8 +23,8 @@ fn first_too_large(dc: &[u32]) -> usize
 
 // Tests 6 to 8: the PSN and the dc words.
 pub fn judge(psn: Psn, dc: &[u32]) -> Answer
-    requires { length dc.now ≡ frameCount }
-    ensures { result ≡ partsAnswer psn.0 dc.now }
+    requires { length dc.now ≡ frame_count }
+    ensures { result ≡ parts_answer psn.0 dc.now }
 {
     let sector = psn.judge();
     if sector.is_done() {

@@ -13,26 +13,26 @@ use Rattle.answer.proofs.Tests.{lowest-done}
 use Rattle.address.specs.declared.Psn.{Psn}
 use Rattle.bis.specs.declared.PsnFound.{PsnFound}
 use Rattle.bis.specs.declared.PsnFound.TheVariants.{Found, NotFound}
-use Rattle.bis.specs.Reading.{psnIn}
+use Rattle.bis.specs.Reading.{psn_in}
 use Rattle.recording_frames.specs.steps.Read.{FramesRead}
-use Rattle.judging.specs.Tests.{lastBitsAnswer, framesAnswer, foundAnswer, psnAnswer}
+use Rattle.judging.specs.Tests.{last_bits_answer, frames_answer, found_answer, psn_answer}
 use Rattle.judging.specs.steps.Tested.{FramesTested}
 
 -- ---- 9; x and y are the bits that were read
 
 module _ (b : List ℕ) (x : ℕ) (e : x ≡ get_or b 958302 0) where
-  by_bits : (s t : Bool) → eqb (get_or b 958302 0) 0 ≡ s → eqb (get_or b 958303 0) 0 ≡ t → cond (s && t) Done LastBits ≡ lastBitsAnswer b
-  unfolding lastBitsAnswer
+  by_bits : (s t : Bool) → eqb (get_or b 958302 0) 0 ≡ s → eqb (get_or b 958303 0) 0 ≡ t → cond (s && t) Done LastBits ≡ last_bits_answer b
+  unfolding last_bits_answer
   by_bits s t es et = sym (ap₂ (λ (p q : Bool). cond (p && q) Done LastBits) es et)
 
-  pub last-but-one : (x ≡ 0 → ⊥) → LastBits ≡ lastBitsAnswer b
+  pub last-but-one : (x ≡ 0 → ⊥) → LastBits ≡ last_bits_answer b
   last-but-one h = by_bits _ _ (ne_eqb (get_or b 958302 0) 0 (λ z. h (e ∙ z))) refl
 
   module _ (zero : x ≡ 0) (y : ℕ) (f : y ≡ get_or b 958303 0) where
-    pub last_one : (y ≡ 0 → ⊥) → LastBits ≡ lastBitsAnswer b
+    pub last_one : (y ≡ 0 → ⊥) → LastBits ≡ last_bits_answer b
     last_one h = by_bits _ _ (eq-eqb (get_or b 958302 0) 0 (sym e ∙ zero)) (ne_eqb (get_or b 958303 0) 0 (λ z. h (f ∙ z)))
 
-    pub both_zero : y ≡ 0 → Done ≡ lastBitsAnswer b
+    pub both_zero : y ≡ 0 → Done ≡ last_bits_answer b
     both_zero h = by_bits _ _ (eq-eqb (get_or b 958302 0) 0 (sym e ∙ zero)) (eq-eqb (get_or b 958303 0) 0 (sym f ∙ h))
 
 -- ---- a test with a place: i is what was found, j what the definition names
@@ -43,7 +43,7 @@ placed refusal n i j e f = e ∙ ap (lowest refusal n) f
 -- ---- 11
 
 pub frames-left : {b : List ℕ} {n : ℕ} {dc work : List ℕ} {r : Answer} → FramesRead b n dc work → r ≡ lowest (λ _. Frame n) 496 n → FramesTested b r dc work
-unfolding framesAnswer
+unfolding frames_answer
 frames-left {n = n} read e =
     record {
       answer-is = placed Frame 496 n _ e read.first;
@@ -54,11 +54,11 @@ frames-left {n = n} read e =
 
 -- ---- 14; p is what was found
 
-module _ (block : List (List ℕ)) (p : PsnFound) (e : p ≡ psnIn block) where
-  pub is_found : (psn : Psn) → p ≡ Found psn → record { answer = Done; psn = psn } ≡ psnAnswer block
-  unfolding psnAnswer
-  is_found psn f = ap foundAnswer (sym f ∙ e)
+module _ (block : List (List ℕ)) (p : PsnFound) (e : p ≡ psn_in block) where
+  pub is_found : (psn : Psn) → p ≡ Found psn → record { answer = Done; psn = psn } ≡ psn_answer block
+  unfolding psn_answer
+  is_found psn f = ap found_answer (sym f ∙ e)
 
-  pub is_none : p ≡ NotFound → record { answer = NoPsn; psn = record { 0 = 0 } } ≡ psnAnswer block
-  unfolding psnAnswer
-  is_none f = ap foundAnswer (sym f ∙ e)
+  pub is_none : p ≡ NotFound → record { answer = NoPsn; psn = record { 0 = 0 } } ≡ psn_answer block
+  unfolding psn_answer
+  is_none f = ap found_answer (sym f ∙ e)

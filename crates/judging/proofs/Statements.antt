@@ -8,16 +8,16 @@ use Rattle.answer.specs.declared.Answer.TheVariants.{NoPsn}
 use Rattle.answer.specs.Answer.{number_of}
 use Rattle.bis.specs.declared.PsnFound.{PsnFound}
 use Rattle.bis.specs.declared.PsnFound.TheVariants.{Found, NotFound}
-use Rattle.bis.specs.Reading.{IsPsnOf, psnIn}
+use Rattle.bis.specs.Reading.{IsPsnOf, psn_in}
 use Rattle.bis.proofs.Statements.{no-psn-found}
-use Rattle.judging.specs.Tests.{foundAnswer, psnAnswer}
+use Rattle.judging.specs.Tests.{found_answer, psn_answer}
 
 -- ---- 14: refused exactly where no accepted PSN has the sixteen AUNs
 
-pub no-psn-iff : (block : List (List ℕ)) → ((psnAnswer block).answer ≡ NoPsn) ↔ ((psn : ℕ) → IsPsnOf block psn → ⊥)
-unfolding psnAnswer
-no-psn-iff block = (λ e. (no-psn-found block).0 (is_none (psnIn block) e), λ none. ap (λ (p : PsnFound). (foundAnswer p).answer) ((no-psn-found block).1 none))
+pub no-psn-iff : (block : List (List ℕ)) → ((psn_answer block).answer ≡ NoPsn) ↔ ((psn : ℕ) → IsPsnOf block psn → ⊥)
+unfolding psn_answer
+no-psn-iff block = (λ e. (no-psn-found block).0 (is_none (psn_in block) e), λ none. ap (λ (p : PsnFound). (found_answer p).answer) ((no-psn-found block).1 none))
   where
-    is_none : (p : PsnFound) → (foundAnswer p).answer ≡ NoPsn → p ≡ NotFound
+    is_none : (p : PsnFound) → (found_answer p).answer ≡ NoPsn → p ≡ NotFound
     is_none (Found q) e = let z : ◌≡◌ {A = ℕ} 0 14 = ap number_of e in absurd (omega arith)
     is_none NotFound e = refl

@@ -1,11 +1,11 @@
 // Each test by itself: `Done`, or its refusal with the lowest place that fails.
 ghost use Rattle.std.specs.Prelude.{◌≡◌, length, drop};
-ghost use Rattle.sizes.specs.Sizes.{frameCount, workSize};
+ghost use Rattle.sizes.specs.Sizes.{frame_count, work_size};
 ghost use Rattle.bits.specs.Bits.{bits_of};
 ghost use Rattle.answer.specs.Answer.{lowest};
 ghost use Rattle.remainders.specs.steps.Remainders.{AreRemainders};
 ghost use Rattle.recording.specs.steps.Within.{Within};
-ghost use Rattle.judging.specs.Tests.{lastBitsAnswer, syncsAnswer, bisColumnsAnswer, addressFieldsAnswer, psnAnswer, ldcColumnsAnswer, sectorsAnswer};
+ghost use Rattle.judging.specs.Tests.{last_bits_answer, syncs_answer, bis_columns_answer, address_fields_answer, psn_answer, ldc_columns_answer, sectors_answer};
 ghost use Rattle.judging.specs.steps.Tested.{FramesTested};
 
 use address::{Psn, PsnAnswer};
@@ -25,7 +25,7 @@ fn lowest(i: usize, n: usize, refusal: Answer) -> Answer
 
 // 9: the last two bits of an image.
 pub fn last_bits(image: &[u8]) -> Answer
-    ensures { result ≡ lastBitsAnswer (bits_of image.now) }
+    ensures { result ≡ last_bits_answer (bits_of image.now) }
 {
     if bits::read_bit(image, 958302) != 0 {
         return Answer::LastBits;
@@ -39,7 +39,7 @@ pub fn last_bits(image: &[u8]) -> Answer
 // 10: the syncs of a recording from bit `at` on.
 pub fn syncs(image: &[u8], at: usize) -> Answer
     requires { Within image.now at }
-    ensures { result ≡ syncsAnswer (drop at (bits_of image.now)) }
+    ensures { result ≡ syncs_answer (drop at (bits_of image.now)) }
 {
     let sync = recording_syncs::steps::first_wrong_sync(image, at);
     lowest(sync, 497, Answer::Sync(sync))
@@ -47,7 +47,7 @@ pub fn syncs(image: &[u8], at: usize) -> Answer
 
 // 11: its frames. Where they are passed the ECC cluster stands in work and the dc words in dc.
 pub fn frames(image: &[u8], at: usize, dc: &mut [u32], work: &mut [u8]) -> Answer
-    requires { Within image.now at × ((length dc.old ≡ frameCount) × (length work.old ≡ workSize)) }
+    requires { Within image.now at × ((length dc.old ≡ frame_count) × (length work.old ≡ work_size)) }
     ensures { FramesTested (drop at (bits_of image.now)) result dc.new work.new }
 {
     let n = recording_frames::steps::read_frames(image, at, dc, work);
@@ -57,7 +57,7 @@ pub fn frames(image: &[u8], at: usize, dc: &mut [u32], work: &mut [u8]) -> Answe
 // 12: the columns of a BIS block.
 pub fn bis_columns(table: &Remainders, block: Block) -> Answer
     requires { AreRemainders table.now }
-    ensures { result ≡ bisColumnsAnswer block }
+    ensures { result ≡ bis_columns_answer block }
 {
     let column = bis_columns::steps::first_wrong_column_by(table, block);
     lowest(column, 24, Answer::BisColumn(column))
@@ -65,7 +65,7 @@ pub fn bis_columns(table: &Remainders, block: Block) -> Answer
 
 // 13: its address fields.
 pub fn address_fields(block: Block) -> Answer
-    ensures { result ≡ addressFieldsAnswer block }
+    ensures { result ≡ address_fields_answer block }
 {
     let unit = bis_fields::first_wrong_field(block);
     lowest(unit, 16, Answer::AddressUnit(unit))
@@ -73,7 +73,7 @@ pub fn address_fields(block: Block) -> Answer
 
 // 14: its PSN, 0 where it has none.
 pub fn psn(block: Block) -> PsnAnswer
-    ensures { result ≡ psnAnswer block }
+    ensures { result ≡ psn_answer block }
 {
     let found = bis_psn::psn_in(block);
     match found {
@@ -90,8 +90,8 @@ pub fn psn(block: Block) -> PsnAnswer
 
 // 15: the LDC columns of an ECC cluster.
 pub fn ldc_columns(table: &Remainders, work: &[u8]) -> Answer
-    requires { AreRemainders table.now × (length work.now ≡ workSize) }
-    ensures { result ≡ ldcColumnsAnswer work.now }
+    requires { AreRemainders table.now × (length work.now ≡ work_size) }
+    ensures { result ≡ ldc_columns_answer work.now }
 {
     let column = ldc_reader::steps::first_wrong_word(table, work);
     lowest(column, 304, Answer::LdcColumn(column))
@@ -99,8 +99,8 @@ pub fn ldc_columns(table: &Remainders, work: &[u8]) -> Answer
 
 // 16: its sectors, scrambled with this stream.
 pub fn sectors(work: &[u8], stream: &[u8]) -> Answer
-    requires { length work.now ≡ workSize }
-    ensures { result ≡ sectorsAnswer stream.now work.now }
+    requires { length work.now ≡ work_size }
+    ensures { result ≡ sectors_answer stream.now work.now }
 {
     let sector = sector_reader::steps::first_wrong_sector(work, stream);
     lowest(sector, 32, Answer::Sector(sector))

@@ -21,18 +21,18 @@ length-combined [] b e = refl
 length-combined (x ∷ a) [] e = sym e
 length-combined (x ∷ a) (y ∷ b) e = ap suc (length-combined a b (suc_inj e))
 
-pub getD-combined : (a b : List ℕ) (k : ℕ) → length a ≡ length b → get_or (combined a b) k 0 ≡ bit_xor (get_or a k 0) (get_or b k 0)
+pub get_d-combined : (a b : List ℕ) (k : ℕ) → length a ≡ length b → get_or (combined a b) k 0 ≡ bit_xor (get_or a k 0) (get_or b k 0)
 unfolding combined
-getD-combined [] [] k e = refl
-getD-combined [] (y ∷ b) k e = absurd (omega arith)
-getD-combined (x ∷ a) [] k e = absurd (omega arith)
-getD-combined (x ∷ a) (y ∷ b) zero e = refl
-getD-combined (x ∷ a) (y ∷ b) (suc k) e = getD-combined a b k (suc_inj e)
+get_d-combined [] [] k e = refl
+get_d-combined [] (y ∷ b) k e = absurd (omega arith)
+get_d-combined (x ∷ a) [] k e = absurd (omega arith)
+get_d-combined (x ∷ a) (y ∷ b) zero e = refl
+get_d-combined (x ∷ a) (y ∷ b) (suc k) e = get_d-combined a b k (suc_inj e)
 
 -- a list of that length with these numbers is the combination
 pub is-combined : (l a b : List ℕ) → length l ≡ length a → length a ≡ length b → ((k : ℕ) → k < length a → get_or l k 0 ≡ bit_xor (get_or a k 0) (get_or b k 0))
     → l ≡ combined a b
-is-combined l a b size e at = ext_get_or 0 l (combined a b) (size ∙ sym (length-combined a b e)) (λ k h. at k (omega arith) ∙ sym (getD-combined a b k e))
+is-combined l a b size e at = ext_get_or 0 l (combined a b) (size ∙ sym (length-combined a b e)) (λ k h. at k (omega arith) ∙ sym (get_d-combined a b k e))
 
 pub bytes-combined : (a b : List ℕ) → Bytes a → Bytes b → Bytes (combined a b)
 unfolding combined

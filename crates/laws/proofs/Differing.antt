@@ -12,25 +12,25 @@ use borrow.Author.Tests.{eqb-true, eqb-false, eq-eqb, ne_eqb}
 use lib.ListN.{length, get_or}
 use Rattle.laws.specs.Bytes.{Bytes}
 use Rattle.laws.specs.Combined.{combined}
-use Rattle.laws.specs.Differing.{differsAt, differing}
-use Rattle.laws.specs.HowMany.{howMany}
+use Rattle.laws.specs.Differing.{differs_at, differing}
+use Rattle.laws.specs.HowMany.{how_many}
 use Rattle.laws.proofs.Bytes.{bytes-none, bytes-cons}
 use Rattle.laws.proofs.Xor.{xor-twice}
 
 -- ---- one place
 
-pub differs : (a b : List ℕ) (k : ℕ) → (get_or a k 0 ≡ get_or b k 0 → ⊥) → differsAt a b k ≡ true
-unfolding differsAt
+pub differs : (a b : List ℕ) (k : ℕ) → (get_or a k 0 ≡ get_or b k 0 → ⊥) → differs_at a b k ≡ true
+unfolding differs_at
 differs a b k h = rw (ne_eqb (get_or a k 0) (get_or b k 0) h)
 
-pub agrees : (a b : List ℕ) (k : ℕ) → get_or a k 0 ≡ get_or b k 0 → differsAt a b k ≡ false
-unfolding differsAt
+pub agrees : (a b : List ℕ) (k : ℕ) → get_or a k 0 ≡ get_or b k 0 → differs_at a b k ≡ false
+unfolding differs_at
 agrees a b k h = rw (eq-eqb (get_or a k 0) (get_or b k 0) h)
 
 -- ---- the number of indexes below the length at which they differ
 
-pub differing-places : (l m : List ℕ) → length l ≡ length m → differing l m ≡ howMany (length l) (differsAt l m)
-unfolding differing howMany differsAt
+pub differing-places : (l m : List ℕ) → length l ≡ length m → differing l m ≡ how_many (length l) (differs_at l m)
+unfolding differing how_many differs_at
 differing-places [] m e = refl
 differing-places (x ∷ l) [] e = absurd (omega arith)
 differing-places (x ∷ l) (y ∷ m) e = by (eqb x y) (differing-places l m (suc_inj e))

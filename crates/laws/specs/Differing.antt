@@ -2,8 +2,8 @@
 use Rattle.std.specs.Prelude.{Bool, cond, not, List, [], ◌∷◌, ℕ, suc, eqb, get_or}
 
 -- index k holds another number
-unfoldable pub differsAt : List ℕ → List ℕ → ℕ → Bool
-differsAt a b k = not (eqb (get_or a k 0) (get_or b k 0))
+unfoldable pub differs_at : List ℕ → List ℕ → ℕ → Bool
+differs_at a b k = not (eqb (get_or a k 0) (get_or b k 0))
 
 -- in how many places two lists differ, their Hamming distance. It is meant for lists of one length: of a longer one the end is not compared.
 unfoldable pub differing : List ℕ → List ℕ → ℕ

@@ -2,6 +2,6 @@
 use Rattle.std.specs.Prelude.{Bool, cond, ℕ, zero, suc}
 
 -- how many i below m pass a test
-unfoldable pub howMany : ℕ → (ℕ → Bool) → ℕ
-howMany zero p = 0
-howMany (suc m) p = cond (p zero) (suc (howMany m (λ i. p (suc i)))) (howMany m (λ i. p (suc i)))
+unfoldable pub how_many : ℕ → (ℕ → Bool) → ℕ
+how_many zero p = 0
+how_many (suc m) p = cond (p zero) (suc (how_many m (λ i. p (suc i)))) (how_many m (λ i. p (suc i)))

@@ -3,7 +3,7 @@ use mathlib.Core.Path.{◌≡◌, refl}
 use mathlib.Core.List.{List, [], ◌∷◌, map}
 use Prim.Native.Nat.{ℕ, ◌+◌, ◌*◌}
 use native.Mathlib.Omega.{arith}
-use Rattle.ldc.specs.LdcBlock.{frame_of, byte_of, dataIndex}
+use Rattle.ldc.specs.LdcBlock.{frame_of, byte_of, data_index}
 use Rattle.ldc.specs.LdcCluster.{shifted}
 
 -- a row and a column
@@ -19,7 +19,7 @@ abbrev entry : ℕ → ℕ → List ℕ
 entry a b = a ∷ b ∷ []
 
 -- Figure 23: byte and data frame of what stands in the data block; data frame 0 ends inside column 9
-pub figure-23 : map (λ (p : At). entry (byte_of (dataIndex p.column p.row)) (frame_of (dataIndex p.column p.row)))
+pub figure-23 : map (λ (p : At). entry (byte_of (data_index p.column p.row)) (frame_of (data_index p.column p.row)))
     (at 0 0 ∷ at 0 1 ∷ at 0 9 ∷ at 0 10 ∷ at 0 18 ∷ at 0 19 ∷ at 0 303 ∷
     at 1 0 ∷ at 1 1 ∷ at 1 9 ∷ at 1 10 ∷ at 1 18 ∷ at 1 19 ∷ at 1 303 ∷
     at 106 9 ∷ at 107 9 ∷ at 108 9 ∷ at 109 9 ∷ at 214 9 ∷
@@ -31,7 +31,7 @@ pub figure-23 : map (λ (p : At). entry (byte_of (dataIndex p.column p.row)) (fr
 figure-23 = refl
 
 -- 13.5: every even data frame ends halfway down a column, and the odd one behind it starts there
-pub halfway : (h : ℕ) → (2052 * (2 * h) + 2051 ≡ dataIndex (19 * h + 9) 107) × (2052 * (2 * h + 1) ≡ dataIndex (19 * h + 9) 108)
+pub halfway : (h : ℕ) → (2052 * (2 * h) + 2051 ≡ data_index (19 * h + 9) 107) × (2052 * (2 * h + 1) ≡ data_index (19 * h + 9) 108)
 halfway h = (omega arith, omega arith)
 
 -- Figure 26: byte and code word of what stands in the LDC cluster

@@ -3,14 +3,14 @@ use mathlib.Core.Path.{◌≡◌}
 use Prim.Native.Nat.{ℕ, ◌+◌, ◌*◌, ◌-◌, ◌/◌, ◌%◌, ◌<◌}
 use native.Mathlib.Omega.{arith}
 use Rattle.ldc.specs.LdcCluster.{shifted}
-use Rattle.ldc.specs.Places.{ldcPlace}
+use Rattle.ldc.specs.Places.{ldc_place}
 
 -- ---- places and bytes stay within their arrays
 
-pub place-row-lt : (word byte : ℕ) → byte < 248 → (ldcPlace word byte).row < 496
+pub place-row-lt : (word byte : ℕ) → byte < 248 → (ldc_place word byte).row < 496
 place-row-lt word byte h = omega arith
 
-pub place-column-lt : (word byte : ℕ) → (ldcPlace word byte).column < 152
+pub place-column-lt : (word byte : ℕ) → (ldc_place word byte).column < 152
 place-column-lt word byte = omega arith
 
 pub shifted-word-lt : (row column : ℕ) → (shifted row column).word < 304
@@ -38,10 +38,10 @@ shift-there x s hx hs = omega arith
 -- ---- what stands at a byte's place is that byte
 
 module _ (word byte : ℕ) (h : word < 304) where
-  pub byte-at-place : (shifted (ldcPlace word byte).row (ldcPlace word byte).column).byte ≡ byte
+  pub byte-at-place : (shifted (ldc_place word byte).row (ldc_place word byte).column).byte ≡ byte
   byte-at-place = half byte (word % 2) (omega arith)
 
-  pub word-at-place : (shifted (ldcPlace word byte).row (ldcPlace word byte).column).word ≡ word
+  pub word-at-place : (shifted (ldc_place word byte).row (ldc_place word byte).column).word ≡ word
   word-at-place =
       simp (half byte (word % 2) (omega arith), odd byte (word % 2) (omega arith), shift_back (word / 2) (3 * byte % 152) (omega arith) (omega arith))
       (omega arith)
@@ -49,10 +49,10 @@ module _ (word byte : ℕ) (h : word < 304) where
 -- ---- and each place is the place of the byte that stands there
 
 module _ (row column : ℕ) (h : column < 152) where
-  pub place-row : (ldcPlace (shifted row column).word (shifted row column).byte).row ≡ row
+  pub place-row : (ldc_place (shifted row column).word (shifted row column).byte).row ≡ row
   place-row = simp (odd ((column + 3 * (row / 2) % 152) % 152) (row % 2) (omega arith)) (omega arith)
 
-  pub place-column : (ldcPlace (shifted row column).word (shifted row column).byte).column ≡ column
+  pub place-column : (ldc_place (shifted row column).word (shifted row column).byte).column ≡ column
   place-column =
       simp (half ((column + 3 * (row / 2) % 152) % 152) (row % 2) (omega arith))
       (shift-there column (3 * (row / 2) % 152) h (omega arith))

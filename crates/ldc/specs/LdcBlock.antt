@@ -10,17 +10,17 @@ frame_of p = p / 2052
 abbrev pub byte_of : ℕ → ℕ
 byte_of p = p % 2052
 
-abbrev pub dataByte : (ℕ → List ℕ) → ℕ → ℕ
-dataByte frames p = get_or (frames (frame_of p)) (byte_of p) 0
+abbrev pub data_byte : (ℕ → List ℕ) → ℕ → ℕ
+data_byte frames p = get_or (frames (frame_of p)) (byte_of p) 0
 
 -- byte i of column L: the columns are filled one after the other, from the top
-abbrev pub dataIndex : ℕ → ℕ → ℕ
-dataIndex L i = 216 * L + i
+abbrev pub data_index : ℕ → ℕ → ℕ
+data_index L i = 216 * L + i
 
 -- e_0,L to e_215,L: column L of the data block
 unfoldable pub information : (ℕ → List ℕ) → ℕ → List ℕ
-information frames L = tabulate 216 (λ i. dataByte frames (dataIndex L i))
+information frames L = tabulate 216 (λ i. data_byte frames (data_index L i))
 
 -- code word L: its 216 information bytes and 32 parity bytes
-unfoldable pub codeWord : (ℕ → List ℕ) → ℕ → List ℕ
-codeWord frames L = information frames L ++ parity 32 (information frames L)
+unfoldable pub code_word : (ℕ → List ℕ) → ℕ → List ℕ
+code_word frames L = information frames L ++ parity 32 (information frames L)

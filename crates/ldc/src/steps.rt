@@ -1,13 +1,13 @@
 // The place of a byte.
 ghost use Rattle.std.specs.Prelude.{◌≡◌, ◌<◌};
-ghost use Rattle.ldc.specs.Places.{ldcPlace};
+ghost use Rattle.ldc.specs.Places.{ldc_place};
 
 use crate::Place;
 
 // Where byte `byte` of code word `word` stands.
 pub fn locate(word: usize, byte: usize) -> Place
     requires { (word < 304) × (byte < 248) }
-    ensures { result ≡ ldcPlace word byte }
+    ensures { result ≡ ldc_place word byte }
 {
     Place {
         row: 2 * byte + word % 2,

@@ -1,7 +1,7 @@
 // The code words of an eighth.
 ghost use Rattle.std.specs.Prelude.{◌≡◌, ◌++◌, ◌+◌, length};
 ghost use Rattle.remainders.specs.steps.Remainders.{AreRemainders};
-ghost use Rattle.ldc_words.specs.steps.Eighth.{completed, completedWords};
+ghost use Rattle.ldc_words.specs.steps.Eighth.{completed, completed_words};
 
 use remainders::Remainders;
 
@@ -34,7 +34,7 @@ fn complete(table: &Remainders, information: &[u8], word: &mut [u8])
 // The code words of the information bytes of four data frames.
 pub fn complete_words(table: &Remainders, frames: &[u8], words: &mut [u8])
     requires { AreRemainders table.now × ((length frames.now ≡ 8208) × (length words.old ≡ 9424)) }
-    ensures { words.new ≡ completedWords frames.now }
+    ensures { words.new ≡ completed_words frames.now }
 {
     let mut j = 0;
     while j < 38 {

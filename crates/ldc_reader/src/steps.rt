@@ -2,16 +2,16 @@
 ghost use Rattle.std.specs.Prelude.{◌≡◌, length};
 ghost use Rattle.laws.specs.First.{first};
 ghost use Rattle.remainders.specs.steps.Remainders.{AreRemainders};
-ghost use Rattle.cluster.specs.Reading.{firstWrongWord};
-ghost use Rattle.ldc_words.specs.steps.Eighth.{wrongOf};
-ghost use Rattle.sizes.specs.Sizes.{workSize};
+ghost use Rattle.cluster.specs.Reading.{first_wrong_word};
+ghost use Rattle.ldc_words.specs.steps.Eighth.{wrong_of};
+ghost use Rattle.sizes.specs.Sizes.{work_size};
 
 use remainders::Remainders;
 
 // The lowest of 38 code words that has not its 32 roots, or 38.
 fn first_wrong_of(table: &Remainders, words: &[u8]) -> usize
     requires { AreRemainders table.now × (length words.now ≡ 9424) }
-    ensures { result ≡ first 38 (wrongOf words.now) }
+    ensures { result ≡ first 38 (wrong_of words.now) }
 {
     let mut j = 0;
     while j < 38 {
@@ -28,8 +28,8 @@ fn first_wrong_of(table: &Remainders, words: &[u8]) -> usize
 
 // The lowest LDC column whose parity is wrong, or 304.
 pub fn first_wrong_word(table: &Remainders, work: &[u8]) -> usize
-    requires { AreRemainders table.now × (length work.now ≡ workSize) }
-    ensures { result ≡ firstWrongWord work.now }
+    requires { AreRemainders table.now × (length work.now ≡ work_size) }
+    ensures { result ≡ first_wrong_word work.now }
 {
     let mut words = ldc_words::steps::no_words();
     let mut e = 0;

@@ -1,8 +1,8 @@
 // Code words and data frames of an eighth, put into the cluster and taken out of it.
 ghost use Rattle.std.specs.Prelude.{◌≡◌, ℕ, ◌+◌, ◌*◌, ◌<◌, ◌≤◌, length};
-ghost use Rattle.cluster.specs.steps.Places.{wordIndex};
-ghost use Rattle.ldc_words.specs.steps.Eighth.{RunOf, BytesTaken, WordsTaken, BytesPut, WordsPut, informationOf};
-ghost use Rattle.sizes.specs.Sizes.{workSize};
+ghost use Rattle.cluster.specs.steps.Places.{word_index};
+ghost use Rattle.ldc_words.specs.steps.Eighth.{RunOf, BytesTaken, WordsTaken, BytesPut, WordsPut, information_of};
+ghost use Rattle.sizes.specs.Sizes.{work_size};
 
 use crate::{Frames, Words};
 
@@ -20,7 +20,7 @@ pub fn no_frames() -> Frames
 
 // Where a run of 19 bytes in a row of the cluster stands: from `first` on, but for a column of the BIS cluster or the row's end behind
 // `left` of them, from `second` on.
-#[derive(Drop)]
+#[derive(Clone, Copy)]
 struct Run {
     left: usize,
     first: usize,
@@ -44,8 +44,8 @@ fn run_of(e: usize, n: usize) -> Run
 
 // Where byte i of a run stands.
 fn run_index(run: Run, i: usize) -> usize
-    requires { ((run.first < workSize) × (run.second < workSize)) × (i < 19) }
-    ensures { (e n : ℕ) → RunOf e n run.left run.first run.second → result ≡ wordIndex (38 * e + 2 * i) n }
+    requires { ((run.first < work_size) × (run.second < work_size)) × (i < 19) }
+    ensures { (e n : ℕ) → RunOf e n run.left run.first run.second → result ≡ word_index (38 * e + 2 * i) n }
 {
     if i < run.left {
         return run.first + i;
@@ -55,7 +55,7 @@ fn run_index(run: Run, i: usize) -> usize
 
 // Byte n of each code word of eighth e, out of the cluster.
 fn take_bytes(work: &[u8], e: usize, n: usize, words: &mut [u8])
-    requires { ((length work.now ≡ workSize) × (length words.old ≡ 9424)) × ((e < 8) × (n < 248)) }
+    requires { ((length work.now ≡ work_size) × (length words.old ≡ 9424)) × ((e < 8) × (n < 248)) }
     ensures { BytesTaken work.now e n words.old words.new }
 {
     let run = run_of(e, n);
@@ -70,7 +70,7 @@ fn take_bytes(work: &[u8], e: usize, n: usize, words: &mut [u8])
 
 // The first `count` bytes of each code word of eighth e, out of the cluster.
 pub fn take_words(work: &[u8], e: usize, count: usize, words: &mut [u8])
-    requires { ((length work.now ≡ workSize) × (length words.old ≡ 9424)) × ((e < 8) × (count ≤ 248)) }
+    requires { ((length work.now ≡ work_size) × (length words.old ≡ 9424)) × ((e < 8) × (count ≤ 248)) }
     ensures { WordsTaken work.now e count words.new }
 {
     let mut n = 0;
@@ -82,7 +82,7 @@ pub fn take_words(work: &[u8], e: usize, count: usize, words: &mut [u8])
 
 // Byte n of each code word of eighth e, into the cluster.
 fn put_bytes(words: &[u8], e: usize, n: usize, work: &mut [u8])
-    requires { ((length words.now ≡ 9424) × (length work.old ≡ workSize)) × ((e < 8) × (n < 248)) }
+    requires { ((length words.now ≡ 9424) × (length work.old ≡ work_size)) × ((e < 8) × (n < 248)) }
     ensures { BytesPut words.now e n work.old work.new }
 {
     let run = run_of(e, n);
@@ -97,7 +97,7 @@ fn put_bytes(words: &[u8], e: usize, n: usize, work: &mut [u8])
 
 // The code words of eighth e, into the cluster.
 pub fn put_words(words: &[u8], e: usize, work: &mut [u8])
-    requires { ((length words.now ≡ 9424) × (length work.old ≡ workSize)) × (e < 8) }
+    requires { ((length words.now ≡ 9424) × (length work.old ≡ work_size)) × (e < 8) }
     ensures { WordsPut words.now e 248 work.old work.new }
 {
     let mut n = 0;
@@ -110,7 +110,7 @@ pub fn put_words(words: &[u8], e: usize, work: &mut [u8])
 // The information bytes of the code words, one word's behind the other's.
 pub fn take_information(words: &[u8], frames: &mut [u8])
     requires { (length words.now ≡ 9424) × (length frames.old ≡ 8208) }
-    ensures { frames.new ≡ informationOf words.now }
+    ensures { frames.new ≡ information_of words.now }
 {
     let mut j = 0;
     while j < 38 {

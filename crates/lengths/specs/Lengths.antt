@@ -2,25 +2,25 @@
 use Rattle.std.specs.Prelude.{◌≡◌, cond, ℕ, eqb}
 use Rattle.answer.specs.declared.Answer.{Answer}
 use Rattle.answer.specs.declared.Answer.TheVariants.{Done, WrongUser, WrongSide, WrongDc, WrongImage, WrongWork}
-use Rattle.answer.specs.Answer.{andThen}
-use Rattle.sizes.specs.Sizes.{workSize, imageSize, sideSize, frameCount, userSize}
+use Rattle.answer.specs.Answer.{and_then}
+use Rattle.sizes.specs.Sizes.{work_size, image_size, side_size, frame_count, user_size}
 
 -- a test of a length that has to be `right`
 abbrev pub sized : ℕ → ℕ → Answer → Answer
 sized size right refusal = cond (eqb size right) Done refusal
 
 -- of user bytes, side data, dc words, image and work, in rising order
-unfoldable pub lengthsAnswer : ℕ → ℕ → ℕ → ℕ → ℕ → Answer
-lengthsAnswer user side dc image work =
-    andThen (sized user userSize (WrongUser 0))
-    (andThen (sized side sideSize WrongSide)
-    (andThen (sized dc frameCount WrongDc)
-    (andThen (sized image imageSize WrongImage)
-    (sized work workSize WrongWork))))
+unfoldable pub lengths_answer : ℕ → ℕ → ℕ → ℕ → ℕ → Answer
+lengths_answer user side dc image work =
+    and_then (sized user user_size (WrongUser 0))
+    (and_then (sized side side_size WrongSide)
+    (and_then (sized dc frame_count WrongDc)
+    (and_then (sized image image_size WrongImage)
+    (sized work work_size WrongWork))))
 
 -- user bytes, side data, dc words and work have their lengths; that of the image stands beside it
 pub record RightLengths (u s d w : ℕ) : Type 0 where
-  pub user : u ≡ userSize
-  pub side : s ≡ sideSize
-  pub dc : d ≡ frameCount
-  pub work : w ≡ workSize
+  pub user : u ≡ user_size
+  pub side : s ≡ side_size
+  pub dc : d ≡ frame_count
+  pub work : w ≡ work_size

@@ -1,6 +1,8 @@
 // A length that is tested; answers 1 to 5, the lengths of lent slices.
+#![tactic(auto)]
+
 ghost use Rattle.std.specs.Prelude.{◌≡◌};
-ghost use Rattle.lengths.specs.Lengths.{sized, lengthsAnswer};
+ghost use Rattle.lengths.specs.Lengths.{sized, lengths_answer};
 
 use answer::Answer;
 
@@ -16,7 +18,7 @@ pub fn sized(size: usize, right: usize, refusal: Answer) -> Answer
 
 // Tests 1 to 5: the lengths of the lent slices.
 pub fn judge(user: usize, side: usize, dc: usize, image: usize, work: usize) -> Answer
-    ensures { result ≡ lengthsAnswer user side dc image work }
+    ensures { result ≡ lengths_answer user side dc image work }
 {
     let one = sized(user, sizes::USER, Answer::WrongUser(0));
     let two = sized(side, sizes::SIDE, Answer::WrongSide);

@@ -6,14 +6,14 @@ use lib.IntN.{ℤ}
 use mir.Val.{bool_byte}
 use Rattle.texts.specs.declared.Text.{Text}
 use Rattle.texts.specs.Text.{the, added}
-use Rattle.texts.specs.Numbers.{decimalTo, decimal, signedDecimal}
+use Rattle.texts.specs.Numbers.{decimal_to, decimal, signedDecimal}
 use Rattle.texts.proofs.Texts.{added-three}
 use Rattle.report.specs.Words.{levelText}
 
 -- the sum was handed on as s
 pub level-line-is : (level : Bool) (sum : ℤ) (text : Text) {s : ℤ} {t u v : Text} → s ≡ sum → t ≡ added text (the "level " ++ decimal (bool_byte level) ++ the " sum ")
     → u ≡ added t (signedDecimal s) → v ≡ added u (the "\n") → v ≡ added text (levelText level sum)
-unfolding levelText decimalTo
+unfolding levelText decimal_to
 level-line-is level sum text {s} {t} {u} {v} hs ht hu hv = by level ht ∙ ap (λ (z : ℤ). added text (levelText level z)) hs
   where
     by : (b : Bool) → t ≡ added text (the "level " ++ decimal (bool_byte b) ++ the " sum ") → v ≡ added text (levelText b s)

@@ -1,4 +1,6 @@
 // What the programs print for an image that was written, as bytes.
+#![tactic(auto)]
+
 ghost use mathlib.Core.Path.{◌≡◌};
 ghost use Rattle.texts.specs.Text.{added, text_of};
 ghost use Rattle.texts.specs.Numbers.{signedDecimal};

@@ -4,7 +4,7 @@ use Prim.Native.Nat.{ℕ}
 use Rattle.edc.proofs.Linear.{edc-combined, edc-bytes-combined}
 use Rattle.column.proofs.Linear.{parity-combined}
 use Rattle.column.proofs.Parity.{is-parity-combined}
-use Rattle.scrambling.specs.Scrambling.{scramblingOf}
+use Rattle.scrambling.specs.Scrambling.{scrambling_of}
 use Rattle.scrambling.proofs.Stream.{scrambled-both, scrambled-twice, scrambled-combined}
 use Rattle.sector.proofs.Frame.{frame-combined, sector-combined}
 use Rattle.ldc.proofs.Linear.{information-combined, word-combined, ldc-combined}
@@ -12,7 +12,7 @@ use Rattle.linearity.specs.Linearity.{EdcLinear, ParityLinear, ScramblingDropsOu
 
 -- THE EDC OF TWO SECTORS COMBINED IS THE COMBINATION OF THEIR EDCS
 pub edc-linear : EdcLinear
-edc-linear = record { numbers = edc-combined; four_bytes = edc-bytes-combined; data-frames = frame-combined }
+edc-linear = record { numbers = edc-combined; four-bytes = edc-bytes-combined; data-frames = frame-combined }
 
 -- SO IS THE PARITY OF TWO COLUMNS OF EQUAL LENGTH
 pub parity-linear : ParityLinear
@@ -22,9 +22,9 @@ parity-linear = record { parities = parity-combined; by-roots = is-parity-combin
 pub scrambling-drops-out : (psn : ℕ) → ScramblingDropsOut psn
 scrambling-drops-out psn =
     record {
-      frames = scrambled-both (scramblingOf psn);
-      undone = scrambled-twice (scramblingOf psn);
-      one-part = scrambled-combined (scramblingOf psn);
+      frames = scrambled-both (scrambling_of psn);
+      undone = scrambled-twice (scrambling_of psn);
+      one-part = scrambled-combined (scrambling_of psn);
       sectors = sector-combined psn;
     }
 

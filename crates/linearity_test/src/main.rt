@@ -1,6 +1,8 @@
 // Document 02, W-210. Standard input has sectors 0 and 31 of an outside vector, whose PSN is 02F76400h, then their scrambled data frames, taken out of its
 // ECC cluster. Prints the sums of error-detection codes, of parities and of data frames; and in how many bytes the last fails where one frame is left
 // plain, or is of another cluster.
+#![tactic(auto)]
+
 use address::Psn;
 use test_support::{compare, lines};
 

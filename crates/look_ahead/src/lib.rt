@@ -1,16 +1,18 @@
 // How far ahead of a word's start the modulator reads in a frame (document 02, W-212).
+#![tactic(auto)]
+
 ghost use Rattle.std.specs.Prelude.{Bool, ◌≡◌, ◌*◌, ◌≤◌, max, length};
-ghost use Rattle.sizes.specs.Sizes.{rowSize};
+ghost use Rattle.sizes.specs.Sizes.{row_size};
 ghost use Rattle.modulation.specs.Bits.{pairs};
-ghost use Rattle.modulation.specs.steps.Words.{bitsIn, Words};
-ghost use Rattle.frame_bits.specs.FrameBits.{frameBits};
-ghost use Rattle.word_needs.specs.Needed.{mostNeeded};
-ghost use Rattle.look_ahead.specs.Outcome.{dcAnswer, frameAnswer, outcome};
+ghost use Rattle.modulation.specs.steps.Words.{bits_in, Words};
+ghost use Rattle.frame_bits.specs.FrameBits.{frame_bits};
+ghost use Rattle.word_needs.specs.Needed.{most_needed};
+ghost use Rattle.look_ahead.specs.Outcome.{dc_answer, frame_answer, outcome};
 
 use answer::Answer;
 
 // What is answered, and the most bits that any word of the frame needs, 0 under a refusal.
-#[derive(Drop)]
+#[derive(Clone, Copy)]
 pub struct Ahead {
     pub answer: Answer,
     pub bits: u32,
@@ -28,7 +30,7 @@ fn max(m: usize, n: usize) -> usize
 // The most pairs that any word needs.
 fn most_pairs(words: &[u64; 29]) -> usize
     requires { Words words.now }
-    ensures { (result ≤ 6) × ((b : Bool) → result ≡ mostNeeded b (pairs (bitsIn words.now))) }
+    ensures { (result ≤ 6) × ((b : Bool) → result ≡ most_needed b (pairs (bits_in words.now))) }
 {
     let mut most = 0;
     let mut p = 0;
@@ -41,8 +43,8 @@ fn most_pairs(words: &[u64; 29]) -> usize
 }
 
 fn most_bits(row: &[u8], dc: u32) -> u32
-    requires { length row.now ≡ rowSize }
-    ensures { (b : Bool) → result ≡ 2 * mostNeeded b (pairs (frameBits row.now dc)) }
+    requires { length row.now ≡ row_size }
+    ensures { (b : Bool) → result ≡ 2 * most_needed b (pairs (frame_bits row.now dc)) }
 {
     let mut words = frame_bits::steps::no_words();
     weaving::steps::frame_words(row, dc, &mut words);
@@ -51,7 +53,7 @@ fn most_bits(row: &[u8], dc: u32) -> u32
 
 // Test 8.
 fn judge_dc(dc: u32) -> Answer
-    ensures { result ≡ dcAnswer dc }
+    ensures { result ≡ dc_answer dc }
 {
     if 0x0FFF_FFFF < dc {
         return Answer::DcWord(0);
@@ -61,7 +63,7 @@ fn judge_dc(dc: u32) -> Answer
 
 // Tests 21 and 8.
 fn judge(size: usize, dc: u32) -> Answer
-    ensures { result ≡ frameAnswer size dc }
+    ensures { result ≡ frame_answer size dc }
 {
     let row = lengths::sized(size, sizes::ROW, Answer::WrongRow);
     row.and_then(judge_dc(dc))

@@ -1,5 +1,7 @@
 // Document 02, W-212. Standard input has 24 records of 159 bytes: a dc word, the highest byte first, and a row. Prints answer, place and bits of each;
 // `stdout` has them from an independent program. Then the same of rows of other lengths and of dc words that are refused.
+#![tactic(auto)]
+
 use look_ahead::Ahead;
 use test_support::{compare, lines};
 

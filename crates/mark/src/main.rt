@@ -1,5 +1,7 @@
 // mark PSN USER SIDE IMAGE: whether the image is that of these user bytes, this side data and this PSN under some dc-control bits and
 // some first #.
+#![tactic(auto)]
+
 use address::Psn;
 use notation::PsnText;
 

@@ -10,12 +10,12 @@ use lib.Dec.{eqb, ltb}
 use lib.ListN.{length, get_or}
 use lib.Seq.{ext_get_or}
 use Rattle.laws.specs.Bytes.{Bytes}
-use Rattle.laws.specs.Differing.{differsAt}
+use Rattle.laws.specs.Differing.{differs_at}
 use Rattle.laws.proofs.Differing.{agrees}
 use Rattle.laws.proofs.First.{first-none, first-all}
 use Rattle.answer.specs.declared.Answer.{Answer}
 use Rattle.answer.specs.declared.Answer.TheVariants.{Done, WrongUser, WrongSide}
-use Rattle.answer.specs.Answer.{number_of, isDone, andThen}
+use Rattle.answer.specs.Answer.{number_of, is_done, and_then}
 use Rattle.answer.proofs.Tests.{done-is, then-both}
 use Rattle.lengths.specs.Lengths.{sized}
 use Rattle.lengths.proofs.RightLengths.{sized-right}
@@ -23,38 +23,38 @@ use Rattle.image.specs.Image as Image
 use Rattle.image.specs.Image.{Input, IsAccepted}
 use Rattle.reader.specs.Outcome.{Lent, Outcome, outcome}
 use Rattle.reader.specs.Promise.{RightSlices}
-use Rattle.reader.proofs.Statements.{returned, read_back, nothing-else}
+use Rattle.reader.proofs.Statements.{returned, read-back, nothing-else}
 use Rattle.verdict.specs.declared.Verdict.{Verdict}
 use Rattle.verdict.specs.declared.Verdict.TheVariants.{Pass, Refused, OtherPsn, OtherUser, OtherSide}
-use Rattle.marker.specs.Marked.{IsImageOf, verdictOf, markedRead, Marked, marked}
-use Rattle.comparison.specs.Compared.{firstOther, compared}
+use Rattle.marker.specs.Marked.{IsImageOf, verdict_of, marked_read, Marked, marked}
+use Rattle.comparison.specs.Compared.{first_other, compared}
 use Rattle.marker.proofs.Judging.{given-done}
 use Rattle.comparison.proofs.Compared.{all_same}
 
 -- ---- lists without a difference
 
 -- no difference is found in two lists of n elements exactly where they are the same
-no_other : (n : ℕ) (a b : List ℕ) → length a ≡ n → length b ≡ n → n ≤ firstOther n a b → a ≡ b
-unfolding firstOther differsAt
-no_other n a b ha hb h = ext_get_or 0 a b (ha ∙ sym hb) (λ k lt. eqb-true (get_or a k 0) (get_or b k 0) (not-false _ (first-all n (differsAt a b) h k (omega arith))))
+no_other : (n : ℕ) (a b : List ℕ) → length a ≡ n → length b ≡ n → n ≤ first_other n a b → a ≡ b
+unfolding first_other differs_at
+no_other n a b ha hb h = ext_get_or 0 a b (ha ∙ sym hb) (λ k lt. eqb-true (get_or a k 0) (get_or b k 0) (not-false _ (first-all n (differs_at a b) h k (omega arith))))
 
-same_none : (n : ℕ) (a : List ℕ) → n ≤ firstOther n a a
-unfolding firstOther
-same_none n a = let none = first-none n (differsAt a a) (record { fails = λ k h. agrees a a k refl }) in omega arith
+same_none : (n : ℕ) (a : List ℕ) → n ≤ first_other n a a
+unfolding first_other
+same_none n a = let none = first-none n (differs_at a a) (record { fails = λ k h. agrees a a k refl }) in omega arith
 
 -- ---- the verdict that is `Pass`
 
 record Same (psn : ℕ) (user side : List ℕ) (found : ℕ) (bytes control : List ℕ) : Type 0 where
   psn-same : found ≡ psn
-  user-same : 65536 ≤ firstOther 65536 user bytes
-  side_same : 592 ≤ firstOther 592 side control
+  user-same : 65536 ≤ first_other 65536 user bytes
+  side_same : 592 ≤ first_other 592 side control
 
 compared-pass : (psn : ℕ) (user side : List ℕ) (found : ℕ) (bytes control : List ℕ) → compared psn user side found bytes control ≡ Pass → Same psn user side found bytes control
 unfolding compared
-compared-pass psn user side found bytes control e = by (eqb found psn) (ltb (firstOther 65536 user bytes) 65536) (ltb (firstOther 592 side control) 592) refl refl refl e
+compared-pass psn user side found bytes control e = by (eqb found psn) (ltb (first_other 65536 user bytes) 65536) (ltb (first_other 592 side control) 592) refl refl refl e
   where
-    by : (p u s : Bool) → eqb found psn ≡ p → ltb (firstOther 65536 user bytes) 65536 ≡ u → ltb (firstOther 592 side control) 592 ≡ s
-        → cond p (cond u (OtherUser (firstOther 65536 user bytes)) (cond s (OtherSide (firstOther 592 side control)) Pass)) (OtherPsn (record { 0 = found })) ≡ Pass
+    by : (p u s : Bool) → eqb found psn ≡ p → ltb (first_other 65536 user bytes) 65536 ≡ u → ltb (first_other 592 side control) 592 ≡ s
+        → cond p (cond u (OtherUser (first_other 65536 user bytes)) (cond s (OtherSide (first_other 592 side control)) Pass)) (OtherPsn (record { 0 = found })) ≡ Pass
         → Same psn user side found bytes control
     by true false false hp hu hs e = record { psn-same = eqb-true found psn hp; user-same = ltb-false _ _ hu; side_same = ltb-false _ _ hs }
     by true false true hp hu hs e = let z : ◌≡◌ {A = ℕ} 0 1 = cc in absurd (omega arith)
@@ -66,22 +66,22 @@ module _ (psn : ℕ) (user side image : List ℕ) (before : Lent) where
   read = outcome image before
 
   abbrev given : Answer
-  given = andThen (sized (length user) 65536 (WrongUser 0)) (sized (length side) 592 WrongSide)
+  given = and_then (sized (length user) 65536 (WrongUser 0)) (sized (length side) 592 WrongSide)
 
-  verdict-pass : verdictOf psn user side read ≡ Pass → (read.answer ≡ Done) × Same psn user side read.psn read.lent.user read.lent.side
-  verdict-pass e = by (isDone read.answer) refl e
+  verdict-pass : verdict_of psn user side read ≡ Pass → (read.answer ≡ Done) × Same psn user side read.psn read.lent.user read.lent.side
+  verdict-pass e = by (is_done read.answer) refl e
     where
-      by : (t : Bool) → isDone read.answer ≡ t → cond t (compared psn user side read.psn read.lent.user read.lent.side) (Refused read.answer) ≡ Pass
+      by : (t : Bool) → is_done read.answer ≡ t → cond t (compared psn user side read.psn read.lent.user read.lent.side) (Refused read.answer) ≡ Pass
           → (read.answer ≡ Done) × Same psn user side read.psn read.lent.user read.lent.side
       by true t e = (done-is read.answer t, compared-pass psn user side read.psn read.lent.user read.lent.side e)
       by false t e = let z : ◌≡◌ {A = ℕ} 0 1 = cc in absurd (omega arith)
 
-  marked-pass : (marked psn user side image before).verdict ≡ Pass → (given ≡ Done) × (verdictOf psn user side read ≡ Pass)
+  marked-pass : (marked psn user side image before).verdict ≡ Pass → (given ≡ Done) × (verdict_of psn user side read ≡ Pass)
   unfolding marked
-  marked-pass e = by given (isDone given) refl e
+  marked-pass e = by given (is_done given) refl e
     where
-      by : (g : Answer) (t : Bool) → isDone g ≡ t → (cond t (markedRead psn user side read) (record { verdict = Refused g; lent = before })).verdict ≡ Pass
-          → (g ≡ Done) × (verdictOf psn user side read ≡ Pass)
+      by : (g : Answer) (t : Bool) → is_done g ≡ t → (cond t (marked_read psn user side read) (record { verdict = Refused g; lent = before })).verdict ≡ Pass
+          → (g ≡ Done) × (verdict_of psn user side read ≡ Pass)
       by g true t e = (done-is g t, e)
       by g false t e = let z : ◌≡◌ {A = ℕ} 0 1 = cc in absurd (omega arith)
 
@@ -104,12 +104,12 @@ module _ (psn : ℕ) (user side image : List ℕ) (before : Lent) where
   unfolding marked
   passing f is =
       let input : Input = record { user = user; psn = psn; side = side; dc = is.dc; first = is.first } in
-      let back = ap (λ (l : List ℕ). outcome l before) is.image-is ∙ read_back input is.accepted before f in
+      let back = ap (λ (l : List ℕ). outcome l before) is.image-is ∙ read-back input is.accepted before f in
       let right : given ≡ Done =
       then-both (sized (length user) 65536 (WrongUser 0)) (sized (length side) 592 WrongSide) (sized-right (WrongUser 0) is.accepted.user.size)
       (sized-right WrongSide is.accepted.side.size) in
-      ap (λ (g : Answer). (cond (isDone g) (markedRead psn user side read) (record { verdict = Refused g; lent = before })).verdict) right
-      ∙ ap (verdictOf psn user side) back
+      ap (λ (g : Answer). (cond (is_done g) (marked_read psn user side read) (record { verdict = Refused g; lent = before })).verdict) right
+      ∙ ap (verdict_of psn user side) back
       ∙ sym (all_same psn user side psn user side _ _ refl refl (same_none 65536 user) refl (same_none 592 side))
 
   -- PASS IF AND ONLY IF some dc words and some first # make an accepted input whose image this is

@@ -1,14 +1,14 @@
 -- The marker's verdict on an image, and what it leaves in the slices that it is lent.
 use Rattle.std.specs.Prelude.{◌≡◌, Bool, cond, List, ℕ, length}
 use Rattle.answer.specs.declared.Answer.TheVariants.{WrongUser, WrongSide}
-use Rattle.answer.specs.Answer.{isDone, andThen}
+use Rattle.answer.specs.Answer.{is_done, and_then}
 use Rattle.lengths.specs.Lengths.{sized}
 use Rattle.image.specs.Image as Image
 use Rattle.reader.specs.Outcome.{Lent, Outcome, outcome}
 use Rattle.verdict.specs.declared.Verdict.{Verdict}
 use Rattle.verdict.specs.declared.Verdict.TheVariants.{Refused}
 use Rattle.comparison.specs.Compared.{compared}
-use Rattle.sizes.specs.Sizes.{sideSize, userSize}
+use Rattle.sizes.specs.Sizes.{side_size, user_size}
 
 -- ---- what a pass says
 
@@ -22,19 +22,19 @@ pub record IsImageOf (psn : ℕ) (user side image : List ℕ) : Type 0 where
 
 -- ---- the verdict, test by test
 
-abbrev pub verdictOf : ℕ → List ℕ → List ℕ → Outcome → Verdict
-verdictOf psn user side read = cond (isDone read.answer) (compared psn user side read.psn read.lent.user read.lent.side) (Refused read.answer)
+abbrev pub verdict_of : ℕ → List ℕ → List ℕ → Outcome → Verdict
+verdict_of psn user side read = cond (is_done read.answer) (compared psn user side read.psn read.lent.user read.lent.side) (Refused read.answer)
 
 pub record Marked : Type 0 where
   pub verdict : Verdict
   pub lent : Lent
 
 -- the lent slices are left as the reader leaves them
-abbrev pub markedRead : ℕ → List ℕ → List ℕ → Outcome → Marked
-markedRead psn user side read = record { verdict = verdictOf psn user side read; lent = read.lent }
+abbrev pub marked_read : ℕ → List ℕ → List ℕ → Outcome → Marked
+marked_read psn user side read = record { verdict = verdict_of psn user side read; lent = read.lent }
 
 -- where what is given has another length, by 1 or 2, as they were
 unfoldable pub marked : ℕ → List ℕ → List ℕ → List ℕ → Lent → Marked
 marked psn user side image before =
-    let given = andThen (sized (length user) userSize (WrongUser 0)) (sized (length side) sideSize WrongSide) in
-    cond (isDone given) (markedRead psn user side (outcome image before)) (record { verdict = Refused given; lent = before })
+    let given = and_then (sized (length user) user_size (WrongUser 0)) (sized (length side) side_size WrongSide) in
+    cond (is_done given) (marked_read psn user side (outcome image before)) (record { verdict = Refused given; lent = before })

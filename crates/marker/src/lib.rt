@@ -1,9 +1,11 @@
 // The marker's verdict: whether an image is that of these user bytes, this side data and this PSN under some dc-control bits and some first #.
+#![tactic(auto)]
+
 ghost use Rattle.std.specs.Prelude.{◌≡◌, ◌↔◌, length};
 ghost use Rattle.reader.specs.Outcome.{outcome};
 ghost use Rattle.reader.specs.Promise.{RightSlices};
-ghost use Rattle.marker.specs.Marked.{markedRead, marked, IsImageOf};
-ghost use Rattle.sizes.specs.Sizes.{sideSize, userSize};
+ghost use Rattle.marker.specs.Marked.{marked_read, marked, IsImageOf};
+ghost use Rattle.sizes.specs.Sizes.{side_size, user_size};
 
 use address::Psn;
 use answer::Answer;
@@ -20,9 +22,9 @@ fn mark_sized(
     dc: &mut [u32],
     work: &mut [u8],
 ) -> Verdict
-    requires { (length user.now ≡ userSize) × (length side.now ≡ sideSize) }
+    requires { (length user.now ≡ user_size) × (length side.now ≡ side_size) }
     ensures { record { verdict = result; lent = record { user = bytes.new; side = control.new; dc = dc.new; work = work.new } }
-        ≡ markedRead psn.0 user.entry.now side.now (outcome image.now (record { user = bytes.old; side = control.old; dc = dc.old; work = work.old })) }
+        ≡ marked_read psn.0 user.entry.now side.now (outcome image.now (record { user = bytes.old; side = control.old; dc = dc.old; work = work.old })) }
 {
     let read = reader::read_image(image, bytes, control, dc, work);
     let answer = read.answer;

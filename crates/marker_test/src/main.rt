@@ -1,11 +1,13 @@
 // Each verdict, on images that the writer makes of drawn user bytes and side data.
+#![tactic(auto)]
+
 use address::Psn;
 use test_bytes::{draws, lent};
 use test_support::{compare, lines};
 use verdict::Verdict;
 
 // What an image is marked by, and the image.
-#[derive(Drop)]
+#[derive(Clone, Copy)]
 struct Given {
     psn: u32,
     user: [u8; 65536],

@@ -1,15 +1,17 @@
 // What mark does between its files, on slices.
+#![tactic(auto)]
+
 ghost use Rattle.std.specs.Prelude.{◌≡◌, ◌↔◌};
 ghost use Rattle.texts.specs.Text.{the, text_of};
 ghost use Rattle.marker.specs.Marked.{IsImageOf};
-ghost use Rattle.marking.specs.Marking.{markText};
+ghost use Rattle.marking.specs.Marking.{mark_text};
 
 use address::Psn;
 use texts::Text;
 
 // Whether an image is that of these user bytes, this side data and this PSN under some dc words and some first #.
 pub fn mark(psn: Psn, user: &[u8], side: &[u8], image: &[u8]) -> Text
-    ensures value { result ≡ text_of (markText psn.0 user.now side.now image.now) }
+    ensures value { result ≡ text_of (mark_text psn.0 user.now side.now image.now) }
     ensures variant { (result ≡ text_of (the "pass\n")) ↔ IsImageOf psn.0 user.now side.now image.now }
 {
     let mut bytes = buffers::user_bytes();

@@ -10,10 +10,10 @@ use Rattle.modulation.specs.Sync.{sync}
 use Rattle.modulation.specs.Stream.{Recording, hash, modulated, recorded, run, stream}
 
 -- the first group of a sync
-abbrev firstGroup : Bool → Three
-firstGroup h = cond h m101 m001
+abbrev first_group : Bool → Three
+first_group h = cond h m101 m001
 
-group-bit : (g h : Bool) (ms : List Three) → bits (firstGroup h ∷ ms) ≡ cond h 1 0 ∷ drop 1 (bits (firstGroup g ∷ ms))
+group-bit : (g h : Bool) (ms : List Three) → bits (first_group h ∷ ms) ≡ cond h 1 0 ∷ drop 1 (bits (first_group g ∷ ms))
 group-bit true true ms = refl
 group-bit true false ms = refl
 group-bit false true ms = refl
@@ -29,7 +29,7 @@ module _ (c : Recording) where
   behind zero = drop 1 (sync false (c.number 0)) ++ (modulated (c.number 0) (c.frames 0)).groups
   behind (suc n) = behind n ++ recorded c (suc n)
 
-  run-behind : (h : Bool) (n : ℕ) → run (begun h) (suc n) ≡ firstGroup h ∷ behind n
+  run-behind : (h : Bool) (n : ℕ) → run (begun h) (suc n) ≡ first_group h ∷ behind n
   unfolding run behind
   run-behind h zero = refl
   run-behind h (suc n) = ap (λ (l : List Three). l ++ recorded c (suc n)) (run-behind h n)

@@ -8,19 +8,19 @@ use borrow.Author.Tests.{eqb-true, eq-eqb, leb-true, le-leb}
 use lib.Dec.{eqb, leb}
 use lib.ListN.{length, take, drop, length-append, take-append-drop}
 use lib.Seq.{take-append_seam, length-take-le}
-use Rattle.bits.specs.Bits.{Bits, number, bitsOfNumber}
-use Rattle.bits.proofs.Number.{bits_of_number}
-use Rattle.modulation.specs.Modulation.{Two, d00, d01, d10, d11, twoNumber, Three, m000, m001, m010, m011, m100, m101, m110, m111, threeNumber, starts}
-use Rattle.modulation.specs.Bits.{two, pairs, dataBits, three, bits}
+use Rattle.bits.specs.Bits.{Bits, number, bits_of_number}
+use Rattle.bits.proofs.Number.{bits-of-number}
+use Rattle.modulation.specs.Modulation.{Two, d00, d01, d10, d11, two_number, Three, m000, m001, m010, m011, m100, m101, m110, m111, three_number, starts}
+use Rattle.modulation.specs.Bits.{two, pairs, data_bits, three, bits}
 use Rattle.laws.proofs.Booleans.{and_left, and_right, and-true, same_tests}
-use Rattle.modulation.proofs.Bits.{two_back, pairs-dataBits, length-dataBits}
+use Rattle.modulation.proofs.Bits.{two_back, pairs-data_bits, length-data_bits}
 
 -- ---- pairs and groups are determined by their numbers
 
-pub two-injective : (c d : Two) → twoNumber c ≡ twoNumber d → c ≡ d
+pub two-injective : (c d : Two) → two_number c ≡ two_number d → c ≡ d
 two-injective c d e = sym (two_back c) ∙ ap (λ (n : ℕ). two (n / 2) (n % 2)) e ∙ two_back d
 
-three_back : (m : Three) → three (threeNumber m / 4 % 2) (threeNumber m / 2 % 2) (threeNumber m % 2) ≡ m
+three_back : (m : Three) → three (three_number m / 4 % 2) (three_number m / 2 % 2) (three_number m % 2) ≡ m
 three_back m000 = refl
 three_back m001 = refl
 three_back m010 = refl
@@ -30,10 +30,10 @@ three_back m101 = refl
 three_back m110 = refl
 three_back m111 = refl
 
-pub three-injective : (l m : Three) → threeNumber l ≡ threeNumber m → l ≡ m
+pub three-injective : (l m : Three) → three_number l ≡ three_number m → l ≡ m
 three-injective l m e = sym (three_back l) ∙ ap (λ (n : ℕ). three (n / 4 % 2) (n / 2 % 2) (n % 2)) e ∙ three_back m
 
-pub three-below : (m : Three) → threeNumber m < 8
+pub three-below : (m : Three) → three_number m < 8
 three-below m000 = omega arith
 three-below m001 = omega arith
 three-below m010 = omega arith
@@ -63,7 +63,7 @@ module _ {A : Type 0} (n : A → ℕ) (injective : (x y : A) → n x ≡ n y →
     number-injective : (l m : List A) → length l ≡ length m → number (code l) ≡ number (code m) → l ≡ m
     number-injective l m e h =
         sym (back l)
-        ∙ ap decode (sym (bits_of_number (code l) (code-bits l)) ∙ ap₂ bitsOfNumber (code-length l ∙ ap (λ (k : ℕ). width * k) e ∙ sym (code-length m)) h ∙ bits_of_number (code m) (code-bits m))
+        ∙ ap decode (sym (bits-of-number (code l) (code-bits l)) ∙ ap₂ bits_of_number (code-length l ∙ ap (λ (k : ℕ). width * k) e ∙ sym (code-length m)) h ∙ bits-of-number (code m) (code-bits m))
         ∙ back m
 
     pub starts-number : (xs l : List A)
@@ -85,14 +85,14 @@ module _ {A : Type 0} (n : A → ℕ) (injective : (x y : A) → n x ≡ n y →
             let front = number-injective (take (length xs) l) xs (length-take-le (length xs) l within) same in
             ap (starts n xs) (sym (take-append-drop (length xs) l) ∙ ap (λ (k : List A). k ++ drop (length xs) l) front) ∙ starts-append xs (drop (length xs) l)
 
-pub bits-dataBits : (ds : List Two) → Bits (dataBits ds)
-bits-dataBits [] i = omega arith
-bits-dataBits (d00 ∷ ds) zero = omega arith
-bits-dataBits (d01 ∷ ds) zero = omega arith
-bits-dataBits (d10 ∷ ds) zero = omega arith
-bits-dataBits (d11 ∷ ds) zero = omega arith
-bits-dataBits (d ∷ ds) (suc zero) = omega arith
-bits-dataBits (d ∷ ds) (suc (suc i)) = bits-dataBits ds i
+pub bits-data_bits : (ds : List Two) → Bits (data_bits ds)
+bits-data_bits [] i = omega arith
+bits-data_bits (d00 ∷ ds) zero = omega arith
+bits-data_bits (d01 ∷ ds) zero = omega arith
+bits-data_bits (d10 ∷ ds) zero = omega arith
+bits-data_bits (d11 ∷ ds) zero = omega arith
+bits-data_bits (d ∷ ds) (suc zero) = omega arith
+bits-data_bits (d ∷ ds) (suc (suc i)) = bits-data_bits ds i
 
 pub bits-groups : (ms : List Three) → Bits (bits ms)
 bits-groups [] i = omega arith
@@ -101,5 +101,5 @@ bits-groups (m ∷ ms) (suc zero) = omega arith
 bits-groups (m ∷ ms) (suc (suc zero)) = omega arith
 bits-groups (m ∷ ms) (suc (suc (suc i))) = bits-groups ms i
 
-pub pairs_start : (xs ds : List Two) → starts twoNumber xs ds ≡ (leb (length xs) (length ds) && eqb (number (dataBits (take (length xs) ds))) (number (dataBits xs)))
-pairs_start = starts-number twoNumber two-injective dataBits 2 pairs pairs-dataBits length-dataBits bits-dataBits
+pub pairs_start : (xs ds : List Two) → starts two_number xs ds ≡ (leb (length xs) (length ds) && eqb (number (data_bits (take (length xs) ds))) (number (data_bits xs)))
+pairs_start = starts-number two_number two-injective data_bits 2 pairs pairs-data_bits length-data_bits bits-data_bits

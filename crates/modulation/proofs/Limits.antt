@@ -12,9 +12,9 @@ use lib.Dec.{T, eqb}
 use lib.ListN.{length, get_or, take, drop, length-append}
 use lib.Seq.{get_or-append-add}
 use Rattle.laws.proofs.Finite.{all, equal-below}
-use Rattle.modulation.specs.Modulation.{Two, Three, m000, m001, m010, m101, lastBit}
+use Rattle.modulation.specs.Modulation.{Two, Three, m000, m001, m010, m101, last_bit}
 use Rattle.modulation.specs.Bits.{bits}
-use Rattle.modulation.specs.Sync.{FS, FS0, FS1, FS2, FS3, FS4, FS5, FS6, sync, syncId}
+use Rattle.modulation.specs.Sync.{FS, FS0, FS1, FS2, FS3, FS4, FS5, FS6, sync, sync_id}
 use Rattle.modulation.specs.Stream.{Recording, modulated, hash, run, stream, Full}
 use Rattle.modulation.specs.Gaps.{Neighbours, LongGaps, EndsLong, Gap, Spaced, NoSeven}
 use Rattle.modulation.proofs.Bits.{bits-append, length-bits}
@@ -22,7 +22,7 @@ use Rattle.modulation.proofs.Size.{size}
 use Rattle.modulation.proofs.Joined.{seven, in-first, in-second, first-in, second-in, one_side, between, no-two-zeros, window-within, window-first, window-second}
 use Rattle.modulation.proofs.Scan.{fine, fine-gaps, fine-no-seven}
 use Rattle.modulation.proofs.Spacing.{next, framed, piece, piece-fine}
-use Rattle.modulation.proofs.Streams.{length-syncId, length-sync, length-run-bits, length-stream, full-less}
+use Rattle.modulation.proofs.Streams.{length-sync_id, length-sync, length-run-bits, length-stream, full-less}
 
 -- ---- one sync
 
@@ -31,7 +31,7 @@ abbrev opening : Bool → List Three
 opening h = cond h m101 m001 ∷ m010 ∷ m000 ∷ m000 ∷ m010 ∷ m000 ∷ m000 ∷ []
 
 abbrev closing : FS → List Three
-closing n = m010 ∷ syncId n
+closing n = m010 ∷ sync_id n
 
 next-fine : (h : Bool) → T (fine (bits (next h)) 1 6)
 next-fine h = elim h [ true ↦ tt | false ↦ tt ]
@@ -97,7 +97,7 @@ gap-on k i j hi hj (inr g) = inr (omega arith)
 
 -- a sync behind its first ones
 abbrev core : FS → List Three
-core n = m000 ∷ m000 ∷ m010 ∷ m000 ∷ m000 ∷ m010 ∷ syncId n
+core n = m000 ∷ m000 ∷ m010 ∷ m000 ∷ m000 ∷ m010 ∷ sync_id n
 
 -- frame ds behind sync n with # h, and the next sync, n'
 block : Bool → FS → List Two → FS → List Three
@@ -114,7 +114,7 @@ module _ (h : Bool) (n : FS) (ds : List Two) (n' : FS) (full : length ds ≡ 634
   whole = bits (block h n ds n')
 
   length-frame : length frame ≡ 634
-  length-frame = size (lastBit false (syncId n)) ds ∙ full
+  length-frame = size (last_bit false (sync_id n)) ds ∙ full
 
   -- it is cut in front of the sync's last one and behind the next sync's first ones, and in front of the next sync
   at_piece : whole ≡ bits (opening h) ++ (bits (piece n ds) ++ bits (core n'))
@@ -124,7 +124,7 @@ module _ (h : Bool) (n : FS) (ds : List Two) (n' : FS) (full : length ds ≡ 634
       ∙ bits-append (opening h) (piece n ds ++ core n')
       ∙ ap (λ (l : List ℕ). bits (opening h) ++ l) (bits-append (piece n ds) (core n'))
     where
-      regroup : syncId n ++ (frame ++ (next h' ++ core n')) ≡ (syncId n ++ framed (modulated n ds)) ++ core n'
+      regroup : sync_id n ++ (frame ++ (next h' ++ core n')) ≡ (sync_id n ++ framed (modulated n ds)) ++ core n'
       regroup = simp append_assoc
 
   at_next : whole ≡ bits (sync h n ++ frame) ++ bits (sync h' n')
@@ -136,8 +136,8 @@ module _ (h : Bool) (n : FS) (ds : List Two) (n' : FS) (full : length ds ≡ 634
       omega (
         arith,
         length-bits (piece n ds),
-        length-append (syncId n) (framed (modulated n ds)),
-        length-syncId n,
+        length-append (sync_id n) (framed (modulated n ds)),
+        length-sync_id n,
         length-append frame (next h'),
         length-frame,
       )
@@ -146,8 +146,8 @@ module _ (h : Bool) (n : FS) (ds : List Two) (n' : FS) (full : length ds ≡ 634
   length_front = omega (arith, length-bits (sync h n ++ frame), length-append (sync h n) frame, length-sync h n, length-frame)
 
   -- bit p of the next sync
-  next_bit : (p : ℕ) → get_or whole (1932 + p) 0 ≡ get_or (bits (sync h' n')) p 0
-  next_bit p =
+  next-bit : (p : ℕ) → get_or whole (1932 + p) 0 ≡ get_or (bits (sync h' n')) p 0
+  next-bit p =
       ap (λ (l : List ℕ). get_or l (1932 + p) 0) at_next
       ∙ ap (λ (k : ℕ). get_or (bits (sync h n ++ frame) ++ bits (sync h' n')) (k + p) 0) (sym length_front)
       ∙ get_or-append-add (bits (sync h n ++ frame)) (bits (sync h' n')) p 0
@@ -160,7 +160,7 @@ module _ (h : Bool) (n : FS) (ds : List Two) (n' : FS) (full : length ds ≡ 634
       (subst (λ (k : ℕ). Gap EndsLong (i - k) (j - k)) length_front
       (sync-spaced h' n' (i - length (bits (sync h n ++ frame))) (j - length (bits (sync h n ++ frame)))
       (in-second (bits (sync h n ++ frame)) (bits (sync h' n')) i j (omega (arith, length_front)) (subst (λ (b : List ℕ). Neighbours b i j) at_next m)))))
-      (one_side whole 1936 i j (next_bit 4) m)
+      (one_side whole 1936 i j (next-bit 4) m)
     where
       in-piece : j ≤ 1936 → Neighbours (bits (piece n ds) ++ bits (core n')) (i - 21) (j - 21) → (i + 2 ≤ j) × (j ≤ i + 8)
       in-piece l p =
@@ -180,7 +180,7 @@ module _ (h : Bool) (n : FS) (ds : List Two) (n' : FS) (full : length ds ≡ 634
                   (window-second (bits (opening h)) (bits (piece n ds) ++ bits (core n')) i (omega arith) (ap (λ (b : List ℕ). take 15 (drop i b)) (sym at_piece) ∙ e)))
               | no l' ↦
                   elim (dec_lt i 1938) [
-                    | yes l'' ↦ no-two-zeros whole i e 1937 (omega arith) (omega arith) (next_bit 5) (next_bit 6)
+                    | yes l'' ↦ no-two-zeros whole i e 1937 (omega arith) (omega arith) (next-bit 5) (next-bit 6)
                     | no l'' ↦
                         sync-no-seven h' n' (i - length (bits (sync h n ++ frame)))
                         (window-second (bits (sync h n ++ frame)) (bits (sync h' n')) i (omega (arith, length_front)) (ap (λ (b : List ℕ). take 15 (drop i b)) (sym at_next) ∙ e))
@@ -197,8 +197,8 @@ long-second : (a t : List ℕ) → LongGaps t 0 → LongGaps (a ++ t) (length a)
 long-second a t g = record { first = second-in a t g.first; second = second-in a t g.second }
 
 module _ (c : Recording) where
-  abbrev syncAt : ℕ → List Three
-  syncAt k = sync (hash c k) (c.number k)
+  abbrev sync_at : ℕ → List Three
+  sync_at k = sync (hash c k) (c.number k)
 
   abbrev block_at : ℕ → List Three
   block_at k = block (hash c k) (c.number k) (c.frames k) (c.number (suc k))
@@ -211,17 +211,17 @@ module _ (c : Recording) where
       regroup : stream c (suc n) ≡ run c n ++ block_at n
       regroup = simp append_assoc
 
-  more-stream : (n : ℕ) → bits (stream c (suc n)) ≡ bits (stream c n) ++ bits ((modulated (c.number n) (c.frames n)).groups ++ syncAt (suc n))
+  more-stream : (n : ℕ) → bits (stream c (suc n)) ≡ bits (stream c n) ++ bits ((modulated (c.number n) (c.frames n)).groups ++ sync_at (suc n))
   unfolding run
-  more-stream n = ap bits regroup ∙ bits-append (stream c n) ((modulated (c.number n) (c.frames n)).groups ++ syncAt (suc n))
+  more-stream n = ap bits regroup ∙ bits-append (stream c n) ((modulated (c.number n) (c.frames n)).groups ++ sync_at (suc n))
     where
-      regroup : stream c (suc n) ≡ stream c n ++ ((modulated (c.number n) (c.frames n)).groups ++ syncAt (suc n))
+      regroup : stream c (suc n) ≡ stream c n ++ ((modulated (c.number n) (c.frames n)).groups ++ sync_at (suc n))
       regroup = simp append_assoc
 
   last-long : (n : ℕ) → Full c n → LongGaps (bits (stream c n)) (1932 * n)
   last-long n full =
-      subst (λ (l : List ℕ). LongGaps l (1932 * n)) (sym (bits-append (run c n) (syncAt n)))
-      (subst (LongGaps (bits (run c n) ++ bits (syncAt n))) (length-run-bits c n full) (long-second (bits (run c n)) (bits (syncAt n)) (sync-long (hash c n) (c.number n))))
+      subst (λ (l : List ℕ). LongGaps l (1932 * n)) (sym (bits-append (run c n) (sync_at n)))
+      (subst (LongGaps (bits (run c n) ++ bits (sync_at n))) (length-run-bits c n full) (long-second (bits (run c n)) (bits (sync_at n)) (sync-long (hash c n) (c.number n))))
 
   pub long-gaps : (n : ℕ) → Full c n → (k : ℕ) → k ≤ n → LongGaps (bits (stream c n)) (1932 * k)
   long-gaps zero full k h = subst (λ (p : ℕ). LongGaps (bits (stream c 0)) (1932 * p)) (none h) (last-long 0 full)

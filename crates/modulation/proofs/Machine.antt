@@ -4,21 +4,21 @@ use mathlib.Core.List.{List, [], ◌∷◌, ◌++◌}
 use mathlib.Core.Path.{◌≡◌, refl, ap, ◌∙◌, sym}
 use Prim.Native.Nat.{◌<◌}
 use native.Mathlib.Omega.{arith}
-use Rattle.modulation.specs.Modulation.{Two, d00, d01, d10, d11, Modulated, startsWith010, modulateFrom, modulate}
-use Rattle.modulation.specs.Machine.{Wait, w, w00, w0000, w000000, w000010, w11, w1101, w110111, w11011100, w1101110000, waiting, waitNumber, waitAt, plain, substituted, step, stop, put, machine}
+use Rattle.modulation.specs.Modulation.{Two, d00, d01, d10, d11, Modulated, starts_with010, modulate_from, modulate}
+use Rattle.modulation.specs.Machine.{Wait, w, w00, w0000, w000000, w000010, w11, w1101, w110111, w11011100, w1101110000, waiting, wait_number, wait_at, plain, substituted, step, stop, put, machine}
 
 -- ---- whether the next modulation bits are 010
 
-pub next-000000 : (b : Bool) (ds : List Two) → startsWith010 (modulate b (d00 ∷ d00 ∷ d00 ∷ ds)).groups ≡ true
-unfolding modulateFrom
+pub next-000000 : (b : Bool) (ds : List Two) → starts_with010 (modulate b (d00 ∷ d00 ∷ d00 ∷ ds)).groups ≡ true
+unfolding modulate_from
 next-000000 b [] = refl
 next-000000 b (d00 ∷ ds) = refl
 next-000000 b (d01 ∷ ds) = refl
 next-000000 b (d10 ∷ ds) = refl
 next-000000 b (d11 ∷ ds) = refl
 
-pub next-000010 : (b : Bool) (ds : List Two) → startsWith010 (modulate b (d00 ∷ d00 ∷ d10 ∷ ds)).groups ≡ false
-unfolding modulateFrom
+pub next-000010 : (b : Bool) (ds : List Two) → starts_with010 (modulate b (d00 ∷ d00 ∷ d10 ∷ ds)).groups ≡ false
+unfolding modulate_from
 next-000010 b [] = refl
 next-000010 b (d00 ∷ ds) = refl
 next-000010 b (d01 ∷ ds) = refl
@@ -26,14 +26,14 @@ next-000010 b (d10 ∷ ds) = refl
 next-000010 b (d11 ∷ ds) = refl
 
 -- 110111 where 010 follows, and where it does not
-pub followed : (b : Bool) (ds : List Two) → startsWith010 (modulate false ds).groups ≡ true
+pub followed : (b : Bool) (ds : List Two) → starts_with010 (modulate false ds).groups ≡ true
     → put substituted (modulate false ds) ≡ modulate b (d11 ∷ d01 ∷ d11 ∷ ds)
-unfolding modulateFrom
+unfolding modulate_from
 followed b ds e = rw e
 
-pub not-followed : (b : Bool) (ds : List Two) → startsWith010 (modulate false ds).groups ≡ false
+pub not-followed : (b : Bool) (ds : List Two) → starts_with010 (modulate false ds).groups ≡ false
     → put (plain b) (modulate true ds) ≡ modulate b (d11 ∷ d01 ∷ d11 ∷ ds)
-unfolding modulateFrom
+unfolding modulate_from
 not-followed true [] e = refl
 not-followed false [] e = refl
 not-followed true (d00 ∷ ds) e = rw e
@@ -44,8 +44,8 @@ not-followed false (d10 ∷ ds) e = rw e
 not-followed true (d11 ∷ ds) e = rw e
 not-followed false (d11 ∷ ds) e = rw e
 
-pub next-11 : (b : Bool) (ds : List Two) → startsWith010 (modulate b (d11 ∷ ds)).groups ≡ false
-unfolding modulateFrom
+pub next-11 : (b : Bool) (ds : List Two) → starts_with010 (modulate b (d11 ∷ ds)).groups ≡ false
+unfolding modulate_from
 next-11 true [] = refl
 next-11 false [] = refl
 next-11 true (d00 ∷ ds) = refl
@@ -58,11 +58,11 @@ next-11 true (d01 ∷ d01 ∷ ds) = refl
 next-11 false (d01 ∷ d01 ∷ ds) = refl
 next-11 true (d01 ∷ d10 ∷ ds) = refl
 next-11 false (d01 ∷ d10 ∷ ds) = refl
-next-11 b (d01 ∷ d11 ∷ ds) = either (startsWith010 (modulate false ds).groups) refl
+next-11 b (d01 ∷ d11 ∷ ds) = either (starts_with010 (modulate false ds).groups) refl
   where
-    either : (q : Bool) → startsWith010 (modulate false ds).groups ≡ q → startsWith010 (modulate b (d11 ∷ d01 ∷ d11 ∷ ds)).groups ≡ false
-    either true e = ap (λ (f : Modulated). startsWith010 f.groups) (sym (followed b ds e))
-    either false e = ap (λ (f : Modulated). startsWith010 f.groups) (sym (not-followed b ds e)) ∙ elim b [ true ↦ refl | false ↦ refl ]
+    either : (q : Bool) → starts_with010 (modulate false ds).groups ≡ q → starts_with010 (modulate b (d11 ∷ d01 ∷ d11 ∷ ds)).groups ≡ false
+    either true e = ap (λ (f : Modulated). starts_with010 f.groups) (sym (followed b ds e))
+    either false e = ap (λ (f : Modulated). starts_with010 f.groups) (sym (not-followed b ds e)) ∙ elim b [ true ↦ refl | false ↦ refl ]
 next-11 true (d10 ∷ ds) = refl
 next-11 false (d10 ∷ ds) = refl
 next-11 true (d11 ∷ ds) = refl
@@ -70,7 +70,7 @@ next-11 false (d11 ∷ ds) = refl
 
 -- ---- what waits, by its number
 
-pub wait-back : (s : Wait) → waitAt (waitNumber s) ≡ s
+pub wait-back : (s : Wait) → wait_at (wait_number s) ≡ s
 wait-back w = refl
 wait-back w00 = refl
 wait-back w0000 = refl
@@ -82,7 +82,7 @@ wait-back w110111 = refl
 wait-back w11011100 = refl
 wait-back w1101110000 = refl
 
-pub wait-below : (s : Wait) → waitNumber s < 10
+pub wait-below : (s : Wait) → wait_number s < 10
 wait-below w = omega arith
 wait-below w00 = omega arith
 wait-below w0000 = omega arith
@@ -98,7 +98,7 @@ wait-below w1101110000 = omega arith
 
 one_more : (s : Wait) (b : Bool) (d : Two) (ds : List Two)
     → put (step s b d).out (modulate (step s b d).bit (waiting (step s b d).to ++ ds)) ≡ modulate b (waiting s ++ d ∷ ds)
-unfolding modulateFrom
+unfolding modulate_from
 one_more w b d ds = elim d [ d00 ↦ refl | d01 ↦ refl | d10 ↦ refl | d11 ↦ refl ]
 one_more w00 b d ds = elim d [ d00 ↦ refl | d01 ↦ refl | d10 ↦ refl | d11 ↦ refl ]
 one_more w0000 b d ds = elim d [ d00 ↦ refl | d01 ↦ refl | d10 ↦ refl | d11 ↦ refl ]
@@ -131,7 +131,7 @@ one_more w1101110000 b d ds =
     ]
 
 at-the-end : (s : Wait) (b : Bool) → stop s b ≡ modulate b (waiting s ++ [])
-unfolding modulateFrom
+unfolding modulate_from
 at-the-end w b = refl
 at-the-end w00 b = refl
 at-the-end w0000 b = refl

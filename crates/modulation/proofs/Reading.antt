@@ -10,10 +10,10 @@ use lib.Dec.{T, eqb, eqb→eq}
 use lib.ListN.{length, length-append}
 use Rattle.laws.specs.First.{first}
 use Rattle.laws.proofs.Finite.{all, all-at}
-use Rattle.modulation.specs.Modulation.{Two, d00, d01, d10, d11, twoNumber, Three, m000, m001, m010, m100, m101, Row, When, always, after_one, after-zero, before-010, at-end, row_at, starts, startsWith010, allowed, Modulated, terminates, modulateFrom, modulate}
-use Rattle.modulation.specs.Demodulator.{agrees, rowRead}
+use Rattle.modulation.specs.Modulation.{Two, d00, d01, d10, d11, two_number, Three, m000, m001, m010, m100, m101, Row, When, always, after_one, after-zero, before-010, at-end, row_at, starts, starts_with010, allowed, Modulated, terminates, modulate_from, modulate}
+use Rattle.modulation.specs.Demodulator.{agrees, row_read}
 use Rattle.laws.proofs.Booleans.{and_right, implies, given}
-use Rattle.modulation.proofs.Words.{nextBit, Word, modulate-none}
+use Rattle.modulation.proofs.Words.{next_bit, Word, modulate-none}
 use Rattle.modulation.specs.Machine.{put, plain}
 use Rattle.modulation.proofs.Machine.{followed, not-followed}
 
@@ -32,7 +32,7 @@ abbrev Starts : Bool → Modulated → Type 0
 Starts b f = Start b f.terminated f.groups
 
 starts-as : (b : Bool) (ds : List Two) → Starts b (modulate b ds)
-unfolding modulateFrom
+unfolding modulate_from
 starts-as b [] = none
 starts-as b (d00 ∷ []) = s000-end
 starts-as b (d00 ∷ d00 ∷ []) = s010
@@ -65,13 +65,13 @@ starts-as true (d11 ∷ d01 ∷ d01 ∷ ds) = s000-more s010
 starts-as false (d11 ∷ d01 ∷ d01 ∷ ds) = s101
 starts-as true (d11 ∷ d01 ∷ d10 ∷ ds) = s000-more s010
 starts-as false (d11 ∷ d01 ∷ d10 ∷ ds) = s101
-starts-as b (d11 ∷ d01 ∷ d11 ∷ ds) = either (startsWith010 (modulate false ds).groups) refl
+starts-as b (d11 ∷ d01 ∷ d11 ∷ ds) = either (starts_with010 (modulate false ds).groups) refl
   where
     unsubstituted : (b : Bool) (f : Modulated) → Starts b (put (plain b) f)
     unsubstituted true f = s000-more s010
     unsubstituted false f = s101
 
-    either : (q : Bool) → startsWith010 (modulate false ds).groups ≡ q → Starts b (modulate b (d11 ∷ d01 ∷ d11 ∷ ds))
+    either : (q : Bool) → starts_with010 (modulate false ds).groups ≡ q → Starts b (modulate b (d11 ∷ d01 ∷ d11 ∷ ds))
     either true e = subst (Starts b) (followed b ds e) s001
     either false e = subst (Starts b) (not-followed b ds e) (unsubstituted b (modulate true ds))
 starts-as true (d11 ∷ d10 ∷ ds) = s000-more s001
@@ -82,16 +82,16 @@ starts-as false (d11 ∷ d11 ∷ ds) = s101
 -- ---- the word is found again
 
 -- the word of row k in front of the groups gs, with which a frame ends under hash, after the bit b
-abbrev readBack : Bool → Bool → List Three → ℕ → ℕ
-readBack b hash gs k = rowRead b (terminates (row_at k).when || hash) ((row_at k).groups ++ gs)
+abbrev read_back : Bool → Bool → List Three → ℕ → ℕ
+read_back b hash gs k = row_read b (terminates (row_at k).when || hash) ((row_at k).groups ++ gs)
 
 -- it is found, if its last bit is c and its condition agrees
 abbrev found : Bool → Bool → Bool → List Three → ℕ → Bool
 found c b hash gs k =
-    implies (beq (nextBit (row_at k)) c && agrees (row_at k).when b gs) (eqb (readBack b hash gs k) k)
+    implies (beq (next_bit (row_at k)) c && agrees (row_at k).when b gs) (eqb (read_back b hash gs k) k)
 
 after-zero-found : {hash : Bool} {gs : List Three} → Start false hash gs → (b : Bool) → T (all 16 (found false b hash gs))
-unfolding all first rowRead
+unfolding all first row_read
 after-zero-found none b = elim b [ true ↦ tt | false ↦ tt ]
 after-zero-found s001 b = elim b [ true ↦ tt | false ↦ tt ]
 after-zero-found s010 b = elim b [ true ↦ tt | false ↦ tt ]
@@ -100,7 +100,7 @@ after-zero-found s000-100 b = elim b [ true ↦ tt | false ↦ tt ]
 after-zero-found s000-end b = elim b [ true ↦ tt | false ↦ tt ]
 
 after-one-found : {hash : Bool} {gs : List Three} → Start true hash gs → (b : Bool) → T (all 16 (found true b hash gs))
-unfolding all first rowRead
+unfolding all first row_read
 after-one-found none b = elim b [ true ↦ tt | false ↦ tt ]
 after-one-found s001 b = elim b [ true ↦ tt | false ↦ tt ]
 after-one-found s010 b = elim b [ true ↦ tt | false ↦ tt ]
@@ -114,16 +114,16 @@ after-one-found (s000-more s101) b = elim b [ true ↦ tt | false ↦ tt ]
 after-one-found (s000-more s000-100) b = elim b [ true ↦ tt | false ↦ tt ]
 after-one-found (s000-more s000-end) b = elim b [ true ↦ tt | false ↦ tt ]
 
-found-again : (c b hash : Bool) (gs : List Three) → Start c hash gs → (k : ℕ) → k < 16 → nextBit (row_at k) ≡ c → agrees (row_at k).when b gs ≡ true
-    → readBack b hash gs k ≡ k
+found-again : (c b hash : Bool) (gs : List Three) → Start c hash gs → (k : ℕ) → k < 16 → next_bit (row_at k) ≡ c → agrees (row_at k).when b gs ≡ true
+    → read_back b hash gs k ≡ k
 found-again c b hash gs s k h e a =
-    eqb→eq (readBack b hash gs k) k (given (beq (nextBit (row_at k)) c && agrees (row_at k).when b gs) _ (all-at 16 (found c b hash gs) (test c s) k h) (premise c e))
+    eqb→eq (read_back b hash gs k) k (given (beq (next_bit (row_at k)) c && agrees (row_at k).when b gs) _ (all-at 16 (found c b hash gs) (test c s) k h) (premise c e))
   where
     test : (c : Bool) → Start c hash gs → T (all 16 (found c b hash gs))
     test true s = after-one-found s b
     test false s = after-zero-found s b
 
-    premise : (c : Bool) → nextBit (row_at k) ≡ c → (beq (nextBit (row_at k)) c && agrees (row_at k).when b gs) ≡ true
+    premise : (c : Bool) → next_bit (row_at k) ≡ c → (beq (next_bit (row_at k)) c && agrees (row_at k).when b gs) ≡ true
     premise true e = rw (e, a)
     premise false e = rw (e, a)
 
@@ -133,26 +133,26 @@ empty (d ∷ ds) e = absurd (omega arith)
 
 module _ (b : Bool) (ds : List Two) (f : Word b ds) where
   -- the condition of the word's row, seen from the groups behind it
-  when-agrees : (w : When) → allowed f.row w b ds (modulateFrom (tail ds)) ≡ true → agrees w b (modulate (nextBit f.row) f.rest).groups ≡ true
+  when-agrees : (w : When) → allowed f.row w b ds (modulate_from (tail ds)) ≡ true → agrees w b (modulate (next_bit f.row) f.rest).groups ≡ true
   when-agrees always e = refl
   when-agrees after_one e = e
   when-agrees after-zero e = e
-  when-agrees before-010 e = ap (λ (g : Modulated). startsWith010 g.groups) (sym f.behind-is) ∙ e
-  when-agrees at-end e = ap (λ (g : Modulated). agrees at-end b g.groups) (ap (modulate (nextBit f.row)) none_left ∙ modulate-none (nextBit f.row))
+  when-agrees before-010 e = ap (λ (g : Modulated). starts_with010 g.groups) (sym f.behind-is) ∙ e
+  when-agrees at-end e = ap (λ (g : Modulated). agrees at-end b g.groups) (ap (modulate (next_bit f.row)) none_left ∙ modulate-none (next_bit f.row))
     where
       none_left : f.rest ≡ []
       none_left =
           empty f.rest (omega (arith, eqb-true (length f.row.pairs) (length ds) e, ap length f.split, length-append f.row.pairs f.rest))
 
-  pub row-agrees : agrees f.row.when b (modulate (nextBit f.row) f.rest).groups ≡ true
-  row-agrees = when-agrees f.row.when (and_right (starts twoNumber f.row.pairs ds) _ f.first.passed)
+  pub row-agrees : agrees f.row.when b (modulate (next_bit f.row) f.rest).groups ≡ true
+  row-agrees = when-agrees f.row.when (and_right (starts two_number f.row.pairs ds) _ f.first.passed)
 
   -- the number of the row of the word in front is read from the groups
-  pub row_read : rowRead b (modulate b ds).terminated (modulate b ds).groups ≡ f.first.index
-  row_read =
-      let rest = modulate (nextBit f.row) f.rest in
-      ap (λ (g : Modulated). rowRead b g.terminated g.groups) f.gives
-      ∙ ap (λ (r : Row). rowRead b (terminates r.when || rest.terminated) (r.groups ++ rest.groups)) (sym f.first.is)
-      ∙ found-again (nextBit f.row) b rest.terminated rest.groups (starts-as (nextBit f.row) f.rest)
-      f.first.index f.first.below (ap nextBit f.first.is)
+  pub row-read : row_read b (modulate b ds).terminated (modulate b ds).groups ≡ f.first.index
+  row-read =
+      let rest = modulate (next_bit f.row) f.rest in
+      ap (λ (g : Modulated). row_read b g.terminated g.groups) f.gives
+      ∙ ap (λ (r : Row). row_read b (terminates r.when || rest.terminated) (r.groups ++ rest.groups)) (sym f.first.is)
+      ∙ found-again (next_bit f.row) b rest.terminated rest.groups (starts-as (next_bit f.row) f.rest)
+      f.first.index f.first.below (ap next_bit f.first.is)
       (ap (λ (r : Row). agrees r.when b rest.groups) f.first.is ∙ row-agrees)

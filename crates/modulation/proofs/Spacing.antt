@@ -9,7 +9,7 @@ use lib.ListN.{get_or}
 use Rattle.laws.proofs.Finite.{both, both_left, both_right, all, all₂, all₂-at}
 use Rattle.modulation.specs.Modulation.{Two, d00, d01, d10, d11, Three, m001, m010, m101, Modulated, modulate}
 use Rattle.modulation.specs.Bits.{bits}
-use Rattle.modulation.specs.Sync.{FS, FS0, FS1, FS2, FS3, FS4, FS5, FS6, syncId}
+use Rattle.modulation.specs.Sync.{FS, FS0, FS1, FS2, FS3, FS4, FS5, FS6, sync_id}
 use Rattle.modulation.specs.Stream.{modulated}
 use Rattle.laws.proofs.Booleans.{implies, T_true, given}
 use Rattle.modulation.proofs.Bits.{bits-append}
@@ -133,7 +133,7 @@ frame-fine ds b z r m = subst (λ (f : Modulated). T (fine (bits (framed f)) z r
 
 -- from a sync's bit 21 to bit 5 of the next
 abbrev pub piece : FS → List Two → List Three
-piece n ds = m010 ∷ syncId n ++ framed (modulated n ds)
+piece n ds = m010 ∷ sync_id n ++ framed (modulated n ds)
 
 pub piece-fine : (n : FS) (ds : List Two) → T (fine (bits (piece n ds)) 1 6)
 piece-fine FS0 ds = frame-fine ds true 0 6 tt

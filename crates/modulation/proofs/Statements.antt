@@ -10,14 +10,14 @@ use lib.Dec.{leb, leb→le, ltb}
 use lib.ListN.{length}
 use Rattle.laws.proofs.Finite.{all, all-at, all₂, all₂-at}
 use Rattle.bits.specs.Bits.{Bits}
-use Rattle.modulation.specs.Modulation.{Two, rows, row_at, fits, choose, terminates, Modulated, modulateFrom, modulate}
-use Rattle.modulation.specs.Bits.{pairs, dataBits, bits, ones}
+use Rattle.modulation.specs.Modulation.{Two, rows, row_at, fits, choose, terminates, Modulated, modulate_from, modulate}
+use Rattle.modulation.specs.Bits.{pairs, data_bits, bits, ones}
 use Rattle.modulation.specs.Sync.{FS, sync}
 use Rattle.modulation.specs.Stream.{Recording, modulated, run, stream, Full}
 use Rattle.modulation.specs.Gaps.{LongGaps, Spaced, EndsLong, NoSeven}
 use Rattle.modulation.specs.Demodulator.{demodulate}
 use Rattle.laws.proofs.Booleans.{implies, given, beq_same}
-use Rattle.modulation.proofs.Bits.{bits-injective, length-bits, length_pairs, dataBits-pairs, pairs-injective}
+use Rattle.modulation.proofs.Bits.{bits-injective, length-bits, length_pairs, data_bits-pairs, pairs-injective}
 use Rattle.modulation.proofs.Words.{First, Word, word_at}
 use Rattle.modulation.proofs.Words
 use Rattle.modulation.proofs.Size
@@ -42,7 +42,7 @@ rows-terminating k h = beq_same (terminates (row_at k).when) (leb 14 k) (all-at 
 
 -- at the front of any pairs, after either bit, some row of the table fits, and the one taken is the first that does
 pub some-row-fits : (before : Bool) (d : Two) (ds : List Two)
-    → First (λ r. fits r before (d ∷ ds) (modulateFrom ds)) rows (choose (λ r. fits r before (d ∷ ds) (modulateFrom ds)) rows)
+    → First (λ r. fits r before (d ∷ ds) (modulate_from ds)) rows (choose (λ r. fits r before (d ∷ ds) (modulate_from ds)) rows)
 some-row-fits = Words.some-row
 
 -- its groups stand in front, and what its pairs leave gives the rest
@@ -62,13 +62,13 @@ size-of-a-frame before l e = size before l 634 e
 
 -- an even number of data bits has an even number of ones if and only if its modulation bits have
 pub parity-preserve : (before : Bool) (l : List ℕ) → Bits l → length l % 2 ≡ 0 → ones (bits (modulate before (pairs l)).groups) % 2 ≡ ones l % 2
-parity-preserve before l h e = Size.parity before (pairs l) ∙ ap (λ (k : List ℕ). ones k % 2) (dataBits-pairs l e h)
+parity-preserve before l h e = Size.parity before (pairs l) ∙ ap (λ (k : List ℕ). ones k % 2) (data_bits-pairs l e h)
 
 -- ---- modulation loses nothing
 
 -- the demodulator gives the data bits back
-pub comes_back : (before : Bool) (l : List ℕ) → Bits l → length l % 2 ≡ 0 → dataBits (demodulate before (modulate before (pairs l))) ≡ l
-comes_back before l h e = ap dataBits (Demodulator.comes_back before (pairs l)) ∙ dataBits-pairs l e h
+pub comes_back : (before : Bool) (l : List ℕ) → Bits l → length l % 2 ≡ 0 → data_bits (demodulate before (modulate before (pairs l))) ≡ l
+comes_back before l h e = ap data_bits (Demodulator.comes_back before (pairs l)) ∙ data_bits-pairs l e h
 
 -- so equal modulation bits and an equal end come from equal data bits
 pub injective : (before : Bool) (l k : List ℕ) → Bits l → Bits k → length l % 2 ≡ 0 → length k % 2 ≡ 0

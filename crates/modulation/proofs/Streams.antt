@@ -8,24 +8,24 @@ use native.Mathlib.Nat.{not-suc-le-zero, le_of_suc-le-suc, eq-or-lt_of_le}
 use native.Mathlib.Omega.{arith}
 use lib.ListN.{length, take, drop, length-append}
 use lib.Seq.{take_at, drop_at, take_all, take-take}
-use Rattle.modulation.specs.Modulation.{Three, lastBit}
+use Rattle.modulation.specs.Modulation.{Three, last_bit}
 use Rattle.modulation.specs.Bits.{bits}
-use Rattle.modulation.specs.Sync.{FS, FS0, FS1, FS2, FS3, FS4, FS5, FS6, sync, syncId}
+use Rattle.modulation.specs.Sync.{FS, FS0, FS1, FS2, FS3, FS4, FS5, FS6, sync, sync_id}
 use Rattle.modulation.specs.Stream.{Recording, modulated, hash, recorded, run, stream, Full}
 use Rattle.modulation.proofs.Bits.{length-bits, bits-take, bits-drop}
 use Rattle.modulation.proofs.Size.{size}
 
-pub length-syncId : (n : FS) → length (syncId n) ≡ 2
-length-syncId FS0 = refl
-length-syncId FS1 = refl
-length-syncId FS2 = refl
-length-syncId FS3 = refl
-length-syncId FS4 = refl
-length-syncId FS5 = refl
-length-syncId FS6 = refl
+pub length-sync_id : (n : FS) → length (sync_id n) ≡ 2
+length-sync_id FS0 = refl
+length-sync_id FS1 = refl
+length-sync_id FS2 = refl
+length-sync_id FS3 = refl
+length-sync_id FS4 = refl
+length-sync_id FS5 = refl
+length-sync_id FS6 = refl
 
 pub length-sync : (h : Bool) (n : FS) → length (sync h n) ≡ 10
-length-sync h n = omega (arith, length-syncId n)
+length-sync h n = omega (arith, length-sync_id n)
 
 pub full-less : (c : Recording) (n : ℕ) → Full c (suc n) → Full c n
 full-less c n full k h = full k (omega arith)
@@ -36,7 +36,7 @@ length-recorded c k e =
       arith,
       length-append (sync (hash c k) (c.number k)) (modulated (c.number k) (c.frames k)).groups,
       length-sync (hash c k) (c.number k),
-      size (lastBit false (syncId (c.number k))) (c.frames k),
+      size (last_bit false (sync_id (c.number k))) (c.frames k),
     )
 
 pub length_run : (c : Recording) (n : ℕ) → Full c n → length (run c n) ≡ 644 * n
@@ -73,8 +73,8 @@ frame_at c (suc n) k t full h =
         ∙ ap (recorded c) (sym e)
 
 -- the sync of frame k of n, and the one that follows them
-pub sync_at : (c : Recording) (n k : ℕ) → Full c n → k ≤ n → take 10 (drop (644 * k) (stream c n)) ≡ sync (hash c k) (c.number k)
-sync_at c n k full h = ⊎_elim (λ e. last e) (λ l. inner l) (eq-or-lt_of_le h)
+pub sync-at : (c : Recording) (n k : ℕ) → Full c n → k ≤ n → take 10 (drop (644 * k) (stream c n)) ≡ sync (hash c k) (c.number k)
+sync-at c n k full h = ⊎_elim (λ e. last e) (λ l. inner l) (eq-or-lt_of_le h)
   where
     last : k ≡ n → take 10 (drop (644 * k) (stream c n)) ≡ sync (hash c k) (c.number k)
     last e =
@@ -103,4 +103,4 @@ frame-bits c n k full h =
 
 pub sync-bits : (c : Recording) (n k : ℕ) → Full c n → k ≤ n → take 30 (drop (1932 * k) (bits (stream c n))) ≡ bits (sync (hash c k) (c.number k))
 sync-bits c n k full h =
-    ap (λ (p : ℕ). take 30 (drop p (bits (stream c n)))) (place k) ∙ part-bits 10 (644 * k) (stream c n) ∙ ap bits (sync_at c n k full h)
+    ap (λ (p : ℕ). take 30 (drop p (bits (stream c n)))) (place k) ∙ part-bits 10 (644 * k) (stream c n) ∙ ap bits (sync-at c n k full h)

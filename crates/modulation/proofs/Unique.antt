@@ -8,18 +8,18 @@ use native.Mathlib.Omega.{arith}
 use lib.Dec.{eqb}
 use lib.ListN.{take, drop}
 use lib.Seq.{drop_at}
-use Rattle.modulation.specs.Modulation.{Three, threeNumber, lastBit}
+use Rattle.modulation.specs.Modulation.{Three, three_number, last_bit}
 use Rattle.modulation.specs.Bits.{bits}
-use Rattle.modulation.specs.Sync.{FS, sync, syncId}
+use Rattle.modulation.specs.Sync.{FS, sync, sync_id}
 use Rattle.modulation.specs.Stream.{Recording, modulated, hash, stream, Full}
 use Rattle.modulation.proofs.Bits.{bits-injective}
 use Rattle.modulation.proofs.Demodulator.{injective}
-use Rattle.modulation.proofs.Streams.{length-sync, frame_at, sync_at}
+use Rattle.modulation.proofs.Streams.{length-sync, frame_at, sync-at}
 
 -- the first bit is a one
 lead : List Three → Bool
 lead [] = false
-lead (m ∷ ms) = eqb (threeNumber m / 4) 1
+lead (m ∷ ms) = eqb (three_number m / 4) 1
 
 lead-sync : (h : Bool) (n : FS) → lead (sync h n) ≡ h
 unfolding lead
@@ -30,7 +30,7 @@ module _ (c d : Recording) (n : ℕ) (full-c : Full c n) (full-d : Full d n) (e 
   same-hash : (k : ℕ) → k ≤ n → hash c k ≡ hash d k
   same-hash k h =
       sym (lead-sync (hash c k) (c.number k))
-      ∙ ap lead (sym (sync_at c n k full-c h) ∙ ap (λ (l : List Three). take 10 (drop (644 * k) l)) e ∙ sync_at d n k full-d h)
+      ∙ ap lead (sym (sync-at c n k full-c h) ∙ ap (λ (l : List Three). take 10 (drop (644 * k) l)) e ∙ sync-at d n k full-d h)
       ∙ lead-sync (hash d k) (d.number k)
 
   same-groups : (k : ℕ) → k < n → (modulated (c.number k) (c.frames k)).groups ≡ (modulated (d.number k) (d.frames k)).groups
@@ -43,7 +43,7 @@ module _ (c d : Recording) (n : ℕ) (full-c : Full c n) (full-d : Full d n) (e 
 
   same-frame : (k : ℕ) → k < n → c.number k ≡ d.number k → c.frames k ≡ d.frames k
   same-frame k h number =
-      injective (lastBit false (syncId (c.number k))) (c.frames k) (d.frames k)
+      injective (last_bit false (sync_id (c.number k))) (c.frames k) (d.frames k)
       ((λ i. record { groups = same-groups k h i; terminated = same-hash (suc k) h i }) ∙ ap (λ (m : FS). modulated m (d.frames k)) (sym number))
 
 -- runs of n full frames with the same sync numbers

@@ -9,7 +9,7 @@ use native.Mathlib.Omega.{arith}
 use lib.Dec.{T, eqb, eqb→eq, leb, leb→le, ltb, ltb→lt}
 use lib.ListN.{length, get_or, drop, length-append}
 use Rattle.laws.proofs.Finite.{all, all-at}
-use Rattle.modulation.specs.Modulation.{Two, d00, d01, d10, d11, twoNumber, Row, rows, no_row, row_at, starts, fits, choose, Rest, restBehind, Modulated, terminates, lastBit, modulateFrom, modulate}
+use Rattle.modulation.specs.Modulation.{Two, d00, d01, d10, d11, two_number, Row, rows, no_row, row_at, starts, fits, choose, Rest, rest_behind, Modulated, terminates, last_bit, modulate_from, modulate}
 use Rattle.modulation.proofs.Fronts.{two-injective, starts-split}
 use Rattle.laws.proofs.Booleans.{and_left}
 
@@ -94,67 +94,67 @@ drop-behind {A} x l (suc n) h = ap (λ (k : ℕ). drop {A = A} k l) (less n)
     less n = omega arith
 
 pub modulate-none : (b : Bool) → modulate b [] ≡ record { groups = []; terminated = false }
-unfolding modulateFrom
+unfolding modulate_from
 modulate-none b = refl
 
-pub skip : (ds : List Two) (k : ℕ) (b : Bool) → modulateFrom ds k b ≡ modulate b (drop k ds)
-unfolding modulateFrom
+pub skip : (ds : List Two) (k : ℕ) (b : Bool) → modulate_from ds k b ≡ modulate b (drop k ds)
+unfolding modulate_from
 skip [] zero b = refl
 skip [] (suc k) b = refl
 skip (d ∷ ds) zero b = refl
 skip (d ∷ ds) (suc k) b = skip ds k b
 
 -- the bit before what follows a row's word
-abbrev pub nextBit : Row → Bool
-nextBit r = lastBit false r.groups
+abbrev pub next_bit : Row → Bool
+next_bit r = last_bit false r.groups
 
 -- a row's word in front of what its rest gives
-abbrev pub inFront : Row → Modulated → Modulated
-inFront r f = record { groups = r.groups ++ f.groups; terminated = terminates r.when || f.terminated }
+abbrev pub in_front : Row → Modulated → Modulated
+in_front r f = record { groups = r.groups ++ f.groups; terminated = terminates r.when || f.terminated }
 
 -- the word at the front of ds, after the bit b: its row is the first that fits, its pairs stand in front, and its groups stand in front
 -- of those of the rest
 pub record Word (b : Bool) (ds : List Two) : Type 0 where
   pub row : Row
   pub rest : List Two
-  pub first : First (λ r. fits r b ds (modulateFrom (tail ds))) rows row
+  pub first : First (λ r. fits r b ds (modulate_from (tail ds))) rows row
   pub split : ds ≡ row.pairs ++ rest
-  pub behind-is : restBehind row (modulateFrom (tail ds)) ≡ modulate (nextBit row) rest
-  pub gives : modulate b ds ≡ inFront row (modulate (nextBit row) rest)
+  pub behind-is : rest_behind row (modulate_from (tail ds)) ≡ modulate (next_bit row) rest
+  pub gives : modulate b ds ≡ in_front row (modulate (next_bit row) rest)
 
 module _ (b : Bool) (d : Two) (ds : List Two) where
   passes : Row → Bool
-  passes r = fits r b (d ∷ ds) (modulateFrom ds)
+  passes r = fits r b (d ∷ ds) (modulate_from ds)
 
   chosen : First passes rows (choose passes rows)
   unfolding passes
   chosen =
-      let f = some_fits b d ds (modulateFrom ds) in
+      let f = some_fits b d ds (modulate_from ds) in
       choose-first passes rows f.index (ltb→lt f.index 16 f.below) f.fit
 
   -- the row that is taken
-  pub some-row : First (λ r. fits r b (d ∷ ds) (modulateFrom ds)) rows (choose (λ r. fits r b (d ∷ ds) (modulateFrom ds)) rows)
+  pub some-row : First (λ r. fits r b (d ∷ ds) (modulate_from ds)) rows (choose (λ r. fits r b (d ∷ ds) (modulate_from ds)) rows)
   unfolding passes
   some-row = chosen
 
   pub word_at : Word b (d ∷ ds)
-  unfolding passes modulateFrom
+  unfolding passes modulate_from
   word_at =
       let r = choose passes rows in
       let n = length r.pairs in
-      let behind-word = skip ds (n - 1) (nextBit r) ∙ ap (modulate (nextBit r)) (drop-behind d ds n (row-size chosen).1) in
+      let behind-word = skip ds (n - 1) (next_bit r) ∙ ap (modulate (next_bit r)) (drop-behind d ds n (row-size chosen).1) in
       record {
         row = r;
         rest = drop n (d ∷ ds);
         first = chosen;
-        split = starts-split twoNumber two-injective r.pairs (d ∷ ds) (and_left (starts twoNumber r.pairs (d ∷ ds)) _ chosen.passed);
+        split = starts-split two_number two-injective r.pairs (d ∷ ds) (and_left (starts two_number r.pairs (d ∷ ds)) _ chosen.passed);
         behind-is = behind-word;
-        gives = ap (inFront r) behind-word;
+        gives = ap (in_front r) behind-word;
       }
 
 -- what holds of the empty list, and of a list if it holds of what its first word leaves, holds of every list
 module _ (P : Bool → List Two → Type 0) (none : (b : Bool) → P b [])
-    (more : (b : Bool) (d : Two) (ds : List Two) (f : Word b (d ∷ ds)) → P (nextBit f.row) f.rest → P b (d ∷ ds)) where
+    (more : (b : Bool) (d : Two) (ds : List Two) (f : Word b (d ∷ ds)) → P (next_bit f.row) f.rest → P b (d ∷ ds)) where
   within : (n : ℕ) (b : Bool) (ds : List Two) → length ds ≤ n → P b ds
   within zero b [] h = none b
   within zero b (d ∷ ds) h = absurd (not-suc-le-zero h)
@@ -164,7 +164,7 @@ module _ (P : Bool → List Two → Type 0) (none : (b : Bool) → P b [])
       front b [] h ih = none b
       front b (d ∷ ds) h ih =
           let f = word_at b d ds in
-          more b d ds f (ih (nextBit f.row) f.rest
+          more b d ds f (ih (next_bit f.row) f.rest
           (omega (arith, ap length f.split, length-append f.row.pairs f.rest, row-size f.first)))
 
   pub by-words : (b : Bool) (ds : List Two) → P b ds

@@ -1,7 +1,7 @@
 -- Lists of bits, numbers 0 and 1, as pairs of data bits and groups of modulation bits.
 use Rattle.std.specs.Prelude.{Bool, List, [], ◌∷◌, ◌++◌, ◌≡◌, ℕ, zero, suc, ◌+◌, ◌/◌, ◌%◌}
-use Rattle.bits.specs.Bits.{threeOf}
-use Rattle.modulation.specs.Modulation.{Two, d00, d01, d10, d11, twoNumber, Three, m000, m001, m010, m011, m100, m101, m110, m111, threeNumber, modulate}
+use Rattle.bits.specs.Bits.{three_of}
+use Rattle.modulation.specs.Modulation.{Two, d00, d01, d10, d11, two_number, Three, m000, m001, m010, m011, m100, m101, m110, m111, three_number, modulate}
 
 abbrev pub two : ℕ → ℕ → Two
 two zero zero = d00
@@ -15,9 +15,9 @@ pairs [] = []
 pairs (x ∷ []) = []
 pairs (x ∷ y ∷ l) = two x y ∷ pairs l
 
-abbrev pub dataBits : List Two → List ℕ
-dataBits [] = []
-dataBits (d ∷ ds) = twoNumber d / 2 ∷ twoNumber d % 2 ∷ dataBits ds
+abbrev pub data_bits : List Two → List ℕ
+data_bits [] = []
+data_bits (d ∷ ds) = two_number d / 2 ∷ two_number d % 2 ∷ data_bits ds
 
 abbrev pub three : ℕ → ℕ → ℕ → Three
 three zero zero zero = m000
@@ -38,7 +38,7 @@ groups (x ∷ y ∷ z ∷ l) = three x y z ∷ groups l
 
 abbrev pub bits : List Three → List ℕ
 bits [] = []
-bits (m ∷ ms) = threeOf (threeNumber m) ++ bits ms
+bits (m ∷ ms) = three_of (three_number m) ++ bits ms
 
 -- how many ones there are
 abbrev pub ones : List ℕ → ℕ

@@ -1,6 +1,6 @@
 -- Gaps between neighbouring ones of a list of bits (13.17.1), and the two long ones of each frame sync (13.17.4).
 use Rattle.std.specs.Prelude.{List, [], ◌∷◌, ◌⊎◌, ◌≡◌, ℕ, ◌+◌, ◌%◌, ◌<◌, ◌≤◌, get_or, take, drop}
-use Rattle.sizes.specs.Sizes.{frameSize}
+use Rattle.sizes.specs.Sizes.{frame_size}
 
 -- ones stand at i and at j, and zeros between them
 pub record Neighbours (l : List ℕ) (i j : ℕ) : Type 0 where
@@ -24,7 +24,7 @@ Spaced Permitted l = (i j : ℕ) → Neighbours l i j → Gap Permitted i j
 
 -- in a run of frames, each 1,932 bits with its sync: a sync's long gap ends at j
 abbrev pub EndsLong : ℕ → Type 0
-EndsLong j = (j % frameSize ≡ 13) ⊎ (j % frameSize ≡ 22)
+EndsLong j = (j % frame_size ≡ 13) ⊎ (j % frame_size ≡ 22)
 
 -- no 15 bits read 101010101010101: no seven gaps of a single zero follow one another
 abbrev pub NoSeven : List ℕ → Type 0

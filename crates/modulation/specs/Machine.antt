@@ -20,20 +20,20 @@ waiting w11011100 = d11 ∷ d01 ∷ d11 ∷ d00 ∷ []
 waiting w1101110000 = d11 ∷ d01 ∷ d11 ∷ d00 ∷ d00 ∷ []
 
 -- numbered in this order
-abbrev pub waitNumber : Wait → ℕ
-waitNumber w = 0
-waitNumber w00 = 1
-waitNumber w0000 = 2
-waitNumber w000000 = 3
-waitNumber w000010 = 4
-waitNumber w11 = 5
-waitNumber w1101 = 6
-waitNumber w110111 = 7
-waitNumber w11011100 = 8
-waitNumber w1101110000 = 9
+abbrev pub wait_number : Wait → ℕ
+wait_number w = 0
+wait_number w00 = 1
+wait_number w0000 = 2
+wait_number w000000 = 3
+wait_number w000010 = 4
+wait_number w11 = 5
+wait_number w1101 = 6
+wait_number w110111 = 7
+wait_number w11011100 = 8
+wait_number w1101110000 = 9
 
-abbrev pub waitAt : ℕ → Wait
-waitAt k = get_or (w ∷ w00 ∷ w0000 ∷ w000000 ∷ w000010 ∷ w11 ∷ w1101 ∷ w110111 ∷ w11011100 ∷ w1101110000 ∷ []) k w
+abbrev pub wait_at : ℕ → Wait
+wait_at k = get_or (w ∷ w00 ∷ w0000 ∷ w000000 ∷ w000010 ∷ w11 ∷ w1101 ∷ w110111 ∷ w11011100 ∷ w1101110000 ∷ []) k w
 
 -- the groups that one more pair decides, what waits then, and the bit before that
 pub record Step : Type 0 where

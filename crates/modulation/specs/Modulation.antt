@@ -53,33 +53,33 @@ termination =
     []
 
 -- the rows of n pairs
-abbrev pub ofLength : ℕ → List Row → List Row
-ofLength n [] = []
-ofLength n (r ∷ rs) = cond (eqb (length r.pairs) n) (r ∷ ofLength n rs) (ofLength n rs)
+abbrev pub of_length : ℕ → List Row → List Row
+of_length n [] = []
+of_length n (r ∷ rs) = cond (eqb (length r.pairs) n) (r ∷ of_length n rs) (of_length n rs)
 
-abbrev pub longestFirst : List Row → List Row
-longestFirst rs = ofLength 4 rs ++ (ofLength 3 rs ++ (ofLength 2 rs ++ ofLength 1 rs))
+abbrev pub longest_first : List Row → List Row
+longest_first rs = of_length 4 rs ++ (of_length 3 rs ++ (of_length 2 rs ++ of_length 1 rs))
 
 -- the rows in the order in which they are tried: the longest first, and the terminating ones where none of those fits
 abbrev pub rows : List Row
-rows = longestFirst (conversion ++ substitution) ++ termination
+rows = longest_first (conversion ++ substitution) ++ termination
 
 -- the number that the bits make, the first highest
-abbrev pub twoNumber : Two → ℕ
-twoNumber d00 = 0b00
-twoNumber d01 = 0b01
-twoNumber d10 = 0b10
-twoNumber d11 = 0b11
+abbrev pub two_number : Two → ℕ
+two_number d00 = 0b00
+two_number d01 = 0b01
+two_number d10 = 0b10
+two_number d11 = 0b11
 
-abbrev pub threeNumber : Three → ℕ
-threeNumber m000 = 0b000
-threeNumber m001 = 0b001
-threeNumber m010 = 0b010
-threeNumber m011 = 0b011
-threeNumber m100 = 0b100
-threeNumber m101 = 0b101
-threeNumber m110 = 0b110
-threeNumber m111 = 0b111
+abbrev pub three_number : Three → ℕ
+three_number m000 = 0b000
+three_number m001 = 0b001
+three_number m010 = 0b010
+three_number m011 = 0b011
+three_number m100 = 0b100
+three_number m101 = 0b101
+three_number m110 = 0b110
+three_number m111 = 0b111
 
 -- xs stands at the front of l; elements are compared by their numbers
 abbrev pub starts : {A : Type 0} → (A → ℕ) → List A → List A → Bool
@@ -87,14 +87,14 @@ starts n [] l = true
 starts n (x ∷ xs) [] = false
 starts n (x ∷ xs) (y ∷ l) = eqb (n x) (n y) && starts n xs l
 
-abbrev pub startsWith010 : List Three → Bool
-startsWith010 [] = false
-startsWith010 (m ∷ ms) = eqb (threeNumber m) 0b010
+abbrev pub starts_with010 : List Three → Bool
+starts_with010 [] = false
+starts_with010 (m ∷ ms) = eqb (three_number m) 0b010
 
 -- the last of the bits is a ONE; b where there are none
-abbrev pub lastBit : Bool → List Three → Bool
-lastBit b [] = b
-lastBit b (m ∷ ms) = lastBit (eqb (threeNumber m % 2) 1) ms
+abbrev pub last_bit : Bool → List Three → Bool
+last_bit b [] = b
+last_bit b (m ∷ ms) = last_bit (eqb (three_number m % 2) 1) ms
 
 -- a frame's modulation bits, and whether it ended by a terminating row
 pub record Modulated : Type 0 where
@@ -106,19 +106,19 @@ abbrev pub Rest : Type 0
 Rest = (k : ℕ) (b : Bool) → Modulated
 
 -- what follows the word that is row r
-abbrev pub restBehind : Row → Rest → Modulated
-restBehind r rest = rest (length r.pairs - 1) (lastBit false r.groups)
+abbrev pub rest_behind : Row → Rest → Modulated
+rest_behind r rest = rest (length r.pairs - 1) (last_bit false r.groups)
 
 -- the row's condition holds after the bit b, at the pairs ds that are left of the frame
 abbrev pub allowed : Row → When → Bool → List Two → Rest → Bool
 allowed r always b ds rest = true
 allowed r after_one b ds rest = b
 allowed r after-zero b ds rest = not b
-allowed r before-010 b ds rest = startsWith010 (restBehind r rest).groups
+allowed r before-010 b ds rest = starts_with010 (rest_behind r rest).groups
 allowed r at-end b ds rest = eqb (length r.pairs) (length ds)
 
 abbrev pub fits : Row → Bool → List Two → Rest → Bool
-fits r b ds rest = starts twoNumber r.pairs ds && allowed r r.when b ds rest
+fits r b ds rest = starts two_number r.pairs ds && allowed r r.when b ds rest
 
 abbrev pub no_row : Row
 no_row = row [] [] always
@@ -140,14 +140,14 @@ terminates before-010 = false
 terminates at-end = true
 
 abbrev pub word : Row → Rest → Modulated
-word r rest = record { groups = r.groups ++ (restBehind r rest).groups; terminated = terminates r.when || (restBehind r rest).terminated }
+word r rest = record { groups = r.groups ++ (rest_behind r rest).groups; terminated = terminates r.when || (rest_behind r rest).terminated }
 
 -- the pairs that are left of a frame, of which the first k belong to the word before; b is the bit before
-unfoldable pub modulateFrom : List Two → ℕ → Bool → Modulated
-modulateFrom [] k b = record { groups = []; terminated = false }
-modulateFrom (d ∷ ds) (suc k) b = modulateFrom ds k b
-modulateFrom (d ∷ ds) zero b = word (choose (λ r. fits r b (d ∷ ds) (modulateFrom ds)) rows) (modulateFrom ds)
+unfoldable pub modulate_from : List Two → ℕ → Bool → Modulated
+modulate_from [] k b = record { groups = []; terminated = false }
+modulate_from (d ∷ ds) (suc k) b = modulate_from ds k b
+modulate_from (d ∷ ds) zero b = word (choose (λ r. fits r b (d ∷ ds) (modulate_from ds)) rows) (modulate_from ds)
 
 -- the frame with the data bits ds, after the modulation bit b
 abbrev pub modulate : Bool → List Two → Modulated
-modulate b ds = modulateFrom ds 0 b
+modulate b ds = modulate_from ds 0 b

@@ -1,8 +1,8 @@
 -- 13.16, 13.17.4: a run of recording frames, each behind its frame sync, and the sync that follows (14.2.3.2). # of the first sync is free
 -- (14.2.2.4), # of each other says how the frame before it ended.
 use Rattle.std.specs.Prelude.{Bool, false, List, [], ◌++◌, ◌≡◌, ℕ, zero, suc, ◌<◌, length}
-use Rattle.modulation.specs.Modulation.{Two, Three, Modulated, modulate, lastBit}
-use Rattle.modulation.specs.Sync.{FS, sync, syncId}
+use Rattle.modulation.specs.Modulation.{Two, Three, Modulated, modulate, last_bit}
+use Rattle.modulation.specs.Sync.{FS, sync, sync_id}
 
 -- # of the first sync; of frame k the number of its sync and its data bits
 pub record Recording : Type 0 where
@@ -12,7 +12,7 @@ pub record Recording : Type 0 where
 
 -- a frame behind sync n: the bit before it is the sync's last
 abbrev pub modulated : FS → List Two → Modulated
-modulated n ds = modulate (lastBit false (syncId n)) ds
+modulated n ds = modulate (last_bit false (sync_id n)) ds
 
 -- # of the sync of frame k
 abbrev pub hash : Recording → ℕ → Bool

@@ -7,29 +7,29 @@ pub data FS : Type 0 where
   FS0 FS1 FS2 FS3 FS4 FS5 FS6 : FS
 
 -- Figure 39: the 24-bit sync body, with # first; # is ONE where the frame before ended by a terminating row
-abbrev pub syncBody : Bool → List Three
-syncBody hash = cond hash m101 m001 ∷ m010 ∷ m000 ∷ m000 ∷ m010 ∷ m000 ∷ m000 ∷ m010 ∷ []
+abbrev pub sync_body : Bool → List Three
+sync_body hash = cond hash m101 m001 ∷ m010 ∷ m000 ∷ m000 ∷ m010 ∷ m000 ∷ m000 ∷ m010 ∷ []
 
 -- Figure 39: the 6-bit sync ID
-abbrev pub syncId : FS → List Three
-syncId FS0 = m000 ∷ m001 ∷ []
-syncId FS1 = m010 ∷ m010 ∷ []
-syncId FS2 = m101 ∷ m000 ∷ []
-syncId FS3 = m100 ∷ m001 ∷ []
-syncId FS4 = m000 ∷ m100 ∷ []
-syncId FS5 = m001 ∷ m001 ∷ []
-syncId FS6 = m010 ∷ m000 ∷ []
+abbrev pub sync_id : FS → List Three
+sync_id FS0 = m000 ∷ m001 ∷ []
+sync_id FS1 = m010 ∷ m010 ∷ []
+sync_id FS2 = m101 ∷ m000 ∷ []
+sync_id FS3 = m100 ∷ m001 ∷ []
+sync_id FS4 = m000 ∷ m100 ∷ []
+sync_id FS5 = m001 ∷ m001 ∷ []
+sync_id FS6 = m010 ∷ m000 ∷ []
 
 abbrev pub sync : Bool → FS → List Three
-sync hash n = syncBody hash ++ syncId n
+sync hash n = sync_body hash ++ sync_id n
 
 -- Figure 41: recording frames 0 to 30 of an address unit (proofs/Syncs: as printed, and Figure 40)
-abbrev pub syncNumbers : List FS
-syncNumbers =
+abbrev pub sync_numbers : List FS
+sync_numbers =
     FS0 ∷
     FS1 ∷ FS2 ∷ FS3 ∷ FS3 ∷ FS1 ∷ FS4 ∷ FS1 ∷ FS5 ∷ FS5 ∷ FS4 ∷ FS3 ∷ FS4 ∷ FS6 ∷ FS6 ∷ FS3 ∷
     FS5 ∷ FS3 ∷ FS2 ∷ FS2 ∷ FS5 ∷ FS6 ∷ FS5 ∷ FS1 ∷ FS1 ∷ FS6 ∷ FS2 ∷ FS6 ∷ FS4 ∷ FS4 ∷ FS2 ∷ []
 
 -- recording frame n of a physical cluster
-unfoldable pub syncNumber : ℕ → FS
-syncNumber n = get_or syncNumbers (n % 31) FS0
+unfoldable pub sync_number : ℕ → FS
+sync_number n = get_or sync_numbers (n % 31) FS0

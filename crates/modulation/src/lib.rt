@@ -1,1 +1,2 @@
 // Definitions and theorems of 17PP modulation. No code.
+#![tactic(auto)]

@@ -10,17 +10,17 @@ use lib.ListN.{length, take-append-drop, take, drop, length-append, length-drop}
 use lib.Seq.{length-take-le, get_or-drop}
 use lib.Pow.{shl_lt, high, low}
 use Rattle.laws.proofs.Finite.{all, equal-below, bounded-below}
-use Rattle.bits.specs.Bits.{Bits, number, bitsOfNumber}
+use Rattle.bits.specs.Bits.{Bits, number, bits_of_number}
 use Rattle.bits.proofs.Bits.{bits-then}
-use Rattle.bits.proofs.Number.{number_lt, bits_of_number}
+use Rattle.bits.proofs.Number.{number_lt, bits-of-number}
 use Rattle.bits.proofs.Concat.{number_append}
 use Rattle.modulation.specs.Modulation.{Two, Modulated}
 use Rattle.modulation.specs.Bits.{bits}
 use Rattle.modulation.proofs.Bits.{bits-append, length-bits}
 use Rattle.modulation.proofs.Fronts.{bits-groups}
 use Rattle.modulation.specs.Machine.{stop, put}
-use Rattle.modulator.specs.steps.Table.{waitOf, stateBit, waits, stopEntry, nibbleEntry, lastEntry}
-use Rattle.modulation.specs.steps.Pairs.{nibblePairs}
+use Rattle.modulator.specs.steps.Table.{wait_of, state_bit, waits, stop_entry, nibble_entry, last_entry}
+use Rattle.modulation.specs.steps.Pairs.{nibble_pairs}
 use Rattle.modulator.proofs.Runs.{shifted, from, Moves, moves-on, nibble-moves}
 
 -- ---- a number cut in two
@@ -36,7 +36,7 @@ bits-drop n l b i = rw (get_or-drop n l i 0) (b (n + i))
 
 -- the first n of the bits l, behind which k are to come, and the others
 record Cut (l : List ℕ) (n g k acc : ℕ) : Type 0 where
-  front : take n l ≡ bitsOfNumber n (acc / 2 ^ g)
+  front : take n l ≡ bits_of_number n (acc / 2 ^ g)
   size : length (drop n l) + k ≡ g
   rest : acc % 2 ^ g ≡ number (drop n l) * 2 ^ k
 
@@ -44,7 +44,7 @@ cut : (l : List ℕ) (n g k acc : ℕ) → Bits l → length l + k ≡ n + g →
 cut l n g k acc b e few held =
     record {
       front =
-          sym (ap₂ bitsOfNumber (sym front-size) (ap (λ (x : ℕ). x / 2 ^ g) whole ∙ high (number (take n l)) g small) ∙ bits_of_number (take n l) (bits-take n l b));
+          sym (ap₂ bits_of_number (sym front-size) (ap (λ (x : ℕ). x / 2 ^ g) whole ∙ high (number (take n l)) g small) ∙ bits-of-number (take n l) (bits-take n l b));
       size = rest-size;
       rest = ap (λ (x : ℕ). x % 2 ^ g) whole ∙ low (number (take n l)) g small;
     }
@@ -87,9 +87,9 @@ pub few-wait : (s : ℕ) → s < 20 → waits s < 6
 unfolding all waits
 few-wait s h = bounded-below 20 6 waits tt s h
 
-pub stop-sized : (s : ℕ) → s < 20 → length (stop (waitOf s) (stateBit s)).groups ≡ waits s
+pub stop-sized : (s : ℕ) → s < 20 → length (stop (wait_of s) (state_bit s)).groups ≡ waits s
 unfolding all waits
-stop-sized s h = equal-below 20 (λ s. length (stop (waitOf s) (stateBit s)).groups) waits tt s h
+stop-sized s h = equal-below 20 (λ s. length (stop (wait_of s) (state_bit s)).groups) waits tt s h
 
 end-half : (n : ℕ) (b : Bool) → (2 * n + cond b 1 0) / 2 ≡ n
 end-half n true = omega arith
@@ -139,7 +139,7 @@ module _ {pre : List ℕ} {s : ℕ} {ds : List Two} {done : List ℕ} {lag acc t
       subst₂ (λ (x k : ℕ). x < 2 ^ k) (sym h.held) h.size (shl_lt (length h.tail) (3 * waits t) (number_lt h.tail h.tail-bits))
 
   -- n bits more are put
-  pub hold-put : (n g : ℕ) → lag ≡ n + g → 15 ≤ g → Holding pre s ds (done ++ bitsOfNumber n (acc / 2 ^ g)) g (acc % 2 ^ g) t
+  pub hold-put : (n g : ℕ) → lag ≡ n + g → 15 ≤ g → Holding pre s ds (done ++ bits_of_number n (acc / 2 ^ g)) g (acc % 2 ^ g) t
   hold-put n g e few =
       let c = cut h.tail n g (3 * waits t) acc h.tail-bits (h.size ∙ e) (omega (arith, few-wait t h.moves.below)) h.held in
       record {
@@ -158,7 +158,7 @@ module _ {pre : List ℕ} {s : ℕ} {ds : List Two} {done : List ℕ} {lag acc t
 
   -- the frame ends
   abbrev end : Modulated
-  end = stop (waitOf t) (stateBit t)
+  end = stop (wait_of t) (state_bit t)
 
   all-given : from s ds ≡ put h.moves.out end
   all-given = ap (from s) (sym (append-nil ds)) ∙ h.moves.gives []
@@ -166,8 +166,8 @@ module _ {pre : List ℕ} {s : ℕ} {ds : List Two} {done : List ℕ} {lag acc t
   end-size : length (h.tail ++ bits end.groups) ≡ lag
   end-size = omega (arith, length-append h.tail (bits end.groups), length-bits end.groups, stop-sized t h.moves.below, h.size)
 
-  end-value : number (h.tail ++ bits end.groups) ≡ acc + stopEntry t / 2
-  unfolding stopEntry
+  end-value : number (h.tail ++ bits end.groups) ≡ acc + stop_entry t / 2
+  unfolding stop_entry
   end-value =
       let o = bits end.groups in
       number_append h.tail o
@@ -177,14 +177,14 @@ module _ {pre : List ℕ} {s : ℕ} {ds : List Two} {done : List ℕ} {lag acc t
   end-bits : Bits (h.tail ++ bits end.groups)
   end-bits = bits-then h.tail (bits end.groups) h.tail-bits (bits-groups end.groups)
 
-  tail-end : h.tail ++ bits end.groups ≡ bitsOfNumber lag (acc + stopEntry t / 2)
-  tail-end = sym (bits_of_number (h.tail ++ bits end.groups) end-bits) ∙ ap₂ bitsOfNumber end-size end-value
+  tail-end : h.tail ++ bits end.groups ≡ bits_of_number lag (acc + stop_entry t / 2)
+  tail-end = sym (bits-of-number (h.tail ++ bits end.groups) end-bits) ∙ ap₂ bits_of_number end-size end-value
 
-  pub hold-end-lt : acc + stopEntry t / 2 < 2 ^ lag
+  pub hold-end-lt : acc + stop_entry t / 2 < 2 ^ lag
   hold-end-lt = subst₂ (λ (x k : ℕ). x < 2 ^ k) end-value end-size (number_lt (h.tail ++ bits end.groups) end-bits)
 
   -- what is put and what is held, with what the end decides, are all the bits
-  pub hold-bits : pre ++ bits (from s ds).groups ≡ done ++ bitsOfNumber lag (acc + stopEntry t / 2)
+  pub hold-bits : pre ++ bits (from s ds).groups ≡ done ++ bits_of_number lag (acc + stop_entry t / 2)
   hold-bits =
       ap (λ (m : Modulated). pre ++ bits m.groups) all-given
       ∙ ap (λ (l : List ℕ). pre ++ l) (bits-append h.moves.out end.groups)
@@ -193,31 +193,31 @@ module _ {pre : List ℕ} {s : ℕ} {ds : List Two} {done : List ℕ} {lag acc t
       ∙ append_assoc done h.tail (bits end.groups)
       ∙ ap (λ (l : List ℕ). done ++ l) tail-end
 
-  pub hold-end : eqb (stopEntry t % 2) 1 ≡ (from s ds).terminated
-  unfolding stopEntry
+  pub hold-end : eqb (stop_entry t % 2) 1 ≡ (from s ds).terminated
+  unfolding stop_entry
   hold-end = end-odd (number (bits end.groups)) end.terminated ∙ ap (λ (m : Modulated). m.terminated) (sym all-given)
 
 -- the last two pairs and the end
 module _ {pre : List ℕ} {s : ℕ} {ds : List Two} {done : List ℕ} {lag acc t : ℕ} (h : Holding pre s ds done lag acc t) (x : ℕ) (hx : x < 16) where
-  more : Holding pre s (ds ++ nibblePairs x) done (lag + 6) (acc * 64 + nibbleEntry t x / 32) (nibbleEntry t x % 32)
+  more : Holding pre s (ds ++ nibble_pairs x) done (lag + 6) (acc * 64 + nibble_entry t x / 32) (nibble_entry t x % 32)
   more = hold-more h (nibble-moves t x h.moves.below hx)
 
-  last-half : acc * 64 + nibbleEntry t x / 32 + stopEntry (nibbleEntry t x % 32) / 2 ≡ acc * 64 + lastEntry t x / 2
-  unfolding lastEntry
-  last-half = halves acc (nibbleEntry t x / 32) (stopEntry (nibbleEntry t x % 32))
+  last-half : acc * 64 + nibble_entry t x / 32 + stop_entry (nibble_entry t x % 32) / 2 ≡ acc * 64 + last_entry t x / 2
+  unfolding last_entry
+  last-half = halves acc (nibble_entry t x / 32) (stop_entry (nibble_entry t x % 32))
     where
       halves : (a b c : ℕ) → a * 64 + b + c / 2 ≡ a * 64 + (b * 2 + c) / 2
       halves a b c = omega arith
 
-  pub last-bits : pre ++ bits (from s (ds ++ nibblePairs x)).groups ≡ done ++ bitsOfNumber (lag + 6) (acc * 64 + lastEntry t x / 2)
-  last-bits = hold-bits more ∙ ap (λ (v : ℕ). done ++ bitsOfNumber (lag + 6) v) last-half
+  pub last-bits : pre ++ bits (from s (ds ++ nibble_pairs x)).groups ≡ done ++ bits_of_number (lag + 6) (acc * 64 + last_entry t x / 2)
+  last-bits = hold-bits more ∙ ap (λ (v : ℕ). done ++ bits_of_number (lag + 6) v) last-half
 
-  pub last-lt : acc * 64 + lastEntry t x / 2 < 2 ^ (lag + 6)
+  pub last-lt : acc * 64 + last_entry t x / 2 < 2 ^ (lag + 6)
   last-lt = subst (λ (v : ℕ). v < 2 ^ (lag + 6)) last-half (hold-end-lt more)
 
-  pub last_end : eqb (lastEntry t x % 2) 1 ≡ (from s (ds ++ nibblePairs x)).terminated
-  unfolding lastEntry
-  last_end = ap (λ (v : ℕ). eqb v 1) (odd (nibbleEntry t x / 32) (stopEntry (nibbleEntry t x % 32))) ∙ hold-end more
+  pub last_end : eqb (last_entry t x % 2) 1 ≡ (from s (ds ++ nibble_pairs x)).terminated
+  unfolding last_entry
+  last_end = ap (λ (v : ℕ). eqb v 1) (odd (nibble_entry t x / 32) (stop_entry (nibble_entry t x % 32))) ∙ hold-end more
     where
       odd : (b c : ℕ) → (b * 2 + c) % 2 ≡ c % 2
       odd b c = omega arith

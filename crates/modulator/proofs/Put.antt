@@ -7,19 +7,19 @@ use lib.ListN.{length, set, take}
 use lib.Seq.{sets, length-sets}
 use lib.Pow.{mod-pow-add}
 use Rattle.laws.proofs.Fill.{sets-front}
-use Rattle.bits.specs.Bits.{bits_of, number, bitsOfNumber}
+use Rattle.bits.specs.Bits.{bits_of, number, bits_of_number}
 use Rattle.bits.proofs.Bits.{length-bits, bits-bits}
-use Rattle.bits.proofs.Number.{length-bits-of, number-of-bits, bits_of_number}
+use Rattle.bits.proofs.Number.{length-bits-of, number-of-bits, bits-of-number}
 use Rattle.bits.proofs.Concat.{bits-append, number-byte, number-first, number-bits}
 use Rattle.modulator.specs.steps.Put.{Put}
 
 -- bytes that make v, modulo 2 to the number of their bits, are its bits
-bytes-are : (vs : List ℕ) (n v : ℕ) → 8 * length vs ≡ n → number (bits_of vs) ≡ v % 2 ^ n → bits_of vs ≡ bitsOfNumber n v
+bytes-are : (vs : List ℕ) (n v : ℕ) → 8 * length vs ≡ n → number (bits_of vs) ≡ v % 2 ^ n → bits_of vs ≡ bits_of_number n v
 bytes-are vs n v size e =
-    sym (bits_of_number (bits_of vs) (bits-bits vs))
-    ∙ ap₂ bitsOfNumber (length-bits vs ∙ size) e
-    ∙ sym (ap₂ bitsOfNumber (length-bits-of n v) (number-of-bits n v))
-    ∙ bits_of_number (bitsOfNumber n v) (number-bits n v)
+    sym (bits-of-number (bits_of vs) (bits-bits vs))
+    ∙ ap₂ bits_of_number (length-bits vs ∙ size) e
+    ∙ sym (ap₂ bits_of_number (length-bits-of n v) (number-of-bits n v))
+    ∙ bits-of-number (bits_of_number n v) (number-bits n v)
 
 -- the bytes of a number, one more in front
 byte-in : (x : ℕ) (l : List ℕ) (v : ℕ) → x ≡ v / 2 ^ (8 * length l) % 256 → number (bits_of l) ≡ v % 2 ^ (8 * length l)

@@ -12,10 +12,10 @@ use Rattle.bits.specs.Bits.{number}
 use Rattle.bits.proofs.Concat.{number_append}
 use Rattle.modulation.specs.Modulation.{Two, Three, Modulated}
 use Rattle.modulation.specs.Bits.{bits}
-use Rattle.modulation.specs.steps.Pairs.{twoOf, nibblePairs, bytePairs}
+use Rattle.modulation.specs.steps.Pairs.{two_of, nibble_pairs, byte_pairs}
 use Rattle.modulation.proofs.Bits.{bits-append, length-bits}
 use Rattle.modulation.specs.Machine.{Wait, w, w00, w0000, w000000, w000010, w11, w1101, w110111, w11011100, w1101110000, waiting, Step, step, put, machine}
-use Rattle.modulator.specs.steps.Table.{waitOf, stateBit, stateNumber, waits, stepEntry, joined, nibbleEntry, byteEntry}
+use Rattle.modulator.specs.steps.Table.{wait_of, state_bit, state_number, waits, step_entry, joined, nibble_entry, byte_entry}
 
 -- ---- numbers with groups behind them
 
@@ -37,7 +37,7 @@ shifted a o k n u acc v e ea ev =
 
 -- what the pairs ds give from state s on
 abbrev pub from : ℕ → List Two → Modulated
-from s ds = machine ds (waitOf s) (stateBit s)
+from s ds = machine ds (wait_of s) (state_bit s)
 
 -- from state s the pairs ds lead to t and decide groups; v is their number, with a group to come for each pair that waits in t
 pub record Moves (s : ℕ) (ds : List Two) (v t : ℕ) : Type 0 where
@@ -72,7 +72,7 @@ module _ {s t u : ℕ} {ds es : List Two} {v x : ℕ} (m : Moves s ds v t) (n : 
 
 -- ---- one pair
 
-state-lt : (a : Wait) (b : Bool) → stateNumber a b < 20
+state-lt : (a : Wait) (b : Bool) → state_number a b < 20
 state-lt w b = elim b [ true ↦ omega arith | false ↦ omega arith ]
 state-lt w00 b = elim b [ true ↦ omega arith | false ↦ omega arith ]
 state-lt w0000 b = elim b [ true ↦ omega arith | false ↦ omega arith ]
@@ -84,7 +84,7 @@ state-lt w110111 b = elim b [ true ↦ omega arith | false ↦ omega arith ]
 state-lt w11011100 b = elim b [ true ↦ omega arith | false ↦ omega arith ]
 state-lt w1101110000 b = elim b [ true ↦ omega arith | false ↦ omega arith ]
 
-state-back : (a : Wait) (b : Bool) → (waitOf (stateNumber a b) ≡ a) × (stateBit (stateNumber a b) ≡ b)
+state-back : (a : Wait) (b : Bool) → (wait_of (state_number a b) ≡ a) × (state_bit (state_number a b) ≡ b)
 state-back w b = elim b [ true ↦ (refl, refl) | false ↦ (refl, refl) ]
 state-back w00 b = elim b [ true ↦ (refl, refl) | false ↦ (refl, refl) ]
 state-back w0000 b = elim b [ true ↦ (refl, refl) | false ↦ (refl, refl) ]
@@ -96,24 +96,24 @@ state-back w110111 b = elim b [ true ↦ (refl, refl) | false ↦ (refl, refl) ]
 state-back w11011100 b = elim b [ true ↦ (refl, refl) | false ↦ (refl, refl) ]
 state-back w1101110000 b = elim b [ true ↦ (refl, refl) | false ↦ (refl, refl) ]
 
-from-state : (a : Wait) (b : Bool) (rest : List Two) → machine rest a b ≡ from (stateNumber a b) rest
+from-state : (a : Wait) (b : Bool) (rest : List Two) → machine rest a b ≡ from (state_number a b) rest
 from-state a b rest = sym (ap₂ (machine rest) (state-back a b).0 (state-back a b).1)
 
 step-sized : (s d : ℕ) → s < 20 → d < 4
-    → length (step (waitOf s) (stateBit s) (twoOf d)).out + length (waiting (step (waitOf s) (stateBit s) (twoOf d)).to) ≡ length (waiting (waitOf s)) + 1
+    → length (step (wait_of s) (state_bit s) (two_of d)).out + length (waiting (step (wait_of s) (state_bit s) (two_of d)).to) ≡ length (waiting (wait_of s)) + 1
 unfolding all all₂
 step-sized s d hs hd =
-    equal-below₂ 20 4 (λ s d. length (step (waitOf s) (stateBit s) (twoOf d)).out + length (waiting (step (waitOf s) (stateBit s) (twoOf d)).to))
-    (λ s d. length (waiting (waitOf s)) + 1) tt s d hs hd
+    equal-below₂ 20 4 (λ s d. length (step (wait_of s) (state_bit s) (two_of d)).out + length (waiting (step (wait_of s) (state_bit s) (two_of d)).to))
+    (λ s d. length (waiting (wait_of s)) + 1) tt s d hs hd
 
 module _ (s d : ℕ) (hs : s < 20) (hd : d < 4) where
   abbrev st : Step
-  st = step (waitOf s) (stateBit s) (twoOf d)
+  st = step (wait_of s) (state_bit s) (two_of d)
 
   abbrev to : ℕ
-  to = stateNumber st.to st.bit
+  to = state_number st.to st.bit
 
-  step-to : Moves s (twoOf d ∷ []) (number (bits st.out) * 2 ^ (3 * length (waiting st.to))) to
+  step-to : Moves s (two_of d ∷ []) (number (bits st.out) * 2 ^ (3 * length (waiting st.to))) to
   unfolding waits
   step-to =
       let there : waits to ≡ length (waiting st.to) = ap (λ (a : Wait). length (waiting a)) (state-back st.to st.bit).0 in
@@ -125,14 +125,14 @@ module _ (s d : ℕ) (hs : s < 20) (hd : d < 4) where
         valued = ap (λ (n : ℕ). number (bits st.out) * 2 ^ (3 * n)) (sym there);
       }
 
-  pub step-moves : Moves s (twoOf d ∷ []) (stepEntry s d / 32) (stepEntry s d % 32)
-  unfolding stepEntry
+  pub step-moves : Moves s (two_of d ∷ []) (step_entry s d / 32) (step_entry s d % 32)
+  unfolding step_entry
   step-moves =
       let small = state-lt st.to st.bit in
       let v : ℕ = number (bits st.out) * 2 ^ (3 * length (waiting st.to)) in
       let value : v ≡ (32 * v + to) / 32 = omega arith in
       let state : to ≡ (32 * v + to) % 32 = omega arith in
-      subst₂ (Moves s (twoOf d ∷ [])) value state step-to
+      subst₂ (Moves s (two_of d ∷ [])) value state step-to
 
 -- ---- two pairs, four pairs
 
@@ -146,14 +146,14 @@ joined-moves a b {s} {shift} {ds} {es} e m n =
     let state : b % 32 ≡ (v * 32 + b % 32) % 32 = omega arith in
     subst₂ (Moves s (ds ++ es)) (same ∙ value) state (moves-on m n)
 
-pub nibble-moves : (s x : ℕ) → s < 20 → x < 16 → Moves s (nibblePairs x) (nibbleEntry s x / 32) (nibbleEntry s x % 32)
-unfolding nibbleEntry
+pub nibble-moves : (s x : ℕ) → s < 20 → x < 16 → Moves s (nibble_pairs x) (nibble_entry s x / 32) (nibble_entry s x % 32)
+unfolding nibble_entry
 nibble-moves s x hs hx =
     let one = step-moves s (x / 4) hs (omega arith) in
-    joined-moves (stepEntry s (x / 4)) (stepEntry (stepEntry s (x / 4) % 32) (x % 4)) refl one (step-moves (stepEntry s (x / 4) % 32) (x % 4) one.below (omega arith))
+    joined-moves (step_entry s (x / 4)) (step_entry (step_entry s (x / 4) % 32) (x % 4)) refl one (step-moves (step_entry s (x / 4) % 32) (x % 4) one.below (omega arith))
 
-pub byte-moves : (s x : ℕ) → s < 20 → x < 256 → Moves s (bytePairs x) (byteEntry s x / 32) (byteEntry s x % 32)
-unfolding byteEntry
+pub byte-moves : (s x : ℕ) → s < 20 → x < 256 → Moves s (byte_pairs x) (byte_entry s x / 32) (byte_entry s x % 32)
+unfolding byte_entry
 byte-moves s x hs hx =
     let one = nibble-moves s (x / 16) hs (omega arith) in
-    joined-moves (nibbleEntry s (x / 16)) (nibbleEntry (nibbleEntry s (x / 16) % 32) (x % 16)) refl one (nibble-moves (nibbleEntry s (x / 16) % 32) (x % 16) one.below (omega arith))
+    joined-moves (nibble_entry s (x / 16)) (nibble_entry (nibble_entry s (x / 16) % 32) (x % 16)) refl one (nibble-moves (nibble_entry s (x / 16) % 32) (x % 16) one.below (omega arith))

@@ -1,7 +1,7 @@
 // What the rows give for the pairs that wait and one more, and at the end of a frame.
 ghost use Rattle.std.specs.Prelude.{◌≡◌, ◌*◌, ◌/◌, ◌%◌, ◌^◌, ◌<◌, ◌≤◌};
-ghost use Rattle.conversion.specs.steps.Rows.{packedRows};
-ghost use Rattle.modulator.specs.steps.Table.{waits, WaitingNumber, stepEntry, stopEntry};
+ghost use Rattle.conversion.specs.steps.Rows.{packed_rows};
+ghost use Rattle.modulator.specs.steps.Table.{waits, WaitingNumber, step_entry, stop_entry};
 
 use conversion::PackedRows;
 
@@ -64,7 +64,7 @@ fn waiting(s: usize) -> u32
 // The state behind pair d in state s.
 fn next_state(s: usize, d: usize) -> u32
     requires { (s < 20) × (d < 4) }
-    ensures { (result ≡ stepEntry s d % 32) × (result < 20) }
+    ensures { (result ≡ step_entry s d % 32) × (result < 20) }
 {
     let states = NEXT[s];
     states[d]
@@ -80,8 +80,8 @@ fn cleared(v: u32, k: usize) -> u32
 
 // One pair more: the groups that the rows give for all, but for those of the pairs that wait then.
 pub fn step_entry(rows: &PackedRows, s: usize, d: usize) -> u32
-    requires { (rows.now ≡ packedRows) × ((s < 20) × (d < 4)) }
-    ensures { result ≡ stepEntry s d }
+    requires { (rows.now ≡ packed_rows) × ((s < 20) × (d < 4)) }
+    ensures { result ≡ step_entry s d }
 {
     let pairs = 4 * waiting(s) + d as u32;
     let all = few_pairs::steps::modulate(rows, waits(s) + 1, pairs, s % 2 == 1);
@@ -92,8 +92,8 @@ pub fn step_entry(rows: &PackedRows, s: usize, d: usize) -> u32
 
 // The end of a frame in state s.
 pub fn stop_entry(rows: &PackedRows, s: usize) -> u32
-    requires { (rows.now ≡ packedRows) × (s < 20) }
-    ensures { result ≡ stopEntry s }
+    requires { (rows.now ≡ packed_rows) × (s < 20) }
+    ensures { result ≡ stop_entry s }
 {
     let all = few_pairs::steps::modulate(rows, waits(s), waiting(s), s % 2 == 1);
     if all.terminated {

@@ -1,7 +1,7 @@
 // The table, step by step: a pair, two, four, and the end of a frame.
 ghost use Rattle.std.specs.Prelude.{◌≡◌, ◌+◌, ◌*◌, ◌/◌, ◌%◌, ◌<◌, length};
-ghost use Rattle.conversion.specs.steps.Rows.{packedRows};
-ghost use Rattle.modulator.specs.steps.Table.{stepTable, stopTable, nibbleTable, lentTable, joined, stepEntry, stopEntry, nibbleEntry, byteEntry, lastEntry, entry_at};
+ghost use Rattle.conversion.specs.steps.Rows.{packed_rows};
+ghost use Rattle.modulator.specs.steps.Table.{step_table, stop_table, nibble_table, lent_table, joined, step_entry, stop_entry, nibble_entry, byte_entry, last_entry, entry_at};
 
 use conversion::PackedRows;
 use modulator::Table;
@@ -14,8 +14,8 @@ fn no_steps() -> [u32; 80]
 
 // Entry 4 s + d.
 fn make_steps(rows: &PackedRows) -> [u32; 80]
-    requires { rows.now ≡ packedRows }
-    ensures { result ≡ stepTable }
+    requires { rows.now ≡ packed_rows }
+    ensures { result ≡ step_table }
 {
     let mut steps = no_steps();
     let mut k = 0;
@@ -34,8 +34,8 @@ fn no_stops() -> [u32; 20]
 
 // Entry s.
 fn make_stops(rows: &PackedRows) -> [u32; 20]
-    requires { rows.now ≡ packedRows }
-    ensures { result ≡ stopTable }
+    requires { rows.now ≡ packed_rows }
+    ensures { result ≡ stop_table }
 {
     let mut stops = no_stops();
     let mut k = 0;
@@ -62,15 +62,15 @@ fn joined(a: u32, b: u32, shift: u32) -> u32
 }
 
 fn step_in(steps: &[u32; 80], s: usize, d: usize) -> u32
-    requires { (steps.now ≡ stepTable) × ((s < 20) × (d < 4)) }
-    ensures { (result ≡ stepEntry s d) × ((result % 32 < 20) × (result < 8388608)) }
+    requires { (steps.now ≡ step_table) × ((s < 20) × (d < 4)) }
+    ensures { (result ≡ step_entry s d) × ((result % 32 < 20) × (result < 8388608)) }
 {
     steps[4 * s + d]
 }
 
 fn nibble_entry(steps: &[u32; 80], s: usize, x: usize) -> u32
-    requires { (steps.now ≡ stepTable) × ((s < 20) × (x < 16)) }
-    ensures { result ≡ nibbleEntry s x }
+    requires { (steps.now ≡ step_table) × ((s < 20) × (x < 16)) }
+    ensures { result ≡ nibble_entry s x }
 {
     let a = step_in(steps, s, x / 4);
     let b = step_in(steps, state(a), x % 4);
@@ -85,8 +85,8 @@ fn no_nibbles() -> [u32; 320]
 
 // Two pairs more: entry 20 x + s.
 fn make_nibbles(rows: &PackedRows) -> [u32; 320]
-    requires { rows.now ≡ packedRows }
-    ensures { result ≡ nibbleTable }
+    requires { rows.now ≡ packed_rows }
+    ensures { result ≡ nibble_table }
 {
     let steps = make_steps(rows);
     let mut nibbles = no_nibbles();
@@ -99,15 +99,15 @@ fn make_nibbles(rows: &PackedRows) -> [u32; 320]
 }
 
 fn nibble_in(nibbles: &[u32; 320], s: usize, x: usize) -> u32
-    requires { (nibbles.now ≡ nibbleTable) × ((s < 20) × (x < 16)) }
-    ensures { (result ≡ nibbleEntry s x) × ((result % 32 < 20) × (result < 67108864)) }
+    requires { (nibbles.now ≡ nibble_table) × ((s < 20) × (x < 16)) }
+    ensures { (result ≡ nibble_entry s x) × ((result % 32 < 20) × (result < 67108864)) }
 {
     nibbles[20 * x + s]
 }
 
 fn byte_entry(nibbles: &[u32; 320], s: usize, x: usize) -> u32
-    requires { (nibbles.now ≡ nibbleTable) × ((s < 20) × (x < 256)) }
-    ensures { result ≡ byteEntry s x }
+    requires { (nibbles.now ≡ nibble_table) × ((s < 20) × (x < 256)) }
+    ensures { result ≡ byte_entry s x }
 {
     let a = nibble_in(nibbles, s, x / 16);
     let b = nibble_in(nibbles, state(a), x % 16);
@@ -115,22 +115,22 @@ fn byte_entry(nibbles: &[u32; 320], s: usize, x: usize) -> u32
 }
 
 fn stop_in(stops: &[u32; 20], s: usize) -> u32
-    requires { (stops.now ≡ stopTable) × (s < 20) }
-    ensures { (result ≡ stopEntry s) × (result < 16384) }
+    requires { (stops.now ≡ stop_table) × (s < 20) }
+    ensures { (result ≡ stop_entry s) × (result < 16384) }
 {
     stops[s]
 }
 
 fn last_entry(nibbles: &[u32; 320], stops: &[u32; 20], s: usize, x: usize) -> u32
-    requires { ((nibbles.now ≡ nibbleTable) × (stops.now ≡ stopTable)) × ((s < 20) × (x < 16)) }
-    ensures { result ≡ lastEntry s x }
+    requires { ((nibbles.now ≡ nibble_table) × (stops.now ≡ stop_table)) × ((s < 20) × (x < 16)) }
+    ensures { result ≡ last_entry s x }
 {
     let a = nibble_in(nibbles, s, x);
     a / 32 * 2 + stop_in(stops, state(a))
 }
 
 fn entry(nibbles: &[u32; 320], stops: &[u32; 20], s: usize, x: usize) -> u32
-    requires { ((nibbles.now ≡ nibbleTable) × (stops.now ≡ stopTable)) × ((s < 20) × (x < 272)) }
+    requires { ((nibbles.now ≡ nibble_table) × (stops.now ≡ stop_table)) × ((s < 20) × (x < 272)) }
     ensures { result ≡ entry_at s x }
 {
     if x < 256 {
@@ -149,7 +149,7 @@ pub fn no_table() -> Table
 // The table, filled where it is held.
 pub fn fill_table(table: &mut Table)
     requires { length table.old ≡ 5440 }
-    ensures { table.new ≡ lentTable }
+    ensures { table.new ≡ lent_table }
 {
     let rows = conversion_rows::steps::packed_rows();
     let nibbles = make_nibbles(&rows);

@@ -11,13 +11,13 @@ use lib.Dec.{eqb}
 use lib.ListN.{length, get_or, set, take, drop}
 use lib.Seq.{ext_get_or, sets, sets-eq, length-sets, length-take-le}
 use Rattle.io.specs.Counts.{IsPrefixLen}
-use Rattle.names.specs.Names.{isDash, partEnding, partAdded, partLength}
+use Rattle.names.specs.Names.{is_dash, part_ending, part_added, part_length}
 
 module _ (name : List ℕ) where
-  pub another-length : (length name ≡ 1 → ⊥) → false ≡ isDash name
+  pub another-length : (length name ≡ 1 → ⊥) → false ≡ is_dash name
   another-length h = rw (ne_eqb (length name) 1 h)
 
-  pub one_byte : length name ≡ 1 → eqb (get_or name 0 0) 45 ≡ isDash name
+  pub one_byte : length name ≡ 1 → eqb (get_or name 0 0) 45 ≡ is_dash name
   one_byte h = rw (eq-eqb (length name) 1 h)
 
 -- two names of one length that agree below k
@@ -49,7 +49,7 @@ module _ (a b : List ℕ) where
 abbrev pub stored : List ℕ → ℕ → List ℕ
 stored before n = set (set (set (set (set before n 46) (n + 1) 112) (n + 2) 97) (n + 3) 114) (n + 4) 116
 
-stored_is : (before : List ℕ) (n : ℕ) → stored before n ≡ sets before n partEnding
+stored_is : (before : List ℕ) (n : ℕ) → stored before n ≡ sets before n part_ending
 stored_is before n =
     let e1 : n + 1 ≡ suc n = omega arith in
     let e2 : n + 2 ≡ suc (suc n) = omega arith in
@@ -58,15 +58,15 @@ stored_is before n =
     rw (e1, e2, e3, e4)
 
 module _ (before : List ℕ) (n : ℕ) where
-  pub no_room : length before < n + 5 → IsPrefixLen 0 before × ((before ≡ partAdded before n) × (0 ≡ partLength before n))
-  unfolding partAdded partLength
+  pub no_room : length before < n + 5 → IsPrefixLen 0 before × ((before ≡ part_added before n) × (0 ≡ part_length before n))
+  unfolding part_added part_length
   no_room h = let none = lt-leb (n + 5) (length before) h in ((omega arith, refl), (rw none, rw none))
 
-  pub added : n + 5 ≤ length before → IsPrefixLen (n + 5) (stored before n) × ((stored before n ≡ partAdded before n) × (n + 5 ≡ partLength before n))
-  unfolding partAdded partLength
+  pub added : n + 5 ≤ length before → IsPrefixLen (n + 5) (stored before n) × ((stored before n ≡ part_added before n) × (n + 5 ≡ part_length before n))
+  unfolding part_added part_length
   added h =
-      let is : stored before n ≡ take n before ++ partEnding ++ drop (n + 5) before = stored_is before n ∙ sets-eq partEnding before n h in
-      let size : length (stored before n) ≡ length before = ap length (stored_is before n) ∙ length-sets before n partEnding in
+      let is : stored before n ≡ take n before ++ part_ending ++ drop (n + 5) before = stored_is before n ∙ sets-eq part_ending before n h in
+      let size : length (stored before n) ≡ length before = ap length (stored_is before n) ∙ length-sets before n part_ending in
       let fits : n + 5 ≤ length (stored before n) = omega arith in
       let room = le-leb (n + 5) (length before) h in
       ((fits, sym (length-take-le (n + 5) (stored before n) fits)), (rw room is, rw room))

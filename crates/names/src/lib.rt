@@ -1,11 +1,13 @@
 // File names: `-`, names that are the same, and the name under which a result is written before it is whole.
+#![tactic(auto)]
+
 ghost use Rattle.std.specs.Prelude.{◌≡◌, true, ◌↔◌};
 ghost use Rattle.io.specs.Counts.{IsPrefixLen};
-ghost use Rattle.names.specs.Names.{isDash, partAdded, partLength};
+ghost use Rattle.names.specs.Names.{is_dash, part_added, part_length};
 
 // `-`
 pub fn is_dash(path: &[u8]) -> bool
-    ensures { result ≡ isDash path.now }
+    ensures { result ≡ is_dash path.now }
 {
     if path.len() != 1 {
         return false;
@@ -33,7 +35,7 @@ pub fn same_name(a: &[u8], b: &[u8]) -> bool
 // `.part` behind the first n bytes of name; how many there are then, 0 where there is no room.
 pub fn add_part(name: &mut [u8], n: usize) -> usize
     ensures prefix_len { IsPrefixLen result name.new }
-    ensures name_after { (name.new ≡ partAdded name.old n) × (result ≡ partLength name.old n) }
+    ensures name_after { (name.new ≡ part_added name.old n) × (result ≡ part_length name.old n) }
 {
     if name.len() < 5 {
         return 0;

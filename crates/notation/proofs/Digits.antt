@@ -10,64 +10,64 @@ use lib.ListN.{length, get_or}
 use Rattle.laws.proofs.First.{Passed, first-at, first-none}
 use Rattle.laws.proofs.Finite.{all, bounded-below}
 use Rattle.notation.specs.declared.PsnText.TheVariants.{Number, NoNumber}
-use Rattle.notation.specs.Psn.{digitOf, valueTo, noDigit, psnOf}
+use Rattle.notation.specs.Psn.{digit_of, value_to, no_digit, psn_of}
 
 -- ---- a byte
 
 module _ (b : ℕ) where
-  pub digit-09 : 48 ≤ b → b ≤ 57 → b - 48 ≡ digitOf b
-  unfolding digitOf
+  pub digit-09 : 48 ≤ b → b ≤ 57 → b - 48 ≡ digit_of b
+  unfolding digit_of
   digit-09 l h = rw (le-leb 48 b l, le-leb b 57 h)
 
-  pub digit-AF : 65 ≤ b → b ≤ 70 → b - 55 ≡ digitOf b
-  unfolding digitOf
+  pub digit-AF : 65 ≤ b → b ≤ 70 → b - 55 ≡ digit_of b
+  unfolding digit_of
   digit-AF l h = rw (le-leb 48 b (omega arith), lt-leb b 57 (omega arith), le-leb 65 b l, le-leb b 70 h)
 
-  pub digit-af : 97 ≤ b → b ≤ 102 → b - 87 ≡ digitOf b
-  unfolding digitOf
+  pub digit-af : 97 ≤ b → b ≤ 102 → b - 87 ≡ digit_of b
+  unfolding digit_of
   digit-af l h = rw (le-leb 48 b (omega arith), lt-leb b 57 (omega arith), le-leb 65 b (omega arith), lt-leb b 70 (omega arith), le-leb 97 b l, le-leb b 102 h)
 
-  pub below-0 : b < 48 → 16 ≡ digitOf b
-  unfolding digitOf
+  pub below-0 : b < 48 → 16 ≡ digit_of b
+  unfolding digit_of
   below-0 h = rw (lt-leb 48 b h)
 
-  pub below-A : 57 < b → b < 65 → 16 ≡ digitOf b
-  unfolding digitOf
+  pub below-A : 57 < b → b < 65 → 16 ≡ digit_of b
+  unfolding digit_of
   below-A l h = rw (le-leb 48 b (omega arith), lt-leb b 57 l, lt-leb 65 b h)
 
-  pub below-a : 70 < b → b < 97 → 16 ≡ digitOf b
-  unfolding digitOf
+  pub below-a : 70 < b → b < 97 → 16 ≡ digit_of b
+  unfolding digit_of
   below-a l h = rw (le-leb 48 b (omega arith), lt-leb b 57 (omega arith), le-leb 65 b (omega arith), lt-leb b 70 l, lt-leb 97 b h)
 
-  pub above-f : 102 < b → 16 ≡ digitOf b
-  unfolding digitOf
+  pub above-f : 102 < b → 16 ≡ digit_of b
+  unfolding digit_of
   above-f l = rw (le-leb 48 b (omega arith), lt-leb b 57 (omega arith), le-leb 65 b (omega arith), lt-leb b 70 (omega arith), le-leb 97 b (omega arith), lt-leb b 102 l)
 
 -- ---- a text; d is what was read at k
 
-module _ (text : List ℕ) (k d : ℕ) (hd : d ≡ digitOf (get_or text k 0)) where
-  pub no_digit : 16 ≤ d → noDigit text k ≡ true
-  unfolding noDigit
-  no_digit h = le-leb 16 (digitOf (get_or text k 0)) (omega arith)
+module _ (text : List ℕ) (k d : ℕ) (hd : d ≡ digit_of (get_or text k 0)) where
+  pub no-digit : 16 ≤ d → no_digit text k ≡ true
+  unfolding no_digit
+  no-digit h = le-leb 16 (digit_of (get_or text k 0)) (omega arith)
 
-  pub a-digit : d < 16 → noDigit text k ≡ false
-  unfolding noDigit
-  a-digit h = lt-leb 16 (digitOf (get_or text k 0)) (omega arith)
+  pub a-digit : d < 16 → no_digit text k ≡ false
+  unfolding no_digit
+  a-digit h = lt-leb 16 (digit_of (get_or text k 0)) (omega arith)
 
-  pub value-more : (value : ℕ) → value ≡ valueTo text k → value * 16 + d ≡ valueTo text (k + 1)
-  unfolding valueTo
+  pub value-more : (value : ℕ) → value ≡ value_to text k → value * 16 + d ≡ value_to text (k + 1)
+  unfolding value_to
   value-more value e = rw (add-one k, hd, e)
 
-value-bound : (text : List ℕ) (k : ℕ) → Passed (noDigit text) k → valueTo text k < 16 ^ k
-unfolding valueTo noDigit
+value-bound : (text : List ℕ) (k : ℕ) → Passed (no_digit text) k → value_to text k < 16 ^ k
+unfolding value_to no_digit
 value-bound text zero passed = omega arith
 value-bound text (suc k) passed =
     let rest = value-bound text k (record { fails = λ j h. passed.fails j (omega arith) }) in
-    let digit : digitOf (get_or text k 0) < 16 = leb-false 16 (digitOf (get_or text k 0)) (passed.fails k (omega arith)) in
+    let digit : digit_of (get_or text k 0) < 16 = leb-false 16 (digit_of (get_or text k 0)) (passed.fails k (omega arith)) in
     omega arith
 
 -- seven digits leave room for one more
-pub value-small : (text : List ℕ) (k value : ℕ) → Passed (noDigit text) k → value ≡ valueTo text k → k < 8 → value < 268435456
+pub value-small : (text : List ℕ) (k value : ℕ) → Passed (no_digit text) k → value ≡ value_to text k → k < 8 → value < 268435456
 unfolding all
 value-small text k value passed e h =
     let power : 16 ^ k < 268435457 = bounded-below 8 268435457 (λ j. 16 ^ j) tt k h in
@@ -77,17 +77,17 @@ value-small text k value passed e h =
 -- ---- the whole text
 
 module _ (text : List ℕ) where
-  pub another-length : (length text ≡ 8 → ⊥) → NoNumber ≡ psnOf text
-  unfolding psnOf
+  pub another-length : (length text ≡ 8 → ⊥) → NoNumber ≡ psn_of text
+  unfolding psn_of
   another-length h = rw (ne_eqb (length text) 8 h)
 
-  pub another-byte : (k : ℕ) → length text ≡ 8 → k < 8 → Passed (noDigit text) k → noDigit text k ≡ true → NoNumber ≡ psnOf text
-  unfolding psnOf
-  another-byte k s h passed e = rw (eq-eqb (length text) 8 s, first-at 8 (noDigit text) k h passed e, lt-ltb k 8 h)
+  pub another-byte : (k : ℕ) → length text ≡ 8 → k < 8 → Passed (no_digit text) k → no_digit text k ≡ true → NoNumber ≡ psn_of text
+  unfolding psn_of
+  another-byte k s h passed e = rw (eq-eqb (length text) 8 s, first-at 8 (no_digit text) k h passed e, lt-ltb k 8 h)
 
-  pub eight-digits : (value k : ℕ) → length text ≡ 8 → k ≡ 8 → Passed (noDigit text) k → value ≡ valueTo text k → Number (record { 0 = value }) ≡ psnOf text
-  unfolding psnOf
+  pub eight-digits : (value k : ℕ) → length text ≡ 8 → k ≡ 8 → Passed (no_digit text) k → value ≡ value_to text k → Number (record { 0 = value }) ≡ psn_of text
+  unfolding psn_of
   eight-digits value k s all passed e =
-      let eight : Passed (noDigit text) 8 = rw all at passed in
-      let whole : value ≡ valueTo text 8 = rw all at e in
-      rw (eq-eqb (length text) 8 s, first-none 8 (noDigit text) eight, whole)
+      let eight : Passed (no_digit text) 8 = rw all at passed in
+      let whole : value ≡ value_to text 8 = rw all at e in
+      rw (eq-eqb (length text) 8 s, first-none 8 (no_digit text) eight, whole)

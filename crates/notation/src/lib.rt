@@ -1,23 +1,25 @@
 // How the programs' arguments and files write a PSN, the first # and the dc words.
+#![tactic(auto)]
+
 ghost use Rattle.std.specs.Prelude.{◌≡◌, ◌≤◌};
-ghost use Rattle.sizes.specs.Sizes.{frameCount};
-ghost use Rattle.notation.specs.Psn.{digitOf, psnOf};
+ghost use Rattle.sizes.specs.Sizes.{frame_count};
+ghost use Rattle.notation.specs.Psn.{digit_of, psn_of};
 ghost use Rattle.notation.specs.FirstHash.{first_of};
-ghost use Rattle.notation.specs.Words.{wordCount, wordsRead, bytesRead};
+ghost use Rattle.notation.specs.Words.{word_count, words_read, bytes_read};
 
 use address::Psn;
 use big_endian::steps::word_at;
 use big_endian::word_bytes;
 
 // A PSN, or a text that is not eight hexadecimal digits. Document 01 has no number for it.
-#[derive(Drop)]
+#[derive(Clone, Copy)]
 pub enum PsnText {
     Number(Psn),
     NoNumber,
 }
 
 // The first #, or a text that is neither 0 nor 1.
-#[derive(Drop)]
+#[derive(Clone, Copy)]
 pub enum FirstText {
     Hash(bool),
     NoHash,
@@ -25,7 +27,7 @@ pub enum FirstText {
 
 // The value of a hexadecimal digit, 16 for any other byte.
 pub fn digit(byte: u8) -> u32
-    ensures { result ≡ digitOf byte }
+    ensures { result ≡ digit_of byte }
 {
     match byte {
         b'0'..=b'9' => (byte - 48) as u32,
@@ -37,7 +39,7 @@ pub fn digit(byte: u8) -> u32
 
 // Eight hexadecimal digits, the highest first.
 pub fn psn_of(text: &[u8]) -> PsnText
-    ensures { result ≡ psnOf text.now }
+    ensures { result ≡ psn_of text.now }
 {
     if text.len() != 8 {
         return PsnText::NoNumber;
@@ -73,7 +75,7 @@ pub fn first_of(text: &[u8]) -> FirstText
 
 // How many dc words so many bytes hold: 496 are 1,984 bytes, and no other number holds any.
 pub fn word_count(bytes: usize) -> usize
-    ensures { (result ≤ frameCount) × (result ≡ wordCount bytes) }
+    ensures { (result ≤ frame_count) × (result ≡ word_count bytes) }
 {
     if bytes != sizes::DC {
         return 0;
@@ -83,7 +85,7 @@ pub fn word_count(bytes: usize) -> usize
 
 // The 496 dc words of 1,984 bytes, high byte first. Slices of other lengths stay as they were.
 pub fn words_of(bytes: &[u8], words: &mut [u32])
-    ensures { words.new ≡ wordsRead bytes.now words.old }
+    ensures { words.new ≡ words_read bytes.now words.old }
 {
     if bytes.len() != sizes::DC {
         return;
@@ -100,7 +102,7 @@ pub fn words_of(bytes: &[u8], words: &mut [u32])
 
 // The 1,984 bytes of 496 dc words. Slices of other lengths stay as they were.
 pub fn bytes_of(words: &[u32], bytes: &mut [u8])
-    ensures { bytes.new ≡ bytesRead words.now bytes.old }
+    ensures { bytes.new ≡ bytes_read words.now bytes.old }
 {
     if words.len() != sizes::FRAMES {
         return;

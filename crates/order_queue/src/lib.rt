@@ -1,7 +1,9 @@
 // A queue that shares one marking machine among four benches (document 02, W-214).
+#![tactic(auto)]
+
 ghost use Rattle.std.specs.Prelude.{◌≡◌, ◌<◌, get_or};
-ghost use Rattle.order_queue.specs.Records.{requestOf};
-ghost use Rattle.order_queue.specs.Queue.{no_order, emptyQueue, beginsAt, nextBench, quiet, benchAnswer, waitingAnswer, submitAnswer, withOrder, submitted, orderTaken, served, handled};
+ghost use Rattle.order_queue.specs.Records.{request_of};
+ghost use Rattle.order_queue.specs.Queue.{no_order, empty_queue, begins_at, next_bench, quiet, bench_answer, waiting_answer, submit_answer, with_order, submitted, order_taken, served, handled};
 
 use address::Psn;
 use answer::Answer;
@@ -14,7 +16,7 @@ pub const BENCHES: usize = 4;
 const NONE_WAITING: u8 = 255;
 
 // The order of a bench. The PSN counts where it is waiting.
-#[derive(Drop)]
+#[derive(Clone, Copy)]
 pub struct Order {
     pub waiting: bool,
     pub psn: Psn,
@@ -26,14 +28,14 @@ const NO_ORDER: Order = Order {
 };
 
 // The orders of benches 0 to 3, and the bench at which the next serve begins; a turn above 3 stands for 0.
-#[derive(Drop)]
+#[derive(Clone, Copy)]
 pub struct Queue {
     pub orders: [Order; BENCHES],
     pub turn: u8,
 }
 
 // What a record asks for.
-#[derive(Drop)]
+#[derive(Clone, Copy)]
 pub enum Request {
     Submit(u8, Psn),
     Serve,
@@ -42,7 +44,7 @@ pub enum Request {
 }
 
 // The queue behind a record, what is answered, and for a serve the bench and the PSN of its order.
-#[derive(Drop)]
+#[derive(Clone, Copy)]
 pub struct Handled {
     pub queue: Queue,
     pub answer: Answer,
@@ -53,7 +55,7 @@ pub struct Handled {
 impl Queue {
     // No bench is waiting, and the turn is bench 0's.
     pub fn empty() -> Queue
-        ensures { result ≡ emptyQueue }
+        ensures { result ≡ empty_queue }
     {
         Queue {
             orders: [NO_ORDER; BENCHES],
@@ -76,7 +78,7 @@ fn kind_of(bytes: &[u8]) -> u8
 
 // What a record asks for.
 fn request_of(bytes: &[u8]) -> Request
-    ensures { result ≡ requestOf bytes.now }
+    ensures { result ≡ request_of bytes.now }
 {
     let kind = kind_of(bytes);
     if kind == 1 {
@@ -118,7 +120,7 @@ fn quiet(queue: Queue, answer: Answer) -> Handled
 }
 
 fn judge_bench(bench: u8) -> Answer
-    ensures { result ≡ benchAnswer bench }
+    ensures { result ≡ bench_answer bench }
 {
     if bench < 4 {
         return Answer::Done;
@@ -127,7 +129,7 @@ fn judge_bench(bench: u8) -> Answer
 }
 
 fn judge_waiting(queue: Queue, bench: u8) -> Answer
-    ensures { result ≡ waitingAnswer queue bench }
+    ensures { result ≡ waiting_answer queue bench }
 {
     let orders = queue.orders;
     let order = order_of(orders, bench as usize);
@@ -139,7 +141,7 @@ fn judge_waiting(queue: Queue, bench: u8) -> Answer
 
 // 27, then 28, then 6 and 7.
 fn judge_submit(queue: Queue, bench: u8, psn: Psn) -> Answer
-    ensures { result ≡ submitAnswer queue bench psn.0 }
+    ensures { result ≡ submit_answer queue bench psn.0 }
 {
     let number = judge_bench(bench);
     let waiting = judge_waiting(queue, bench);
@@ -149,7 +151,7 @@ fn judge_submit(queue: Queue, bench: u8, psn: Psn) -> Answer
 
 // The queue with an order of a bench.
 fn with_order(queue: Queue, bench: u8, psn: Psn) -> Queue
-    ensures { bench < 4 → result ≡ withOrder queue bench psn }
+    ensures { bench < 4 → result ≡ with_order queue bench psn }
 {
     let mut orders = queue.orders;
     let at = bench as usize;
@@ -178,7 +180,7 @@ fn submit(queue: Queue, bench: u8, psn: Psn) -> Handled
 
 // The bench at which a serve begins.
 fn begins_at(turn: u8) -> usize
-    ensures { (result < 4) × (result ≡ beginsAt turn) }
+    ensures { (result < 4) × (result ≡ begins_at turn) }
 {
     if turn < 4 {
         return turn as usize;
@@ -188,7 +190,7 @@ fn begins_at(turn: u8) -> usize
 
 // The bench whose order is next, going round from there; 4 where none is waiting.
 fn next_bench(queue: Queue) -> usize
-    ensures { result ≡ nextBench queue }
+    ensures { result ≡ next_bench queue }
 {
     let orders = queue.orders;
     let turn = queue.turn;
@@ -208,7 +210,7 @@ fn next_bench(queue: Queue) -> usize
 // The order of a bench is reported and gone.
 fn take(queue: Queue, bench: usize) -> Handled
     requires { bench < 4 }
-    ensures { result ≡ orderTaken queue bench }
+    ensures { result ≡ order_taken queue bench }
 {
     let mut orders = queue.orders;
     let order = order_of(orders, bench);

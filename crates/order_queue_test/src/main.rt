@@ -1,5 +1,7 @@
 // States, most of which no run from an empty queue reaches: every set of waiting benches under turns that name a bench and under others. Prints turn and set, then
 // for each of four records answer, place, bench and PSN, the turn behind it, and whether each bench waits, with its PSN; an independent program printed it.
+#![tactic(auto)]
+
 use address::Psn;
 use order_queue::{Handled, Order, Queue};
 use test_support::lines;

@@ -1,5 +1,7 @@
 // 13.9.2.2: the parity of primary address fields, byte by byte. `steps`, for the crates of this repository, has the generator of 32 roots (13.7,
 // 13.12) too, and a byte into the register, of which the table of remainders is made.
+#![tactic(auto)]
+
 pub mod steps;
 
 ghost use Rattle.std.specs.Prelude.{◌≡◌, ◌<◌, length, drop};

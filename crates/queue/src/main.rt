@@ -1,9 +1,11 @@
 // queue: four benches and one marking machine. Standard input has a record a line, hexadecimal digits, two a byte; each gets a line, at once.
+#![tactic(auto)]
+
 use libc::STDIN_FILENO;
 use queue_lines::RecordsRead;
 
 // What was read so far, what the last read gave (0 at the end of the input, below 0 where it cannot be read), and whether all answers were printed.
-#[derive(Drop)]
+#[derive(Clone, Copy)]
 struct ReadPart {
     read: RecordsRead,
     got: isize,

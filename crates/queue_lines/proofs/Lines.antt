@@ -9,7 +9,7 @@ use lib.Dec.{eqb}
 use lib.ListN.{length, take, set, length-set, length-append}
 use lib.Seq.{take-suc-set}
 use Rattle.queue_lines.specs.declared.RecordLine.{RecordLine}
-use Rattle.queue_lines.specs.Lines.{begunBy, lines_of}
+use Rattle.queue_lines.specs.Lines.{begun_by, lines_of}
 use Rattle.queue_lines.specs.steps.Reading.{HoldsRecordLine, unbroken}
 
 -- ---- where a line ends
@@ -33,20 +33,20 @@ module _ (b : ℕ) (l : List ℕ) where
       by true t e = absurd (false≢true e)
       by false t e = (λ z. false≢true (sym t ∙ eq-eqb b 10 z), e)
 
-  pub lines-byte : (b ≡ 10 → ⊥) → lines_of (b ∷ l) ≡ begunBy b (lines_of l)
+  pub lines-byte : (b ≡ 10 → ⊥) → lines_of (b ∷ l) ≡ begun_by b (lines_of l)
   unfolding lines_of
-  lines-byte h = ap (λ (t : Bool). cond t ([] ∷ lines_of l) (begunBy b (lines_of l))) (ne_eqb b 10 h)
+  lines-byte h = ap (λ (t : Bool). cond t ([] ∷ lines_of l) (begun_by b (lines_of l))) (ne_eqb b 10 h)
 
   pub lines-feed : b ≡ 10 → lines_of (b ∷ l) ≡ [] ∷ lines_of l
   unfolding lines_of
-  lines-feed e = ap (λ (t : Bool). cond t ([] ∷ lines_of l) (begunBy b (lines_of l))) (eq-eqb b 10 e)
+  lines-feed e = ap (λ (t : Bool). cond t ([] ∷ lines_of l) (begun_by b (lines_of l))) (eq-eqb b 10 e)
 
 -- a line feed ends it
 pub line-ended : (l rest : List ℕ) (b : ℕ) → b ≡ 10 → unbroken l ≡ true → lines_of (l ++ (b ∷ rest)) ≡ l ∷ lines_of rest
 line-ended [] rest b feed e = lines-feed b rest feed
 line-ended (c ∷ l) rest b feed e =
     let here = split-byte c l e in
-    lines-byte c (l ++ (b ∷ rest)) here.0 ∙ ap (begunBy c) (line-ended l rest b feed here.1)
+    lines-byte c (l ++ (b ∷ rest)) here.0 ∙ ap (begun_by c) (line-ended l rest b feed here.1)
 
 -- and so does the end of the text, unless the line is empty
 pub line-last : (l : List ℕ) → unbroken l ≡ true → (length l ≡ 0 → ⊥) → lines_of l ≡ l ∷ []
@@ -55,7 +55,7 @@ line-last [] e some = absurd (some refl)
 line-last (b ∷ []) e some = lines-byte b [] (split-byte b [] e).0
 line-last (b ∷ (c ∷ l)) e some =
     let here = split-byte b (c ∷ l) e in
-    lines-byte b (c ∷ l) here.0 ∙ ap (begunBy b) (line-last (c ∷ l) here.1 (λ z. omega (arith, z)))
+    lines-byte b (c ∷ l) here.0 ∙ ap (begun_by b) (line-last (c ∷ l) here.1 (λ z. omega (arith, z)))
 
 -- ---- a line that is being read
 

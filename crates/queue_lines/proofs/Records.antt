@@ -11,49 +11,49 @@ use lib.ListN.{length, get_or, take, drop, set, length-set, drop_of_length-le}
 use lib.Seq.{drop-cons, get_or-take, length-take-le, take-suc-set}
 use Rattle.laws.proofs.Booleans.{and_left, and_right, and-false}
 use Rattle.answer.specs.declared.Answer.TheVariants.{WrongRecord}
-use Rattle.notation.specs.Psn.{digitOf}
+use Rattle.notation.specs.Psn.{digit_of}
 use Rattle.order_queue.specs.declared.Queue.{Queue}
 use Rattle.order_queue.specs.declared.Handled.{Handled}
-use Rattle.order_queue.specs.Queue.{quiet, answeredTo, handled}
+use Rattle.order_queue.specs.Queue.{quiet, answered_to, handled}
 use Rattle.order_queue.proofs.Records.{other-size}
 use Rattle.queue_lines.specs.declared.RecordLine.{RecordLine}
 use Rattle.queue_lines.specs.declared.steps.LineRecord.{LineRecord}
-use Rattle.queue_lines.specs.Lines.{isDigit, isRecordText, pairBytes, recordOn}
-use Rattle.queue_lines.specs.steps.Reading.{pair_of, shownRecord, HoldsRecordLine, HoldsRecord}
+use Rattle.queue_lines.specs.Lines.{is_digit, is_record_text, pair_bytes, record_on}
+use Rattle.queue_lines.specs.steps.Reading.{pair_of, shown_record, HoldsRecordLine, HoldsRecord}
 
 -- ---- two digits; h and l are what was read of them
 
-module _ (high low h l : ℕ) (hh : h ≡ digitOf high) (hl : l ≡ digitOf low) where
-  both : {t u : Bool} → isDigit high ≡ t → isDigit low ≡ u → cond (t && u) (digitOf high * 16 + digitOf low) 256 ≡ pair_of high low
-  both e f = sym (ap₂ (λ (t u : Bool). cond (t && u) (digitOf high * 16 + digitOf low) 256) e f)
+module _ (high low h l : ℕ) (hh : h ≡ digit_of high) (hl : l ≡ digit_of low) where
+  both : {t u : Bool} → is_digit high ≡ t → is_digit low ≡ u → cond (t && u) (digit_of high * 16 + digit_of low) 256 ≡ pair_of high low
+  both e f = sym (ap₂ (λ (t u : Bool). cond (t && u) (digit_of high * 16 + digit_of low) 256) e f)
 
   pub pair-digits : h < 16 → l < 16 → h * 16 + l ≡ pair_of high low
   pair-digits p q =
       ap₂ (λ (m n : ℕ). m * 16 + n) hh hl
-      ∙ both (lt-ltb (digitOf high) 16 (omega (arith, p, hh))) (lt-ltb (digitOf low) 16 (omega (arith, q, hl)))
+      ∙ both (lt-ltb (digit_of high) 16 (omega (arith, p, hh))) (lt-ltb (digit_of low) 16 (omega (arith, q, hl)))
 
   pub pair-not-high : 16 ≤ h → 256 ≡ pair_of high low
-  pair-not-high p = both {u = isDigit low} (le-ltb (digitOf high) 16 (omega (arith, p, hh))) refl
+  pair-not-high p = both {u = is_digit low} (le-ltb (digit_of high) 16 (omega (arith, p, hh))) refl
 
   pub pair-not-low : h < 16 → 16 ≤ l → 256 ≡ pair_of high low
-  pair-not-low p q = both (lt-ltb (digitOf high) 16 (omega (arith, p, hh))) (le-ltb (digitOf low) 16 (omega (arith, q, hl)))
+  pair-not-low p q = both (lt-ltb (digit_of high) 16 (omega (arith, p, hh))) (le-ltb (digit_of low) 16 (omega (arith, q, hl)))
 
 -- ---- a text of them
 
 module _ (line : List ℕ) where
-  text-record : isRecordText line ≡ true → recordOn line ≡ pairBytes line
-  unfolding recordOn
-  text-record e = ap (λ (t : Bool). cond t (pairBytes line) []) e
+  text-record : is_record_text line ≡ true → record_on line ≡ pair_bytes line
+  unfolding record_on
+  text-record e = ap (λ (t : Bool). cond t (pair_bytes line) []) e
 
-  other-record : isRecordText line ≡ false → recordOn line ≡ []
-  unfolding recordOn
-  other-record e = ap (λ (t : Bool). cond t (pairBytes line) []) e
+  other-record : is_record_text line ≡ false → record_on line ≡ []
+  unfolding record_on
+  other-record e = ap (λ (t : Bool). cond t (pair_bytes line) []) e
 
-odd-text : (line : List ℕ) → length line % 2 ≡ 1 → isRecordText line ≡ false
-unfolding isRecordText
+odd-text : (line : List ℕ) → length line % 2 ≡ 1 → is_record_text line ≡ false
+unfolding is_record_text
 odd-text [] e = absurd (omega (arith, e))
 odd-text (high ∷ []) e = refl
-odd-text (high ∷ (low ∷ line)) e = and-false (isDigit high) (isDigit low && isRecordText line) (and-false (isDigit low) (isRecordText line) (odd-text line (omega (arith, e))))
+odd-text (high ∷ (low ∷ line)) e = and-false (is_digit high) (is_digit low && is_record_text line) (and-false (is_digit low) (is_record_text line) (odd-text line (omega (arith, e))))
 
 not-all : (a b c : Bool) → (a && b) ≡ false → (a && (b && c)) ≡ false
 not-all true true c e = absurd (false≢true (sym e))
@@ -63,23 +63,23 @@ not-all false b c e = refl
 -- ---- what is held of a line
 
 module _ (text : List ℕ) (size : ℕ) where
-  shown-short : size ≤ 12 → shownRecord text size ≡ recordOn (take size text)
-  unfolding shownRecord
-  shown-short h = ap (λ (t : Bool). cond t (recordOn (take size text)) []) (le-leb size 12 h)
+  shown-short : size ≤ 12 → shown_record text size ≡ record_on (take size text)
+  unfolding shown_record
+  shown-short h = ap (λ (t : Bool). cond t (record_on (take size text)) []) (le-leb size 12 h)
 
-  shown-long : 12 < size → shownRecord text size ≡ []
-  unfolding shownRecord
-  shown-long h = ap (λ (t : Bool). cond t (recordOn (take size text)) []) (lt-leb size 12 h)
+  shown-long : 12 < size → shown_record text size ≡ []
+  unfolding shown_record
+  shown-long h = ap (λ (t : Bool). cond t (record_on (take size text)) []) (lt-leb size 12 h)
 
   -- none is a record without bytes
   module _ {none : LineRecord} (empty : HoldsRecord [] none) where
-    pub held-long : 12 < size → HoldsRecord (shownRecord text size) none
+    pub held-long : 12 < size → HoldsRecord (shown_record text size) none
     held-long h = subst (λ (l : List ℕ). HoldsRecord l none) (sym (shown-long h)) empty
 
-    held-other : size ≤ 12 → isRecordText (take size text) ≡ false → HoldsRecord (shownRecord text size) none
+    held-other : size ≤ 12 → is_record_text (take size text) ≡ false → HoldsRecord (shown_record text size) none
     held-other h e = subst (λ (l : List ℕ). HoldsRecord l none) (sym (shown-short h ∙ other-record (take size text) e)) empty
 
-    pub held-odd : length text ≡ 12 → size ≤ 12 → (size % 2 ≡ 0 → ⊥) → HoldsRecord (shownRecord text size) none
+    pub held-odd : length text ≡ 12 → size ≤ 12 → (size % 2 ≡ 0 → ⊥) → HoldsRecord (shown_record text size) none
     held-odd room h odd = held-other h (odd-text (take size text) (omega (arith, length-take-le size text (omega (arith, room, h)), odd)))
 
 -- in a loop: k bytes are read, and the rest of the line decides
@@ -89,8 +89,8 @@ pub record PairsRead (text : List ℕ) (size k : ℕ) (bytes : List ℕ) : Type 
   pub even : size % 2 ≡ 0
   pub room : length bytes ≡ 6
   pub within : 2 * k ≤ size
-  pub right : isRecordText (drop (2 * k) (take size text)) ≡ isRecordText (take size text)
-  pub read : take k bytes ++ pairBytes (drop (2 * k) (take size text)) ≡ pairBytes (take size text)
+  pub right : is_record_text (drop (2 * k) (take size text)) ≡ is_record_text (take size text)
+  pub read : take k bytes ++ pair_bytes (drop (2 * k) (take size text)) ≡ pair_bytes (take size text)
 
 pub pairs-none : {text bytes : List ℕ} {size : ℕ} → length text ≡ 12 → size ≤ 12 → size % 2 ≡ 0 → length bytes ≡ 6 → PairsRead text size 0 bytes
 pairs-none held short even room = record { held = held; short = short; even = even; room = room; within = omega arith; right = refl; read = refl }
@@ -124,20 +124,20 @@ module _ {text : List ℕ} {size k : ℕ} {bytes : List ℕ} (p : PairsRead text
         ∙ ap (λ (l : List ℕ). high ∷ l)
         (ap (λ (n : ℕ). drop n line) one ∙ drop-cons line (2 * k + 1) 0 (omega (arith, line-size)) ∙ ap (λ (n : ℕ). low ∷ drop n line) two)
 
-    both-digits : byte < 256 → (isDigit high && isDigit low) ≡ true
-    both-digits small = by (isDigit high && isDigit low) is-pair
+    both-digits : byte < 256 → (is_digit high && is_digit low) ≡ true
+    both-digits small = by (is_digit high && is_digit low) is-pair
       where
-        by : (t : Bool) → byte ≡ cond t (digitOf high * 16 + digitOf low) 256 → t ≡ true
+        by : (t : Bool) → byte ≡ cond t (digit_of high * 16 + digit_of low) 256 → t ≡ true
         by true e = refl
         by false e = absurd (omega (arith, small, e))
 
     pub pairs-more : byte < 256 → PairsRead text size (k + 1) (set bytes k byte)
-    unfolding isRecordText pairBytes
+    unfolding is_record_text pair_bytes
     pairs-more small =
         let both = both-digits small in
-        let is : byte ≡ digitOf high * 16 + digitOf low = is-pair ∙ ap (λ (t : Bool). cond t (digitOf high * 16 + digitOf low) 256) both in
-        let here : isRecordText (high ∷ (low ∷ rest)) ≡ isRecordText rest =
-        ap₂ (λ (t u : Bool). t && (u && isRecordText rest)) (and_left (isDigit high) (isDigit low) both) (and_right (isDigit high) (isDigit low) both) in
+        let is : byte ≡ digit_of high * 16 + digit_of low = is-pair ∙ ap (λ (t : Bool). cond t (digit_of high * 16 + digit_of low) 256) both in
+        let here : is_record_text (high ∷ (low ∷ rest)) ≡ is_record_text rest =
+        ap₂ (λ (t u : Bool). t && (u && is_record_text rest)) (and_left (is_digit high) (is_digit low) both) (and_right (is_digit high) (is_digit low) both) in
         let front : take (k + 1) (set bytes k byte) ≡ take k bytes ++ (byte ∷ []) =
         ap (λ (n : ℕ). take n (set bytes k byte)) (add-one k) ∙ take-suc-set bytes k byte (omega (arith, more, p.short, p.room)) in
         record {
@@ -146,43 +146,43 @@ module _ {text : List ℕ} {size k : ℕ} {bytes : List ℕ} (p : PairsRead text
           even = p.even;
           room = length-set bytes k byte ∙ p.room;
           within = omega (arith, more);
-          right = sym here ∙ sym (ap isRecordText next) ∙ p.right;
+          right = sym here ∙ sym (ap is_record_text next) ∙ p.right;
           read =
-              ap (λ (l : List ℕ). l ++ pairBytes rest) front
-              ∙ append_assoc (take k bytes) (byte ∷ []) (pairBytes rest)
-              ∙ ap (λ (n : ℕ). take k bytes ++ (n ∷ pairBytes rest)) is
-              ∙ sym (ap (λ (l : List ℕ). take k bytes ++ pairBytes l) next)
+              ap (λ (l : List ℕ). l ++ pair_bytes rest) front
+              ∙ append_assoc (take k bytes) (byte ∷ []) (pair_bytes rest)
+              ∙ ap (λ (n : ℕ). take k bytes ++ (n ∷ pair_bytes rest)) is
+              ∙ sym (ap (λ (l : List ℕ). take k bytes ++ pair_bytes l) next)
               ∙ p.read;
         }
 
-    not-both : 256 ≤ byte → (isDigit high && isDigit low) ≡ false
-    not-both large = by (isDigit high && isDigit low) refl is-pair
+    not-both : 256 ≤ byte → (is_digit high && is_digit low) ≡ false
+    not-both large = by (is_digit high && is_digit low) refl is-pair
       where
-        by : (t : Bool) → (isDigit high && isDigit low) ≡ t → byte ≡ cond t (digitOf high * 16 + digitOf low) 256 → t ≡ false
+        by : (t : Bool) → (is_digit high && is_digit low) ≡ t → byte ≡ cond t (digit_of high * 16 + digit_of low) 256 → t ≡ false
         by true both e =
-            let a = ltb-true (digitOf high) 16 (and_left (isDigit high) (isDigit low) both) in
-            let b = ltb-true (digitOf low) 16 (and_right (isDigit high) (isDigit low) both) in
+            let a = ltb-true (digit_of high) 16 (and_left (is_digit high) (is_digit low) both) in
+            let b = ltb-true (digit_of low) 16 (and_right (is_digit high) (is_digit low) both) in
             absurd (omega (arith, large, e, a, b))
         by false both e = refl
 
     -- a byte that is no digit
-    pub pairs-other : {none : LineRecord} → 256 ≤ byte → HoldsRecord [] none → HoldsRecord (shownRecord text size) none
-    unfolding isRecordText
+    pub pairs-other : {none : LineRecord} → 256 ≤ byte → HoldsRecord [] none → HoldsRecord (shown_record text size) none
+    unfolding is_record_text
     pairs-other large empty =
         held-other text size empty p.short
-        (sym p.right ∙ ap isRecordText next ∙ not-all (isDigit high) (isDigit low) (isRecordText rest) (not-both large))
+        (sym p.right ∙ ap is_record_text next ∙ not-all (is_digit high) (is_digit low) (is_record_text rest) (not-both large))
 
-  pub pairs-all : size / 2 ≤ k → HoldsRecord (shownRecord text size) (record { bytes = bytes; count = k })
-  unfolding isRecordText pairBytes
+  pub pairs-all : size / 2 ≤ k → HoldsRecord (shown_record text size) (record { bytes = bytes; count = k })
+  unfolding is_record_text pair_bytes
   pairs-all h =
       let none : drop (2 * k) line ≡ [] = drop_of_length-le line {i = 2 * k} (omega (arith, line-size, h, p.even)) in
-      let right : isRecordText line ≡ true = sym p.right ∙ ap isRecordText none in
+      let right : is_record_text line ≡ true = sym p.right ∙ ap is_record_text none in
       record {
         room = p.room;
         within = omega (arith, p.within, p.short);
         first-ones =
             sym (append-nil (take k bytes))
-            ∙ sym (ap (λ (l : List ℕ). take k bytes ++ pairBytes l) none)
+            ∙ sym (ap (λ (l : List ℕ). take k bytes ++ pair_bytes l) none)
             ∙ p.read
             ∙ sym (shown-short text size p.short ∙ text-record line right);
       }
@@ -191,39 +191,39 @@ module _ {text : List ℕ} {size k : ℕ} {bytes : List ℕ} (p : PairsRead text
 
 size-26 : (queue : Queue) (bytes : List ℕ) → (length bytes ≡ 1 → ⊥) → (length bytes ≡ 6 → ⊥) → handled queue bytes ≡ quiet queue WrongRecord
 unfolding handled
-size-26 queue bytes h i = ap (answeredTo queue) (sym (other-size bytes h i))
+size-26 queue bytes h i = ap (answered_to queue) (sym (other-size bytes h i))
 
 no_bytes : (queue : Queue) → handled queue [] ≡ quiet queue WrongRecord
 no_bytes queue = size-26 queue [] (λ e. omega (arith, e)) (λ e. omega (arith, e))
 
-pair-count : (line : List ℕ) → isRecordText line ≡ true → 2 * length (pairBytes line) ≡ length line
-unfolding isRecordText pairBytes
+pair-count : (line : List ℕ) → is_record_text line ≡ true → 2 * length (pair_bytes line) ≡ length line
+unfolding is_record_text pair_bytes
 pair-count [] e = refl
 pair-count (high ∷ []) e = absurd (false≢true e)
 pair-count (high ∷ (low ∷ line)) e =
-    omega (arith, pair-count line (and_right (isDigit low) (isRecordText line) (and_right (isDigit high) (isDigit low && isRecordText line) e)))
+    omega (arith, pair-count line (and_right (is_digit low) (is_record_text line) (and_right (is_digit high) (is_digit low && is_record_text line) e)))
 
 module _ (queue : Queue) (line : List ℕ) where
   -- OTHER TEXT THAN AN EVEN NUMBER OF DIGITS GETS 26
-  pub other-26 : isRecordText line ≡ false → handled queue (recordOn line) ≡ quiet queue WrongRecord
+  pub other-26 : is_record_text line ≡ false → handled queue (record_on line) ≡ quiet queue WrongRecord
   other-26 e = ap (handled queue) (other-record line e) ∙ no_bytes queue
 
   -- AND SO DO DIGITS THAT ARE NOT 2 OR 12
-  pub text-26 : isRecordText line ≡ true → (length line ≡ 2 → ⊥) → (length line ≡ 12 → ⊥) → handled queue (recordOn line) ≡ quiet queue WrongRecord
+  pub text-26 : is_record_text line ≡ true → (length line ≡ 2 → ⊥) → (length line ≡ 12 → ⊥) → handled queue (record_on line) ≡ quiet queue WrongRecord
   text-26 e h i =
       let count = pair-count line e in
-      ap (handled queue) (text-record line e) ∙ size-26 queue (pairBytes line) (λ z. h (omega (arith, z, count))) (λ z. i (omega (arith, z, count)))
+      ap (handled queue) (text-record line e) ∙ size-26 queue (pair_bytes line) (λ z. h (omega (arith, z, count))) (λ z. i (omega (arith, z, count)))
 
-  long-26 : 12 < length line → handled queue (recordOn line) ≡ quiet queue WrongRecord
-  long-26 h = by (isRecordText line) refl
+  long-26 : 12 < length line → handled queue (record_on line) ≡ quiet queue WrongRecord
+  long-26 h = by (is_record_text line) refl
     where
-      by : (t : Bool) → isRecordText line ≡ t → handled queue (recordOn line) ≡ quiet queue WrongRecord
+      by : (t : Bool) → is_record_text line ≡ t → handled queue (record_on line) ≡ quiet queue WrongRecord
       by true e = text-26 e (λ z. omega (arith, h, z)) (λ z. omega (arith, h, z))
       by false e = other-26 e
 
 -- what is held of a line, found, is handled as the line is
 pub line-handled : (queue : Queue) {begun : List ℕ} {line : RecordLine} {found : LineRecord} {h : Handled} → h ≡ handled queue (take found.count found.bytes)
-    → HoldsRecord (shownRecord line.text line.size) found → HoldsRecordLine begun line → h ≡ handled queue (recordOn begun)
+    → HoldsRecord (shown_record line.text line.size) found → HoldsRecordLine begun line → h ≡ handled queue (record_on begun)
 line-handled queue {begun} {line} hh record_is holds =
     hh
     ∙ ap (handled queue) record_is.first-ones
@@ -232,5 +232,5 @@ line-handled queue {begun} {line} hh record_is holds =
       | no short ↦
           let all : line.size ≡ length begun = omega (arith, short, holds.size) in
           ap (handled queue)
-          (shown-short line.text line.size (omega (arith, short, all)) ∙ ap recordOn (ap (λ (n : ℕ). take n line.text) all ∙ holds.bytes (omega (arith, short))))
+          (shown-short line.text line.size (omega (arith, short, all)) ∙ ap record_on (ap (λ (n : ℕ). take n line.text) all ∙ holds.bytes (omega (arith, short))))
     ]

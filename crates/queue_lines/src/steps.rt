@@ -1,8 +1,8 @@
 // The steps: a line, its record, a text.
 ghost use Rattle.std.specs.Prelude.{◌≡◌, List, [], ◌∷◌, ◌++◌, ℕ};
 ghost use Rattle.order_queue.specs.Queue.{handled};
-ghost use Rattle.queue_lines.specs.Lines.{recordOn, textSaid};
-ghost use Rattle.queue_lines.specs.steps.Reading.{pair_of, shownRecord, shownBytes, HoldsRecordLine, HoldsRecord, HasRead};
+ghost use Rattle.queue_lines.specs.Lines.{record_on, text_said};
+ghost use Rattle.queue_lines.specs.steps.Reading.{pair_of, shown_record, shown_bytes, HoldsRecordLine, HoldsRecord, HasRead};
 
 use crate::{RecordLine, RecordsRead, RecordsStep};
 use notation::digit;
@@ -39,7 +39,7 @@ fn add_byte(line: RecordLine, byte: u8) -> RecordLine
 // ---- its record
 
 // The first `count` bytes.
-#[derive(Drop)]
+#[derive(Clone, Copy)]
 struct LineRecord {
     bytes: [u8; 6],
     count: usize,
@@ -71,7 +71,7 @@ fn pair(high: u8, low: u8) -> u32
 
 // The record on a line of this size.
 fn record_on(text: [u8; 12], size: usize) -> LineRecord
-    ensures { HoldsRecord (shownRecord text size) result }
+    ensures { HoldsRecord (shown_record text size) result }
 {
     if 12 < size {
         return no_record();
@@ -93,7 +93,7 @@ fn record_on(text: [u8; 12], size: usize) -> LineRecord
 }
 
 fn handle_line(queue: Queue, line: RecordLine) -> Handled
-    ensures { (begun : List ℕ) → HoldsRecordLine begun line → result ≡ handled queue (recordOn begun) }
+    ensures { (begun : List ℕ) → HoldsRecordLine begun line → result ≡ handled queue (record_on begun) }
 {
     let text = line.text;
     let found = record_on(text, line.size);
@@ -116,7 +116,7 @@ pub fn start() -> RecordsRead
 
 // A byte more. Nothing is printed while a line goes on.
 pub fn step(read: RecordsRead, byte: u8) -> RecordsStep
-    ensures { (bytes printed : List ℕ) → HasRead bytes printed read → HasRead (bytes ++ (byte ∷ [])) (printed ++ shownBytes result.text) result.read }
+    ensures { (bytes printed : List ℕ) → HasRead bytes printed read → HasRead (bytes ++ (byte ∷ [])) (printed ++ shown_bytes result.text) result.read }
 {
     let line = read.line;
     let queue = read.queue;
@@ -142,7 +142,7 @@ pub fn step(read: RecordsRead, byte: u8) -> RecordsStep
 
 // The text ends: what is printed for a last line without a line feed.
 pub fn finish(read: RecordsRead) -> Text
-    ensures { (bytes printed : List ℕ) → HasRead bytes printed read → textSaid bytes ≡ printed ++ shownBytes result }
+    ensures { (bytes printed : List ℕ) → HasRead bytes printed read → text_said bytes ≡ printed ++ shown_bytes result }
 {
     let line = read.line;
     let queue = read.queue;

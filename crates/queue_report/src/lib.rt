@@ -1,7 +1,9 @@
 // What is printed for a record of the queue that was handled, as bytes.
+#![tactic(auto)]
+
 ghost use Rattle.std.specs.Prelude.{◌≡◌};
 ghost use Rattle.texts.specs.Text.{added, text_of};
-ghost use Rattle.queue_report.specs.Said.{handledWords, handledText};
+ghost use Rattle.queue_report.specs.Said.{handled_words, handled_text};
 
 use answer::Answer;
 use answer_report::put_meaning;
@@ -10,7 +12,7 @@ use texts::{Text, blank, put, put_decimal, put_hexadecimal, put_piece};
 
 // The end of the line: a refusal's words stand before it.
 fn put_words(text: Text, answer: Answer) -> Text
-    ensures { result ≡ added text (handledWords answer) }
+    ensures { result ≡ added text (handled_words answer) }
 {
     if answer.is_done() {
         return put(text, b"\n");
@@ -20,7 +22,7 @@ fn put_words(text: Text, answer: Answer) -> Text
 
 // Number, place, bench and PSN, and for a refusal what they mean: a line.
 pub fn handled_text(handled: Handled) -> Text
-    ensures { result ≡ text_of (handledText handled) }
+    ensures { result ≡ text_of (handled_text handled) }
 {
     let answer = handled.answer;
     let numbered = put_decimal(blank(), answer.number() as u64);

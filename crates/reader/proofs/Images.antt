@@ -17,31 +17,31 @@ use Rattle.answer.specs.declared.Answer.TheVariants.{Done, LastBits}
 use Rattle.answer.proofs.Tests.{done-not, then-both, then-done}
 use Rattle.modulation.specs.Bits.{bits}
 use Rattle.modulation.specs.Stream.{stream}
-use Rattle.cluster.specs.Multiplex.{bisIn}
-use Rattle.cluster.specs.EccCluster.{eccCluster}
+use Rattle.cluster.specs.Multiplex.{bis_in}
+use Rattle.cluster.specs.EccCluster.{ecc_cluster}
 use Rattle.cluster.specs.Reading.{Reads}
 use Rattle.cluster.proofs.Statements as Cluster
-use Rattle.recording.specs.Recording.{recordingOf}
-use Rattle.recording.specs.Reading.{firstHash, clusterIn, dcIn}
+use Rattle.recording.specs.Recording.{recording_of}
+use Rattle.recording.specs.Reading.{first_hash, cluster_in, dc_in}
 use Rattle.recording.proofs.Accepting.{Passes, stream-there}
 use Rattle.recording.proofs.Back as Back
-use Rattle.image.specs.Image.{Input, IsAccepted, cluster, imageBits, image}
+use Rattle.image.specs.Image.{Input, IsAccepted, cluster, image_bits, image}
 use Rattle.image.proofs.Demand3.{image-bits, image-size}
-use Rattle.judging.specs.Tests.{lastBitsAnswer, syncsAnswer, framesAnswer, bisColumnsAnswer, addressFieldsAnswer, psnAnswer, ldcColumnsAnswer}
+use Rattle.judging.specs.Tests.{last_bits_answer, syncs_answer, frames_answer, bis_columns_answer, address_fields_answer, psn_answer, ldc_columns_answer}
 use Rattle.judging.proofs.Passing.{syncs-passed, frames-passed, recording-passes, ClusterPasses, reads-passes}
-use Rattle.reader.specs.Outcome.{imageAnswer}
+use Rattle.reader.specs.Outcome.{image_answer}
 
 -- ---- every test is passed
 
 pub record ImagePasses (b : List ℕ) : Type 0 where
-  pub last : lastBitsAnswer b ≡ Done
-  pub syncs : syncsAnswer b ≡ Done
-  pub frames : framesAnswer b ≡ Done
-  pub cluster : ClusterPasses (clusterIn b)
+  pub last : last_bits_answer b ≡ Done
+  pub syncs : syncs_answer b ≡ Done
+  pub frames : frames_answer b ≡ Done
+  pub cluster : ClusterPasses (cluster_in b)
 
 module _ (b : List ℕ) where
-  pub passes-done : ImagePasses b → imageAnswer b ≡ Done
-  unfolding imageAnswer
+  pub passes-done : ImagePasses b → image_answer b ≡ Done
+  unfolding image_answer
   passes-done passes =
       let cluster = passes.cluster in
       then-both _ _ passes.last
@@ -52,17 +52,17 @@ module _ (b : List ℕ) where
       (then-both _ _ cluster.psn
       (then-both _ _ cluster.words cluster.sectors))))))
 
-  pub done-passes : imageAnswer b ≡ Done → ImagePasses b
-  unfolding imageAnswer
+  pub done-passes : image_answer b ≡ Done → ImagePasses b
+  unfolding image_answer
   done-passes e =
-      let work = clusterIn b in
-      let nine = then-done (lastBitsAnswer b) _ e in
-      let ten = then-done (syncsAnswer b) _ nine.1 in
-      let eleven = then-done (framesAnswer b) _ ten.1 in
-      let twelve = then-done (bisColumnsAnswer (bisIn work)) _ eleven.1 in
-      let thirteen = then-done (addressFieldsAnswer (bisIn work)) _ twelve.1 in
-      let fourteen = then-done (psnAnswer (bisIn work)).answer _ thirteen.1 in
-      let fifteen = then-done (ldcColumnsAnswer work) _ fourteen.1 in
+      let work = cluster_in b in
+      let nine = then-done (last_bits_answer b) _ e in
+      let ten = then-done (syncs_answer b) _ nine.1 in
+      let eleven = then-done (frames_answer b) _ ten.1 in
+      let twelve = then-done (bis_columns_answer (bis_in work)) _ eleven.1 in
+      let thirteen = then-done (address_fields_answer (bis_in work)) _ twelve.1 in
+      let fourteen = then-done (psn_answer (bis_in work)).answer _ thirteen.1 in
+      let fifteen = then-done (ldc_columns_answer work) _ fourteen.1 in
       record {
         last = nine.0;
         syncs = ten.0;
@@ -88,42 +88,42 @@ module _ (input : Input) (is : IsAccepted input) where
         small = λ n h. omega (arith, is.dc.small n h);
       }
 
-  bits_are : b ≡ bits (stream (recordingOf input.first (cluster input) input.dc) 496) ++ end
-  unfolding imageBits
+  bits_are : b ≡ bits (stream (recording_of input.first (cluster input) input.dc) 496) ++ end
+  unfolding image_bits
   bits_are = image-bits input
 
-  last_bit : (k : ℕ) → get_or b (958302 + k) 0 ≡ get_or end k 0
-  last_bit k =
+  last-bit : (k : ℕ) → get_or b (958302 + k) 0 ≡ get_or end k 0
+  last-bit k =
       ap (λ (l : List ℕ). get_or l (958302 + k) 0) (image-bits input)
-      ∙ ap (λ (n : ℕ). get_or (imageBits input ++ end) (n + k) 0) (sym (image-size input))
-      ∙ get_or-append-add (imageBits input) end k 0
+      ∙ ap (λ (n : ℕ). get_or (image_bits input ++ end) (n + k) 0) (sym (image-size input))
+      ∙ get_or-append-add (image_bits input) end k 0
 
-  last-passed : lastBitsAnswer b ≡ Done
-  unfolding lastBitsAnswer
-  last-passed = ap₂ (λ (x y : ℕ). cond (eqb x 0 && eqb y 0) Done LastBits) (last_bit 0) (last_bit 1)
+  last-passed : last_bits_answer b ≡ Done
+  unfolding last_bits_answer
+  last-passed = ap₂ (λ (x y : ℕ). cond (eqb x 0 && eqb y 0) Done LastBits) (last-bit 0) (last-bit 1)
 
-  pub cluster-back : clusterIn b ≡ cluster input
+  pub cluster-back : cluster_in b ≡ cluster input
   cluster-back = Back.cluster-there input.first (cluster input) input.dc b end recordable bits_are
 
-  pub dc-back : dcIn b ≡ input.dc
+  pub dc-back : dc_in b ≡ input.dc
   dc-back = Back.dc-there input.first (cluster input) input.dc b end recordable bits_are
 
-  pub first_back : firstHash b ≡ input.first
+  pub first_back : first_hash b ≡ input.first
   first_back = Back.first-there input.first (cluster input) input.dc b end recordable bits_are
 
-  pub reads : Reads (clusterIn b) input.user input.psn input.side
+  pub reads : Reads (cluster_in b) input.user input.psn input.side
   reads =
       subst (λ (w : List ℕ). Reads w input.user input.psn input.side) (sym cluster-back)
-      (Cluster.read_back input.user input.psn input.side is.user is.psn is.side)
+      (Cluster.read-back input.user input.psn input.side is.user is.psn is.side)
 
-  pub image-done : imageAnswer b ≡ Done
+  pub image-done : image_answer b ≡ Done
   image-done =
       passes-done b
       (record {
         last = last-passed;
         syncs = syncs-passed b (Back.right-syncs input.first (cluster input) input.dc b end recordable bits_are);
         frames = frames-passed b (Back.all-frames input.first (cluster input) input.dc b end recordable bits_are);
-        cluster = reads-passes (clusterIn b) input.user input.side input.psn reads;
+        cluster = reads-passes (cluster_in b) input.user input.side input.psn reads;
       })
 
 -- ---- an image that passes
@@ -133,7 +133,7 @@ module _ (b : List ℕ) (size : length b ≡ 958304) (passes : ImagePasses b) wh
   recording-there = recording-passes b passes.syncs passes.frames
 
   end-there : drop 958302 b ≡ 0 ∷ 0 ∷ []
-  unfolding lastBitsAnswer
+  unfolding last_bits_answer
   end-there =
       let both = zeros (eqb (get_or b 958302 0) 0 && eqb (get_or b 958303 0) 0) passes.last in
       let first = eqb-true (get_or b 958302 0) 0 (and_left (eqb (get_or b 958302 0) 0) _ both) in
@@ -145,15 +145,15 @@ module _ (b : List ℕ) (size : length b ≡ 958304) (passes : ImagePasses b) wh
       zeros true e = refl
       zeros false e = absurd (done-not LastBits refl e)
 
-  bits-there : b ≡ bits (stream (recordingOf (firstHash b) (clusterIn b) (dcIn b)) 496) ++ (0 ∷ 0 ∷ [])
+  bits-there : b ≡ bits (stream (recording_of (first_hash b) (cluster_in b) (dc_in b)) 496) ++ (0 ∷ 0 ∷ [])
   bits-there = sym (take-append-drop 958302 b) ∙ ap₂ ◌++◌ (stream-there b recording-there) end-there
 
 -- in bytes
-pub image-there : (l user side : List ℕ) (psn : ℕ) → Bytes l → length l ≡ 119788 → ImagePasses (bits_of l) → clusterIn (bits_of l) ≡ eccCluster user psn side
-    → l ≡ image (record { user = user; psn = psn; side = side; dc = dcIn (bits_of l); first = firstHash (bits_of l) })
-unfolding image imageBits
+pub image-there : (l user side : List ℕ) (psn : ℕ) → Bytes l → length l ≡ 119788 → ImagePasses (bits_of l) → cluster_in (bits_of l) ≡ ecc_cluster user psn side
+    → l ≡ image (record { user = user; psn = psn; side = side; dc = dc_in (bits_of l); first = first_hash (bits_of l) })
+unfolding image image_bits
 image-there l user side psn bytes size passes e =
     sym (packed-bits l bytes)
     ∙ ap packed
     (bits-there (bits_of l) (B.length-bits l ∙ ap (λ (n : ℕ). 8 * n) size) passes
-    ∙ ap (λ (w : List ℕ). bits (stream (recordingOf (firstHash (bits_of l)) w (dcIn (bits_of l))) 496) ++ (0 ∷ 0 ∷ [])) e)
+    ∙ ap (λ (w : List ℕ). bits (stream (recording_of (first_hash (bits_of l)) w (dc_in (bits_of l))) 496) ++ (0 ∷ 0 ∷ [])) e)

@@ -13,34 +13,34 @@ use Rattle.bits.specs.Bits.{bits_of}
 use Rattle.bits.proofs.Bits as B
 use Rattle.answer.specs.declared.Answer.{Answer}
 use Rattle.answer.specs.declared.Answer.TheVariants.{Done, LastBits, Sync, Frame, BisColumn, AddressUnit, NoPsn, LdcColumn, Sector}
-use Rattle.answer.specs.Answer.{number_of, isDone, andThen, lowest}
+use Rattle.answer.specs.Answer.{number_of, is_done, and_then, lowest}
 use Rattle.answer.proofs.Tests.{number-zero, done-is, done-not}
 use Rattle.lengths.proofs.RightLengths.{lengths-right, lengths-done, lengths-number}
-use Rattle.scrambling.specs.Scrambling.{scramblingOf}
+use Rattle.scrambling.specs.Scrambling.{scrambling_of}
 use Rattle.bis.specs.declared.PsnFound.{PsnFound}
 use Rattle.bis.specs.declared.PsnFound.TheVariants.{Found, NotFound}
 use Rattle.bis.specs.Reading as Bis
-use Rattle.cluster.specs.Multiplex.{bisIn}
-use Rattle.cluster.specs.Reading.{firstWrongWord, firstWrongSector, userIn}
+use Rattle.cluster.specs.Multiplex.{bis_in}
+use Rattle.cluster.specs.Reading.{first_wrong_word, first_wrong_sector, user_in}
 use Rattle.cluster.proofs.Statements as Cluster
-use Rattle.recording.specs.Reading.{firstWrongSync, firstNoFrame, firstHash, clusterIn, dcIn}
+use Rattle.recording.specs.Reading.{first_wrong_sync, first_no_frame, first_hash, cluster_in, dc_in}
 use Rattle.recording.proofs.Accepting.{Passes, length-work, bytes-work, length-dc, dc-small}
-use Rattle.image.specs.Image.{Input, IsAccepted, cluster, imageBits, image}
-use Rattle.image.proofs.Demand3.{image-bits, image-size, startingWith}
+use Rattle.image.specs.Image.{Input, IsAccepted, cluster, image_bits, image}
+use Rattle.image.proofs.Demand3.{image-bits, image-size, starting_with}
 use Rattle.image.proofs.Statements.{zeros, zeros-accepted, either_first}
-use Rattle.judging.specs.Tests.{lastBitsAnswer, syncsAnswer, framesAnswer, bisColumnsAnswer, addressFieldsAnswer, foundAnswer, psnAnswer, clusterPsn, ldcColumnsAnswer, sectorsAnswer}
+use Rattle.judging.specs.Tests.{last_bits_answer, syncs_answer, frames_answer, bis_columns_answer, address_fields_answer, found_answer, psn_answer, cluster_psn, ldc_columns_answer, sectors_answer}
 use Rattle.judging.proofs.Passing.{read-psn, passes-reads}
-use Rattle.strict_cluster.specs.Outcome.{accepted, cleared, outcomeBy}
-use Rattle.reader.specs.Outcome.{Lent, Outcome, imageAnswer, withFirst, imageOutcome, sizesAnswer, wrongSizes, outcome}
-use Rattle.reader.specs.Promise.{RightSlices, asInput, ReadsExactly}
+use Rattle.strict_cluster.specs.Outcome.{accepted, cleared, outcome_by}
+use Rattle.reader.specs.Outcome.{Lent, Outcome, image_answer, with_first, image_outcome, sizes_answer, wrong_sizes, outcome}
+use Rattle.reader.specs.Promise.{RightSlices, as_input, ReadsExactly}
 use Rattle.reader.proofs.Images.{ImagePasses, done-passes, cluster-back, dc-back, first_back, reads, image-done, recording-there, image-there}
 
 length-image : (input : Input) → length (image input) ≡ 119788
-length-image input = omega (arith, B.length-bits (image input), ap (length {A = ℕ}) (image-bits input), length-append (imageBits input) (0 ∷ 0 ∷ []), image-size input)
+length-image input = omega (arith, B.length-bits (image input), ap (length {A = ℕ}) (image-bits input), length-append (image_bits input) (0 ∷ 0 ∷ []), image-size input)
 
 -- what is returned, as an input
 abbrev pub returned : Outcome → Input
-returned o = asInput o.psn o.first o.lent
+returned o = as_input o.psn o.first o.lent
 
 -- what reading gives of an input: number and place are 0, exactly the input comes back, work is its ECC cluster
 abbrev pub given : Input → Outcome
@@ -52,20 +52,20 @@ module _ (input : Input) (is : IsAccepted input) where
   abbrev b : List ℕ
   b = bits_of (image input)
 
-  is-input : withFirst (firstHash b) (accepted (clusterIn b) (dcIn b)) ≡ given input
+  is-input : with_first (first_hash b) (accepted (cluster_in b) (dc_in b)) ≡ given input
   is-input =
       let read = reads input is in
-      let psn = read-psn (clusterIn b) input.user input.side input.psn read in
-      let user = ap (λ (p : ℕ). userIn (scramblingOf p) (clusterIn b)) psn ∙ read.has-user in
+      let psn = read-psn (cluster_in b) input.user input.side input.psn read in
+      let user = ap (λ (p : ℕ). user_in (scrambling_of p) (cluster_in b)) psn ∙ read.has-user in
       λ i. record { answer = Done; psn = psn i; first = first_back input is i; lent = record { user = user i; side = read.bis.has-side i; dc = dc-back input is i; work = cluster-back input is i } }
 
-  pub read_back : (before : Lent) → RightSlices before → outcome (image input) before ≡ given input
-  unfolding outcome imageOutcome
-  read_back before right =
-      let sizes : sizesAnswer (image input) before ≡ Done =
+  pub read-back : (before : Lent) → RightSlices before → outcome (image input) before ≡ given input
+  unfolding outcome image_outcome
+  read-back before right =
+      let sizes : sizes_answer (image input) before ≡ Done =
       lengths-right (length before.user) (length before.side) (length before.dc) (length (image input)) (length before.work) right (length-image input) in
-      ap (λ (a : Answer). cond (isDone a) (imageOutcome b before) (wrongSizes a before)) sizes
-      ∙ ap (λ (a : Answer). withFirst (firstHash b) (outcomeBy a (clusterIn b) (dcIn b) before)) (image-done input is)
+      ap (λ (a : Answer). cond (is_done a) (image_outcome b before) (wrong_sizes a before)) sizes
+      ∙ ap (λ (a : Answer). with_first (first_hash b) (outcome_by a (cluster_in b) (dc_in b) before)) (image-done input is)
       ∙ is-input
 
 -- ---- NOTHING ELSE: where the number is 0, what is returned is an accepted input, and the image is its image
@@ -73,30 +73,30 @@ module _ (input : Input) (is : IsAccepted input) where
 module _ (l : List ℕ) (before : Lent) (bytes : Bytes l) where
   -- what is read in the image
   abbrev read-there : Outcome
-  read-there = withFirst (firstHash (bits_of l)) (accepted (clusterIn (bits_of l)) (dcIn (bits_of l)))
+  read-there = with_first (first_hash (bits_of l)) (accepted (cluster_in (bits_of l)) (dc_in (bits_of l)))
 
-  is-done : number_of (outcome l before).answer ≡ 0 → (sizesAnswer l before ≡ Done) × (imageAnswer (bits_of l) ≡ Done)
-  unfolding outcome imageOutcome
-  is-done e = by (sizesAnswer l before) (isDone (sizesAnswer l before)) refl e
+  is-done : number_of (outcome l before).answer ≡ 0 → (sizes_answer l before ≡ Done) × (image_answer (bits_of l) ≡ Done)
+  unfolding outcome image_outcome
+  is-done e = by (sizes_answer l before) (is_done (sizes_answer l before)) refl e
     where
-      by-image : (a : Answer) (t : Bool) → isDone a ≡ t → number_of (cond t (accepted (clusterIn (bits_of l)) (dcIn (bits_of l))) (record { answer = a; psn = 0; lent = cleared before })).answer ≡ 0 → a ≡ Done
+      by-image : (a : Answer) (t : Bool) → is_done a ≡ t → number_of (cond t (accepted (cluster_in (bits_of l)) (dc_in (bits_of l))) (record { answer = a; psn = 0; lent = cleared before })).answer ≡ 0 → a ≡ Done
       by-image a true t e = done-is a t
       by-image a false t e = number-zero a e
 
-      by : (a : Answer) (t : Bool) → isDone a ≡ t → number_of (cond t (imageOutcome (bits_of l) before) (wrongSizes a before)).answer ≡ 0
-          → (a ≡ Done) × (imageAnswer (bits_of l) ≡ Done)
-      by a true t e = (done-is a t, by-image (imageAnswer (bits_of l)) (isDone (imageAnswer (bits_of l))) refl e)
+      by : (a : Answer) (t : Bool) → is_done a ≡ t → number_of (cond t (image_outcome (bits_of l) before) (wrong_sizes a before)).answer ≡ 0
+          → (a ≡ Done) × (image_answer (bits_of l) ≡ Done)
+      by a true t e = (done-is a t, by-image (image_answer (bits_of l)) (is_done (image_answer (bits_of l))) refl e)
       by a false t e = absurd (done-not a t (number-zero a e))
 
   -- the outcome is then what is read in the image
   outcome-is : (e : number_of (outcome l before).answer ≡ 0) → outcome l before ≡ read-there
-  unfolding outcome imageOutcome
+  unfolding outcome image_outcome
   outcome-is e =
       let done = is-done e in
-      ap (λ (a : Answer). cond (isDone a) (imageOutcome (bits_of l) before) (wrongSizes a before)) done.0
-      ∙ ap (λ (a : Answer). withFirst (firstHash (bits_of l)) (outcomeBy a (clusterIn (bits_of l)) (dcIn (bits_of l)) before)) done.1
+      ap (λ (a : Answer). cond (is_done a) (image_outcome (bits_of l) before) (wrong_sizes a before)) done.0
+      ∙ ap (λ (a : Answer). with_first (first_hash (bits_of l)) (outcome_by a (cluster_in (bits_of l)) (dc_in (bits_of l)) before)) done.1
 
-  module _ (size : length l ≡ 119788) (done : imageAnswer (bits_of l) ≡ Done) where
+  module _ (size : length l ≡ 119788) (done : image_answer (bits_of l) ≡ Done) where
     abbrev read : Input
     read = returned read-there
 
@@ -110,10 +110,10 @@ module _ (l : List ℕ) (before : Lent) (bytes : Bytes l) where
     recorded = recording-there (bits_of l) bit-size passes
 
     -- its cluster is the ECC cluster of what is read
-    written : Cluster.Written (clusterIn (bits_of l)) read.user read.psn read.side
+    written : Cluster.Written (cluster_in (bits_of l)) read.user read.psn read.side
     written =
-        Cluster.nothing-else (clusterIn (bits_of l)) read.user read.psn read.side (length-work (bits_of l) recorded) (bytes-work (bits_of l) recorded)
-        (passes-reads (clusterIn (bits_of l)) passes.cluster)
+        Cluster.nothing-else (cluster_in (bits_of l)) read.user read.psn read.side (length-work (bits_of l) recorded) (bytes-work (bits_of l) recorded)
+        (passes-reads (cluster_in (bits_of l)) passes.cluster)
 
     read-accepted : IsAccepted read
     read-accepted =
@@ -127,7 +127,7 @@ module _ (l : List ℕ) (before : Lent) (bytes : Bytes l) where
     is-image : l ≡ image read
     is-image = image-there l read.user read.side read.psn bytes size passes written.whole
 
-  right-size : sizesAnswer l before ≡ Done → length l ≡ 119788
+  right-size : sizes_answer l before ≡ Done → length l ≡ 119788
   right-size e = (lengths-done (length before.user) (length before.side) (length before.dc) (length l) (length before.work) e).1
 
   pub nothing-else : number_of (outcome l before).answer ≡ 0 → IsAccepted (returned (outcome l before)) × (l ≡ image (returned (outcome l before)))
@@ -140,7 +140,7 @@ module _ (l : List ℕ) (before : Lent) (bytes : Bytes l) where
   pub accepted-iff : length l ≡ 119788 → RightSlices before → (number_of (outcome l before).answer ≡ 0) ↔ ((input : Input) × (IsAccepted input × (l ≡ image input)))
   accepted-iff size right = (
     λ e. (returned (outcome l before), nothing-else e),
-    λ some. ap (λ (x : List ℕ). number_of (outcome x before).answer) some.1.1 ∙ ap (λ (o : Outcome). number_of o.answer) (read_back some.0 some.1.0 before right),
+    λ some. ap (λ (x : List ℕ). number_of (outcome x before).answer) some.1.1 ∙ ap (λ (o : Outcome). number_of o.answer) (read-back some.0 some.1.0 before right),
   )
 
   -- work is then the ECC cluster of what is read
@@ -148,7 +148,7 @@ module _ (l : List ℕ) (before : Lent) (bytes : Bytes l) where
   work-there e =
       let made = nothing-else e in
       let sizes = lengths-done (length before.user) (length before.side) (length before.dc) (length l) (length before.work) (is-done e).0 in
-      ap (λ (x : List ℕ). (outcome x before).lent.work) made.1 ∙ ap (λ (o : Outcome). o.lent.work) (read_back (returned (outcome l before)) made.0 before sizes.0)
+      ap (λ (x : List ℕ). (outcome x before).lent.work) made.1 ∙ ap (λ (o : Outcome). o.lent.work) (read-back (returned (outcome l before)) made.0 before sizes.0)
 
   -- as the contract has it: o is the answer, the PSN, the first # and the slices at exit
   pub with-exactly : {o : Outcome} → o ≡ outcome l before → (o ≡ outcome l before) × ReadsExactly l before (number_of o.answer) o.psn o.first o.lent
@@ -157,7 +157,7 @@ module _ (l : List ℕ) (before : Lent) (bytes : Bytes l) where
       back : RightSlices before → (input : Input) → IsAccepted input → l ≡ image input → outcome l before ≡ given input
       back f input is h =
           ap (λ (x : List ℕ). outcome x before) h
-          ∙ read_back input is before f
+          ∙ read-back input is before f
 
       exactly : ReadsExactly l before (number_of (outcome l before).answer) (outcome l before).psn (outcome l before).first (outcome l before).lent
       exactly =
@@ -167,8 +167,8 @@ module _ (l : List ℕ) (before : Lent) (bytes : Bytes l) where
           }
 
 -- the image of the cluster of zeros is read, with either first #
-pub zeros-read : (h : Bool) (before : Lent) → RightSlices before → outcome (image (startingWith h zeros)) before ≡ given (startingWith h zeros)
-zeros-read h before right = read_back (startingWith h zeros) (either_first h zeros zeros-accepted) before right
+pub zeros-read : (h : Bool) (before : Lent) → RightSlices before → outcome (image (starting_with h zeros)) before ≡ given (starting_with h zeros)
+zeros-read h before right = read-back (starting_with h zeros) (either_first h zeros zeros-accepted) before right
 
 -- ---- A REFUSAL: the PSN is 0 and the first # false; user, side and dc are as they were; work is as it was under 1 to 5 and zeros under 9 to 16
 
@@ -199,43 +199,43 @@ late-either false hx hy = hy
 late-test : (refusal : ℕ → Answer) (n i : ℕ) → ((k : ℕ) → 9 ≤ number_of (refusal k)) → Late (lowest refusal n i)
 late-test refusal n i h = late-either (ltb i n) (late-number (refusal i) (h i)) late-done
 
-late-then : {a next : Answer} → Late a → Late next → Late (andThen a next)
-late-then {a} {next} ha hn = late-either (isDone a) hn ha
+late-then : {a next : Answer} → Late a → Late next → Late (and_then a next)
+late-then {a} {next} ha hn = late-either (is_done a) hn ha
 
-late-psn : (p : PsnFound) → Late (foundAnswer p).answer
+late-psn : (p : PsnFound) → Late (found_answer p).answer
 late-psn (Found q) = late-done
 late-psn NotFound = late-number NoPsn (omega arith)
 
-late-image : (b : List ℕ) → Late (imageAnswer b)
-unfolding imageAnswer lastBitsAnswer syncsAnswer framesAnswer bisColumnsAnswer addressFieldsAnswer psnAnswer ldcColumnsAnswer sectorsAnswer
+late-image : (b : List ℕ) → Late (image_answer b)
+unfolding image_answer last_bits_answer syncs_answer frames_answer bis_columns_answer address_fields_answer psn_answer ldc_columns_answer sectors_answer
 late-image b =
-    let work = clusterIn b in
-    let block = bisIn work in
+    let work = cluster_in b in
+    let block = bis_in work in
     late-then (late-either (eqb (get_or b 958302 0) 0 && eqb (get_or b 958303 0) 0) late-done (late-number LastBits (omega arith)))
-    (late-then (late-test Sync 497 (firstWrongSync b) (λ k. omega arith))
-    (late-then (late-test Frame 496 (firstNoFrame b) (λ k. omega arith))
-    (late-then (late-test BisColumn 24 (Bis.firstWrongColumn block) (λ k. omega arith))
-    (late-then (late-test AddressUnit 16 (Bis.firstWrongField block) (λ k. omega arith))
-    (late-then (late-psn (Bis.psnIn block))
-    (late-then (late-test LdcColumn 304 (firstWrongWord work) (λ k. omega arith)) (late-test Sector 32 (firstWrongSector (scramblingOf (clusterPsn work)) work) (λ k. omega arith))))))))
+    (late-then (late-test Sync 497 (first_wrong_sync b) (λ k. omega arith))
+    (late-then (late-test Frame 496 (first_no_frame b) (λ k. omega arith))
+    (late-then (late-test BisColumn 24 (Bis.first_wrong_column block) (λ k. omega arith))
+    (late-then (late-test AddressUnit 16 (Bis.first_wrong_field block) (λ k. omega arith))
+    (late-then (late-psn (Bis.psn_in block))
+    (late-then (late-test LdcColumn 304 (first_wrong_word work) (λ k. omega arith)) (late-test Sector 32 (first_wrong_sector (scrambling_of (cluster_psn work)) work) (λ k. omega arith))))))))
 
 pub refused : (l : List ℕ) (before : Lent) → (number_of (outcome l before).answer ≡ 0 → ⊥) → Refused before (outcome l before)
-unfolding outcome imageOutcome
+unfolding outcome image_outcome
 refused l before h =
-    by (sizesAnswer l before) (isDone (sizesAnswer l before)) refl
+    by (sizes_answer l before) (is_done (sizes_answer l before)) refl
     (lengths-number (length before.user) (length before.side) (length before.dc) (length l) (length before.work)) h
   where
     nine-up : (a : Answer) → Late a → (number_of a ≡ 0 → ⊥) → 9 ≤ number_of a
     nine-up a g h = ⊎_elim (λ e. absurd (h e)) (λ k. k) g.late
 
-    by-image : (a : Answer) (t : Bool) → isDone a ≡ t → Late a → (number_of (cond t (accepted (clusterIn (bits_of l)) (dcIn (bits_of l))) (record { answer = a; psn = 0; lent = cleared before })).answer ≡ 0 → ⊥)
-        → Refused before (withFirst (firstHash (bits_of l)) (cond t (accepted (clusterIn (bits_of l)) (dcIn (bits_of l))) (record { answer = a; psn = 0; lent = cleared before })))
+    by-image : (a : Answer) (t : Bool) → is_done a ≡ t → Late a → (number_of (cond t (accepted (cluster_in (bits_of l)) (dc_in (bits_of l))) (record { answer = a; psn = 0; lent = cleared before })).answer ≡ 0 → ⊥)
+        → Refused before (with_first (first_hash (bits_of l)) (cond t (accepted (cluster_in (bits_of l)) (dc_in (bits_of l))) (record { answer = a; psn = 0; lent = cleared before })))
     by-image a true t g h = absurd (h refl)
     by-image a false t g h =
         let nine = nine-up a g h in
         record {
           psn-zero = refl;
-          first-false = ap (λ (d : Bool). d && firstHash (bits_of l)) t;
+          first-false = ap (λ (d : Bool). d && first_hash (bits_of l)) t;
           user-kept = refl;
           side-kept = refl;
           dc-kept = refl;
@@ -244,9 +244,9 @@ refused l before h =
           number = inr nine;
         }
 
-    by : (a : Answer) (t : Bool) → isDone a ≡ t → number_of a ≤ 5 → (number_of (cond t (imageOutcome (bits_of l) before) (wrongSizes a before)).answer ≡ 0 → ⊥)
-        → Refused before (cond t (imageOutcome (bits_of l) before) (wrongSizes a before))
-    by a true t small h = by-image (imageAnswer (bits_of l)) (isDone (imageAnswer (bits_of l))) refl (late-image (bits_of l)) h
+    by : (a : Answer) (t : Bool) → is_done a ≡ t → number_of a ≤ 5 → (number_of (cond t (image_outcome (bits_of l) before) (wrong_sizes a before)).answer ≡ 0 → ⊥)
+        → Refused before (cond t (image_outcome (bits_of l) before) (wrong_sizes a before))
+    by a true t small h = by-image (image_answer (bits_of l)) (is_done (image_answer (bits_of l))) refl (late-image (bits_of l)) h
     by a false t small h =
         record {
           psn-zero = refl;

@@ -2,12 +2,12 @@
 use Rattle.std.specs.Prelude.{Bool, false, ◌&&◌, cond, List, ℕ, length}
 use Rattle.bits.specs.Bits.{bits_of}
 use Rattle.answer.specs.declared.Answer.{Answer}
-use Rattle.answer.specs.Answer.{isDone, andThen}
-use Rattle.lengths.specs.Lengths.{lengthsAnswer}
-use Rattle.scrambling.specs.Scrambling.{scramblingOf}
-use Rattle.cluster.specs.Multiplex.{bisIn}
-use Rattle.recording.specs.Reading.{firstHash, clusterIn, dcIn}
-use Rattle.judging.specs.Tests.{lastBitsAnswer, syncsAnswer, framesAnswer, bisColumnsAnswer, addressFieldsAnswer, psnAnswer, clusterPsn, ldcColumnsAnswer, sectorsAnswer}
+use Rattle.answer.specs.Answer.{is_done, and_then}
+use Rattle.lengths.specs.Lengths.{lengths_answer}
+use Rattle.scrambling.specs.Scrambling.{scrambling_of}
+use Rattle.cluster.specs.Multiplex.{bis_in}
+use Rattle.recording.specs.Reading.{first_hash, cluster_in, dc_in}
+use Rattle.judging.specs.Tests.{last_bits_answer, syncs_answer, frames_answer, bis_columns_answer, address_fields_answer, psn_answer, cluster_psn, ldc_columns_answer, sectors_answer}
 use Rattle.strict_cluster.specs.Outcome as Strict
 pub use Rattle.strict_cluster.specs.Outcome.{Lent}
 
@@ -18,33 +18,33 @@ pub record Outcome : Type 0 where
   pub lent : Lent
 
 -- the tests 9 to 16, in rising order, in the bits b of an image
-unfoldable pub imageAnswer : List ℕ → Answer
-imageAnswer b =
-    let work = clusterIn b in
-    andThen (lastBitsAnswer b)
-    (andThen (syncsAnswer b)
-    (andThen (framesAnswer b)
-    (andThen (bisColumnsAnswer (bisIn work))
-    (andThen (addressFieldsAnswer (bisIn work))
-    (andThen (psnAnswer (bisIn work)).answer
-    (andThen (ldcColumnsAnswer work)
-    (sectorsAnswer (scramblingOf (clusterPsn work)) work)))))))
+unfoldable pub image_answer : List ℕ → Answer
+image_answer b =
+    let work = cluster_in b in
+    and_then (last_bits_answer b)
+    (and_then (syncs_answer b)
+    (and_then (frames_answer b)
+    (and_then (bis_columns_answer (bis_in work))
+    (and_then (address_fields_answer (bis_in work))
+    (and_then (psn_answer (bis_in work)).answer
+    (and_then (ldc_columns_answer work)
+    (sectors_answer (scrambling_of (cluster_psn work)) work)))))))
 
 -- what is read of a cluster, and # of the sync of frame 0, which is false on refusal
-abbrev pub withFirst : Bool → Strict.Outcome → Outcome
-withFirst first read = record { answer = read.answer; psn = read.psn; first = isDone read.answer && first; lent = read.lent }
+abbrev pub with_first : Bool → Strict.Outcome → Outcome
+with_first first read = record { answer = read.answer; psn = read.psn; first = is_done read.answer && first; lent = read.lent }
 
 -- accepted, or refused by them
-unfoldable pub imageOutcome : List ℕ → Lent → Outcome
-imageOutcome b before = withFirst (firstHash b) (Strict.outcomeBy (imageAnswer b) (clusterIn b) (dcIn b) before)
+unfoldable pub image_outcome : List ℕ → Lent → Outcome
+image_outcome b before = with_first (first_hash b) (Strict.outcome_by (image_answer b) (cluster_in b) (dc_in b) before)
 
 -- 1 to 5: the lengths
-abbrev pub sizesAnswer : List ℕ → Lent → Answer
-sizesAnswer image before = lengthsAnswer (length before.user) (length before.side) (length before.dc) (length image) (length before.work)
+abbrev pub sizes_answer : List ℕ → Lent → Answer
+sizes_answer image before = lengths_answer (length before.user) (length before.side) (length before.dc) (length image) (length before.work)
 
 -- refused by 1 to 5: the PSN is 0, the first # false and every slice as it was
-abbrev pub wrongSizes : Answer → Lent → Outcome
-wrongSizes answer before = record { answer = answer; psn = 0; first = false; lent = before }
+abbrev pub wrong_sizes : Answer → Lent → Outcome
+wrong_sizes answer before = record { answer = answer; psn = 0; first = false; lent = before }
 
 unfoldable pub outcome : List ℕ → Lent → Outcome
-outcome image before = cond (isDone (sizesAnswer image before)) (imageOutcome (bits_of image) before) (wrongSizes (sizesAnswer image before) before)
+outcome image before = cond (is_done (sizes_answer image before)) (image_outcome (bits_of image) before) (wrong_sizes (sizes_answer image before) before)

@@ -1,6 +1,8 @@
 // The strict reader: what an image was made of, or why it is no image.
+#![tactic(auto)]
+
 ghost use Rattle.std.specs.Prelude.{◌≡◌, length};
-ghost use Rattle.sizes.specs.Sizes.{frameCount, imageSize, workSize};
+ghost use Rattle.sizes.specs.Sizes.{frame_count, image_size, work_size};
 ghost use Rattle.bits.specs.Bits.{bits_of};
 ghost use Rattle.answer.specs.Answer.{number_of};
 ghost use Rattle.reader.specs.Outcome.{outcome};
@@ -11,7 +13,7 @@ use address::Psn;
 use answer::Answer;
 
 // What the reader answers; `first` is # of the sync of frame 0, true for ONE. On refusal the PSN is 0 and `first` false.
-#[derive(Drop)]
+#[derive(Clone, Copy)]
 pub struct Read {
     pub answer: Answer,
     pub psn: Psn,
@@ -20,7 +22,7 @@ pub struct Read {
 
 // Tests 9 to 11; where they are passed the ECC cluster stands in work and its dc words in words.
 fn test_recording(image: &[u8], words: &mut [u32], work: &mut [u8]) -> Answer
-    requires { (length image.now ≡ imageSize) × ((length words.old ≡ frameCount) × (length work.old ≡ workSize)) }
+    requires { (length image.now ≡ image_size) × ((length words.old ≡ frame_count) × (length work.old ≡ work_size)) }
     ensures { RecordingTested (bits_of image.now) result words.new work.new }
 {
     let last = judging::steps::last_bits(image);
@@ -32,7 +34,7 @@ fn test_recording(image: &[u8], words: &mut [u32], work: &mut [u8]) -> Answer
 }
 
 fn no_words() -> [u32; sizes::FRAMES]
-    ensures { length result ≡ frameCount }
+    ensures { length result ≡ frame_count }
 {
     [0u32; sizes::FRAMES]
 }

@@ -6,14 +6,14 @@ use lib.Dec.{eqb}
 use lib.ListN.{take, drop}
 use lib.Seq.{get_or-drop, drop-drop}
 use Rattle.modulation.specs.Sync.{FS}
-use Rattle.frame_sync.specs.Sync.{hashAt, syncRight}
+use Rattle.frame_sync.specs.Sync.{hash_at, sync_right}
 
 module _ (b : List ℕ) (at p : ℕ) where
-  pub hash-behind : hashAt (drop at b) p ≡ hashAt b (at + p)
+  pub hash-behind : hash_at (drop at b) p ≡ hash_at b (at + p)
   hash-behind = ap (λ (x : ℕ). eqb x 1) (get_or-drop at b p 0)
 
-  pub sync-behind : (n : FS) → syncRight n (drop at b) p ≡ syncRight n b (at + p)
-  unfolding syncRight
+  pub sync-behind : (n : FS) → sync_right n (drop at b) p ≡ sync_right n b (at + p)
+  unfolding sync_right
   sync-behind n = rw (drop-drop p at b, get_or-drop at b p 0)
 
   pub bits-behind : (m : ℕ) → take m (drop p (drop at b)) ≡ take m (drop (at + p) b)

@@ -3,55 +3,55 @@
 use Rattle.std.specs.Prelude.{Bool, not, List, ℕ, ◌+◌, ◌*◌, ◌/◌, ◌%◌, get_or, take, drop}
 use Rattle.laws.specs.First.{first}
 use Rattle.laws.specs.Tabulate.{tabulate}
-use Rattle.modulation.specs.Sync.{syncNumber}
-use Rattle.frame_bits.specs.FrameBits.{rowFrom, dcFrom}
-use Rattle.frame_sync.specs.Sync.{hashAt, syncRight}
-use Rattle.frame.specs.Reading.{bitsRead, readable}
-use Rattle.sizes.specs.Sizes.{workSize, frameCount, frameSize, rowSize}
+use Rattle.modulation.specs.Sync.{sync_number}
+use Rattle.frame_bits.specs.FrameBits.{row_from, dc_from}
+use Rattle.frame_sync.specs.Sync.{hash_at, sync_right}
+use Rattle.frame.specs.Reading.{bits_read, readable}
+use Rattle.sizes.specs.Sizes.{work_size, frame_count, frame_size, row_size}
 
 -- ---- 10: the lowest frame whose sync is wrong, or 497; # is judged at no frame
 
-unfoldable pub wrongSync : List ℕ → ℕ → Bool
-wrongSync b n = not (syncRight (syncNumber n) b (frameSize * n))
+unfoldable pub wrong_sync : List ℕ → ℕ → Bool
+wrong_sync b n = not (sync_right (sync_number n) b (frame_size * n))
 
-unfoldable pub firstWrongSync : List ℕ → ℕ
-firstWrongSync b = first 497 (wrongSync b)
+unfoldable pub first_wrong_sync : List ℕ → ℕ
+first_wrong_sync b = first 497 (wrong_sync b)
 
 -- ---- 11: the lowest frame that no 1,268 bits give together with # of the next sync, or 496
 
 -- the 1,902 modulation bits behind the sync of frame n, and # of the sync behind them
-abbrev pub modulatedAt : List ℕ → ℕ → List ℕ
-modulatedAt b n = take 1902 (drop (frameSize * n + 30) b)
+abbrev pub modulated_at : List ℕ → ℕ → List ℕ
+modulated_at b n = take 1902 (drop (frame_size * n + 30) b)
 
-abbrev pub hashBehind : List ℕ → ℕ → Bool
-hashBehind b n = hashAt b (frameSize * (n + 1))
+abbrev pub hash_behind : List ℕ → ℕ → Bool
+hash_behind b n = hash_at b (frame_size * (n + 1))
 
 -- no such bits exist exactly where this test says so (proofs/Statements: no-frame-iff)
-unfoldable pub noFrame : List ℕ → ℕ → Bool
-noFrame b n = not (readable (syncNumber n) (modulatedAt b n) (hashBehind b n))
+unfoldable pub no_frame : List ℕ → ℕ → Bool
+no_frame b n = not (readable (sync_number n) (modulated_at b n) (hash_behind b n))
 
-unfoldable pub firstNoFrame : List ℕ → ℕ
-firstNoFrame b = first frameCount (noFrame b)
+unfoldable pub first_no_frame : List ℕ → ℕ
+first_no_frame b = first frame_count (no_frame b)
 
 -- ---- # of the sync of frame 0, as it stands there
 
-abbrev pub firstHash : List ℕ → Bool
-firstHash b = hashAt b 0
+abbrev pub first_hash : List ℕ → Bool
+first_hash b = hash_at b 0
 
 -- ---- the ECC cluster, row by row, and the dc words
 
 -- the 1,268 bits of frame n, the only ones that give it (proofs/Statements: only-bits)
-abbrev pub frameBitsIn : List ℕ → ℕ → List ℕ
-frameBitsIn b n = bitsRead (syncNumber n) (modulatedAt b n) (hashBehind b n)
+abbrev pub frame_bits_in : List ℕ → ℕ → List ℕ
+frame_bits_in b n = bits_read (sync_number n) (modulated_at b n) (hash_behind b n)
 
-abbrev pub clusterByte : List ℕ → ℕ → ℕ
-clusterByte b k = get_or (rowFrom (frameBitsIn b (k / rowSize))) (k % rowSize) 0
+abbrev pub cluster_byte : List ℕ → ℕ → ℕ
+cluster_byte b k = get_or (row_from (frame_bits_in b (k / row_size))) (k % row_size) 0
 
-unfoldable pub clusterIn : List ℕ → List ℕ
-clusterIn b = tabulate workSize (clusterByte b)
+unfoldable pub cluster_in : List ℕ → List ℕ
+cluster_in b = tabulate work_size (cluster_byte b)
 
-abbrev pub dcWordIn : List ℕ → ℕ → ℕ
-dcWordIn b n = dcFrom (frameBitsIn b n)
+abbrev pub dc_word_in : List ℕ → ℕ → ℕ
+dc_word_in b n = dc_from (frame_bits_in b n)
 
-unfoldable pub dcIn : List ℕ → List ℕ
-dcIn b = tabulate frameCount (dcWordIn b)
+unfoldable pub dc_in : List ℕ → List ℕ
+dc_in b = tabulate frame_count (dc_word_in b)

@@ -9,16 +9,16 @@ use lib.ListN.{length, get_or, set, take, drop, length-append, take-append-drop,
 use lib.Seq.{get_or-append-add}
 use Rattle.laws.proofs.First.{Passed, passed_none, passed-more, first-here, first_past}
 use Rattle.laws.proofs.Fill.{Upto, upto-none, upto-more, upto-part, upto_all}
-use Rattle.modulation.specs.Sync.{FS, syncNumber}
-use Rattle.frame_bits.specs.FrameBits.{rowFrom}
-use Rattle.frame_sync.specs.Sync.{fs, fsNumber, hashAt}
+use Rattle.modulation.specs.Sync.{FS, sync_number}
+use Rattle.frame_bits.specs.FrameBits.{row_from}
+use Rattle.frame_sync.specs.Sync.{fs, fs_number, hash_at}
 use Rattle.frame.specs.declared.FrameRead.{FrameRead}
 use Rattle.frame.specs.declared.FrameRead.TheVariants.{Found, NoFrame}
-use Rattle.frame.specs.Reading.{StrictlyRead, readable, frameRead, rowLeft}
+use Rattle.frame.specs.Reading.{StrictlyRead, readable, frame_read, row_left}
 use Rattle.frame_sync.proofs.SyncTables.{fs-number}
 use Rattle.frame_bits.proofs.FrameBits.{length-row}
 use Rattle.frame.proofs.Reading.{readable-gives, read_is, found-is, no_found}
-use Rattle.recording.specs.Reading.{modulatedAt, hashBehind, noFrame, firstNoFrame, frameBitsIn, clusterByte, clusterIn, dcWordIn, dcIn}
+use Rattle.recording.specs.Reading.{modulated_at, hash_behind, no_frame, first_no_frame, frame_bits_in, cluster_byte, cluster_in, dc_word_in, dc_in}
 use Rattle.recording_frames.specs.steps.Read.{FrameAnswer, TwoFrames, FramesRead}
 use Rattle.recording.proofs.Accepting.{readable-is}
 use Rattle.recording.proofs.Places.{hash-behind, bits-behind}
@@ -27,48 +27,48 @@ use Rattle.recording.proofs.Places.{hash-behind, bits-behind}
 
 module _ (b : List ℕ) (n : ℕ) where
   -- where some bits give it, its row has 155 bytes
-  pub length-row-in : noFrame b n ≡ false → length (rowFrom (frameBitsIn b n)) ≡ 155
-  length-row-in e = length-row (frameBitsIn b n) (readable-gives (syncNumber n) (modulatedAt b n) (hashBehind b n) (readable-is b n e)).are-bits
+  pub length-row-in : no_frame b n ≡ false → length (row_from (frame_bits_in b n)) ≡ 155
+  length-row-in e = length-row (frame_bits_in b n) (readable-gives (sync_number n) (modulated_at b n) (hash_behind b n) (readable-is b n e)).are-bits
 
 -- a frame as it is read with the number of its sync, from bit q on, in bits l where the recording starts at bit `at`
-module _ (l : List ℕ) (at n number q s : ℕ) {before p : List ℕ} {hash : Bool} {r : FrameRead} (en : number ≡ fsNumber (syncNumber n)) (eh : hash ≡ hashAt l s)
+module _ (l : List ℕ) (at n number q s : ℕ) {before p : List ℕ} {hash : Bool} {r : FrameRead} (en : number ≡ fs_number (sync_number n)) (eh : hash ≡ hash_at l s)
     (es : s ≡ at + 1932 * (n + 1)) (eq : q ≡ at + (1932 * n + 30)) (read : StrictlyRead (fs number) (take 1902 (drop q l)) hash before r p) where
   abbrev b : List ℕ
   b = drop at l
 
-  behind : hash ≡ hashBehind b n
-  behind = eh ∙ ap (hashAt l) es ∙ sym (hash-behind l at (1932 * (n + 1)))
+  behind : hash ≡ hash_behind b n
+  behind = eh ∙ ap (hash_at l) es ∙ sym (hash-behind l at (1932 * (n + 1)))
 
-  there : take 1902 (drop q l) ≡ modulatedAt b n
+  there : take 1902 (drop q l) ≡ modulated_at b n
   there = ap (λ (k : ℕ). take 1902 (drop k l)) eq ∙ sym (bits-behind l at (1932 * n + 30) 1902)
 
-  strictly : StrictlyRead (syncNumber n) (modulatedAt b n) (hashBehind b n) before r p
+  strictly : StrictlyRead (sync_number n) (modulated_at b n) (hash_behind b n) before r p
   strictly =
-      subst (λ (f : FS). StrictlyRead f (modulatedAt b n) (hashBehind b n) before r p) (ap fs en ∙ fs-number (syncNumber n))
-      (subst (λ (h : Bool). StrictlyRead (fs number) (modulatedAt b n) h before r p) behind (subst (λ (m : List ℕ). StrictlyRead (fs number) m hash before r p) there read))
+      subst (λ (f : FS). StrictlyRead f (modulated_at b n) (hash_behind b n) before r p) (ap fs en ∙ fs-number (sync_number n))
+      (subst (λ (h : Bool). StrictlyRead (fs number) (modulated_at b n) h before r p) behind (subst (λ (m : List ℕ). StrictlyRead (fs number) m hash before r p) there read))
 
   pub frame-answer : FrameAnswer b n r
-  unfolding noFrame frameRead
-  frame-answer = by (readable (syncNumber n) (modulatedAt b n) (hashBehind b n)) refl
+  unfolding no_frame frame_read
+  frame-answer = by (readable (sync_number n) (modulated_at b n) (hash_behind b n)) refl
     where
-      by : (t : Bool) → readable (syncNumber n) (modulatedAt b n) (hashBehind b n) ≡ t → FrameAnswer b n r
+      by : (t : Bool) → readable (sync_number n) (modulated_at b n) (hash_behind b n) ≡ t → FrameAnswer b n r
       by true e =
-          let answered : r ≡ Found (dcWordIn b n) = (read_is strictly).0 ∙ rw e in
-          record { found = λ dc f. (ap not e, found-is dc (dcWordIn b n) (sym f ∙ answered)); none = λ f. absurd (no_found (sym answered ∙ f)) }
+          let answered : r ≡ Found (dc_word_in b n) = (read_is strictly).0 ∙ rw e in
+          record { found = λ dc f. (ap not e, found-is dc (dc_word_in b n) (sym f ∙ answered)); none = λ f. absurd (no_found (sym answered ∙ f)) }
       by false e =
           let answered : r ≡ NoFrame = (read_is strictly).0 ∙ rw e in
           record { found = λ dc f. absurd (no_found (sym f ∙ answered)); none = λ f. ap not e }
 
-  pub row_is : noFrame b n ≡ false → p ≡ rowFrom (frameBitsIn b n)
-  unfolding rowLeft
+  pub row_is : no_frame b n ≡ false → p ≡ row_from (frame_bits_in b n)
+  unfolding row_left
   row_is e = (read_is strictly).1 ∙ rw (readable-is b n e)
 
 -- two rows in the places of frames n and n + 1, as `read_two` leaves p there
-pub two-rows : (b work p : List ℕ) (n m : ℕ) → m ≡ 310 → take 155 p ≡ rowFrom (frameBitsIn b n) → drop 155 p ≡ rowFrom (frameBitsIn b (n + 1))
+pub two-rows : (b work p : List ℕ) (n m : ℕ) → m ≡ 310 → take 155 p ≡ row_from (frame_bits_in b n) → drop 155 p ≡ row_from (frame_bits_in b (n + 1))
     → take (155 * n) work ++ (p ++ drop m (drop (155 * n) work))
-    ≡ take (155 * n) work ++ ((rowFrom (frameBitsIn b n) ++ rowFrom (frameBitsIn b (n + 1))) ++ drop 310 (drop (155 * n) work))
+    ≡ take (155 * n) work ++ ((row_from (frame_bits_in b n) ++ row_from (frame_bits_in b (n + 1))) ++ drop 310 (drop (155 * n) work))
 two-rows b work p n m em row next =
-    let rows : p ≡ rowFrom (frameBitsIn b n) ++ rowFrom (frameBitsIn b (n + 1)) = sym (take-append-drop 155 p) ∙ ap₂ ◌++◌ row next in
+    let rows : p ≡ row_from (frame_bits_in b n) ++ row_from (frame_bits_in b (n + 1)) = sym (take-append-drop 155 p) ∙ ap₂ ◌++◌ row next in
     ap₂ (λ (l : List ℕ) (k : ℕ). take (155 * n) work ++ (l ++ drop k (drop (155 * n) work))) rows em
 
 -- ---- the loop
@@ -77,9 +77,9 @@ two-rows b work p n m em row next =
 pub record Below (b : List ℕ) (n : ℕ) (dc work : List ℕ) : Type 0 where
   pub within : n ≤ 496
   pub even : n % 2 ≡ 0
-  pub given : Passed (noFrame b) n
-  pub words : Upto 0 (dcWordIn b) 496 n dc
-  pub rows : Upto 0 (clusterByte b) 76880 (155 * n) work
+  pub given : Passed (no_frame b) n
+  pub words : Upto 0 (dc_word_in b) 496 n dc
+  pub rows : Upto 0 (cluster_byte b) 76880 (155 * n) work
 
 pub below_none : {b dc work : List ℕ} → length dc ≡ 496 → length work ≡ 76880 → Below b 0 dc work
 below_none d w = record { within = omega arith; even = refl; given = passed_none; words = upto-none d; rows = upto-none w }
@@ -94,22 +94,22 @@ module _ {b dc work after : List ℕ} {n : ℕ} {first second : FrameRead} (u : 
       record {
         within = omega (arith, u.even);
         even = omega (arith, u.even);
-        given = subst (Passed (noFrame b)) further (passed-more (passed-more u.given found.0) other.0);
+        given = subst (Passed (no_frame b)) further (passed-more (passed-more u.given found.0) other.0);
         words =
-            subst (λ (k : ℕ). Upto 0 (dcWordIn b) 496 k (set (set dc n word) (n + 1) next)) further
+            subst (λ (k : ℕ). Upto 0 (dc_word_in b) 496 k (set (set dc n word) (n + 1) next)) further
             (upto-more (omega (arith, u.even)) other.1 (upto-more h found.1 u.words));
         rows =
-            subst (Upto 0 (clusterByte b) 76880 (155 * (n + 2))) (sym (two.rows found.0 other.0))
+            subst (Upto 0 (cluster_byte b) 76880 (155 * (n + 2))) (sym (two.rows found.0 other.0))
             (upto-part 310 (row n ++ row (n + 1)) (omega arith) (omega (arith, u.even)) (long found.0 other.0) (byte found.0) u.rows);
       }
     where
       row : ℕ → List ℕ
-      row k = rowFrom (frameBitsIn b k)
+      row k = row_from (frame_bits_in b k)
 
-      long : noFrame b n ≡ false → noFrame b (n + 1) ≡ false → length (row n ++ row (n + 1)) ≡ 310
+      long : no_frame b n ≡ false → no_frame b (n + 1) ≡ false → length (row n ++ row (n + 1)) ≡ 310
       long e f = omega (arith, length-append (row n) (row (n + 1)), length-row-in b n e, length-row-in b (n + 1) f)
 
-      byte : noFrame b n ≡ false → (k : ℕ) → k < 310 → get_or (row n ++ row (n + 1)) k 0 ≡ clusterByte b (155 * n + k)
+      byte : no_frame b n ≡ false → (k : ℕ) → k < 310 → get_or (row n ++ row (n + 1)) k 0 ≡ cluster_byte b (155 * n + k)
       byte e k l =
           let size = length-row-in b n e in
           elim (dec_lt k 155) [
@@ -126,8 +126,8 @@ module _ {b dc work after : List ℕ} {n : ℕ} {first second : FrameRead} (u : 
                 ∙ sym (ap₂ (λ (i j : ℕ). get_or (row i) j 0) here column)
           ]
 
-  stop : (k : ℕ) → k < 496 → Passed (noFrame b) k → noFrame b k ≡ true → FramesRead b k dc after
-  unfolding firstNoFrame
+  stop : (k : ℕ) → k < 496 → Passed (no_frame b) k → no_frame b k ≡ true → FramesRead b k dc after
+  unfolding first_no_frame
   stop k l passed none =
       record {
         first = first-here l passed none;
@@ -144,7 +144,7 @@ module _ {b dc work after : List ℕ} {n : ℕ} {first second : FrameRead} (u : 
   below-stop-next {word} e f = stop (n + 1) (omega (arith, u.even)) (passed-more u.given (two.one.found word e).0) (two.two.none f)
 
 pub below_all : {b dc work : List ℕ} {n : ℕ} → 496 ≤ n → Below b n dc work → FramesRead b n dc work
-unfolding firstNoFrame clusterIn dcIn
+unfolding first_no_frame cluster_in dc_in
 below_all {b} {dc} {work} {n} l u =
     let all : n ≡ 496 = omega (arith, u.within) in
     record {

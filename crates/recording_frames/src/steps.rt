@@ -4,14 +4,14 @@ ghost use Rattle.bits.specs.Bits.{bits_of};
 ghost use Rattle.automaton.specs.steps.Table.{table};
 ghost use Rattle.recording.specs.steps.Within.{Within};
 ghost use Rattle.recording_frames.specs.steps.Read.{TwoFrames, FramesRead};
-ghost use Rattle.sizes.specs.Sizes.{workSize, frameCount};
+ghost use Rattle.sizes.specs.Sizes.{work_size, frame_count};
 
 use automaton::Table;
 use frame::{FrameRead, TwoRead};
 
 // Frames n and n + 1, their rows into their places of the cluster.
 fn read_two(steps: &Table, image: &[u8], at: usize, n: usize, work: &mut [u8]) -> TwoRead
-    requires { ((steps.now ≡ table) × Within image.now at) × ((n + 1 < frameCount) × (length work.old ≡ workSize)) }
+    requires { ((steps.now ≡ table) × Within image.now at) × ((n + 1 < frame_count) × (length work.old ≡ work_size)) }
     ensures { TwoFrames (drop at (bits_of image.now)) n work.old result.first result.second work.new }
 {
     let hash = frame_sync::hash_at(image, at + sizes::FRAME * (n + 1));
@@ -34,7 +34,7 @@ fn read_two(steps: &Table, image: &[u8], at: usize, n: usize, work: &mut [u8]) -
 
 // Test 11: the lowest frame that no 1,268 bits give, or 496; then all rows stand in the cluster and the dc words in dc.
 pub fn read_frames(image: &[u8], at: usize, dc: &mut [u32], work: &mut [u8]) -> usize
-    requires { Within image.now at × ((length dc.old ≡ frameCount) × (length work.old ≡ workSize)) }
+    requires { Within image.now at × ((length dc.old ≡ frame_count) × (length work.old ≡ work_size)) }
     ensures { FramesRead (drop at (bits_of image.now)) result dc.new work.new }
 {
     let mut steps = demodulator_table::steps::no_table();

@@ -1,8 +1,8 @@
 // The syncs of a recording from bit `at` on.
 ghost use Rattle.std.specs.Prelude.{◌≡◌, ◌&&◌, drop};
 ghost use Rattle.bits.specs.Bits.{bits_of};
-ghost use Rattle.answer.specs.Answer.{isDone};
-ghost use Rattle.recording.specs.Reading.{firstWrongSync, firstHash};
+ghost use Rattle.answer.specs.Answer.{is_done};
+ghost use Rattle.recording.specs.Reading.{first_wrong_sync, first_hash};
 ghost use Rattle.recording.specs.steps.Within.{Within};
 
 use answer::Answer;
@@ -10,7 +10,7 @@ use answer::Answer;
 // Test 10: the lowest frame whose sync is wrong, or 497; # is not judged.
 pub fn first_wrong_sync(image: &[u8], at: usize) -> usize
     requires { Within image.now at }
-    ensures { result ≡ firstWrongSync (drop at (bits_of image.now)) }
+    ensures { result ≡ first_wrong_sync (drop at (bits_of image.now)) }
 {
     let mut sync = 0;
     while sync < 497 {
@@ -25,7 +25,7 @@ pub fn first_wrong_sync(image: &[u8], at: usize) -> usize
 
 // # of the sync of frame 0; false where an answer refuses.
 pub fn first_hash(answer: Answer, image: &[u8], at: usize) -> bool
-    ensures { result ≡ (isDone answer && firstHash (drop at (bits_of image.now))) }
+    ensures { result ≡ (is_done answer && first_hash (drop at (bits_of image.now))) }
 {
     if answer.is_done() {
         return frame_sync::hash_at(image, at);

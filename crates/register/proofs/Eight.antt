@@ -16,7 +16,7 @@ use Rattle.laws.proofs.Fill.{Upto, upto-none, upto-more, upto_all}
 use Rattle.laws.proofs.Tabulate.{length-tabulate, get_d_tabulate, is-tabulate}
 use Rattle.galois.specs.Field.{sum}
 use Rattle.column.specs.Column.{sums, remainder, parity}
-use Rattle.register.specs.steps.Register.{leaves, divisor, Padded, front, leavesAdded}
+use Rattle.register.specs.steps.Register.{leaves, divisor, Padded, front, leaves_added}
 use Rattle.column.proofs.Sums.{length-snoc, snoc-at, sums_at}
 use Rattle.column.proofs.Generator.{coefficients-length}
 use Rattle.column.proofs.Division.{length-remainder}
@@ -152,26 +152,26 @@ fronts-all {was} {message} {eight} {at} h fronts =
     let whole : eight ≡ tabulate 8 (front was message at) = upto_all h fronts.done in
     (whole, subst⁻¹ Bytes whole (bytes-tabulate 8 (front was message at) (λ i q. fronts.small i (omega arith))))
 
-pub added_more : (eight : List ℕ) (j byte k : ℕ) {v u w : ℕ} → v ≡ leavesAdded eight j byte k → u ≡ get_or (leaves k (get_or eight (7 - k) 0)) j 0 → w ≡ sum v u
-    → w ≡ leavesAdded eight j byte (k + 1)
-unfolding leavesAdded
-added_more eight j byte k ev eu ew = ew ∙ ap₂ sum ev eu ∙ ap (leavesAdded eight j byte) (sym (add-one k))
+pub added_more : (eight : List ℕ) (j byte k : ℕ) {v u w : ℕ} → v ≡ leaves_added eight j byte k → u ≡ get_or (leaves k (get_or eight (7 - k) 0)) j 0 → w ≡ sum v u
+    → w ≡ leaves_added eight j byte (k + 1)
+unfolding leaves_added
+added_more eight j byte k ev eu ew = ew ∙ ap₂ sum ev eu ∙ ap (leaves_added eight j byte) (sym (add-one k))
 
 -- what the code adds up is what the eight leave
 eight-leave : (was message : List ℕ) (at j : ℕ)
-    → leavesAdded (tabulate 8 (front was message at)) j (get_or was (j + 8) 0) 8
+    → leaves_added (tabulate 8 (front was message at)) j (get_or was (j + 8) 0) 8
     ≡ gathered (λ i. get_or was i 0) (tabulate 8 (λ k. get_or message (at + k) 0)) j
-unfolding gathered leavesAdded tabulate front
-eight-leave was message at j = ap (λ (i : ℕ). leavesAdded (tabulate 8 (front was message at)) j (get_or was i 0) 8) up
+unfolding gathered leaves_added tabulate front
+eight-leave was message at j = ap (λ (i : ℕ). leaves_added (tabulate 8 (front was message at)) j (get_or was i 0) 8) up
   where
     up : j + 8 ≡ suc (suc (suc (suc (suc (suc (suc (suc j)))))))
     up = omega arith
 
 pub eight-in : {was eight next : List ℕ} {j : ℕ} (message : List ℕ) (at : ℕ) → 32 ≤ j → Padded was → at + 8 ≤ length message → eight ≡ tabulate 8 (front was message at)
-    → Filling (λ k. leavesAdded eight k (get_or was (k + 8) 0) 8) j next → take 32 next ≡ remainder divisor (take 32 was) (take 8 (drop at message))
+    → Filling (λ k. leaves_added eight k (get_or was (k + 8) 0) 8) j next → take 32 next ≡ remainder divisor (take 32 was) (take 8 (drop at message))
 eight-in {was} {eight} {next} message at large padded h e filling =
     filling-all (tabulate 8 (λ k. get_or message (at + k) 0)) large padded
-    (λ k. ap (λ (l : List ℕ). leavesAdded l k (get_or was (k + 8) 0) 8) e ∙ eight-leave was message at k) filling
+    (λ k. ap (λ (l : List ℕ). leaves_added l k (get_or was (k + 8) 0) 8) e ∙ eight-leave was message at k) filling
     ∙ ap (remainder divisor (take 32 was)) (sym (part 8 at message h))
 
 -- ---- one byte

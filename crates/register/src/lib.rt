@@ -1,4 +1,6 @@
 // The register of 32 bytes by which a message is divided. `steps` is for the crates of this repository.
+#![tactic(auto)]
+
 pub mod steps;
 
 // Entry 8192 k + 32 b + j is byte j of what byte b leaves when k zeros follow, k below 8.

@@ -10,14 +10,14 @@ use lib.Seq.{ext_get_or, get_or-take, get_or-set_same, get_or-set_other}
 use Rattle.laws.specs.Tabulate.{tabulate}
 use Rattle.column.specs.Column.{pushed, remainder, parity}
 use Rattle.register.specs.steps.Register.{leaves, divisor, FirstTable, Padded}
-use Rattle.remainder_rows.specs.steps.Rows.{remainderAt, EntriesFrom, FilledTo}
+use Rattle.remainder_rows.specs.steps.Rows.{remainder_at, EntriesFrom, FilledTo}
 use Rattle.column.proofs.Register.{remainder-append}
 use Rattle.column.proofs.Linear.{zeros-snoc}
 use Rattle.register.proofs.Eight.{Filling, length-divisor, length-leaves, register-length}
 
 -- byte j of what b leaves with k zeros behind it
-pub entry_at : (k b j : ℕ) → b < 256 → j < 32 → remainderAt (8192 * k + 32 * b + j) ≡ get_or (leaves k b) j 0
-unfolding remainderAt
+pub entry_at : (k b j : ℕ) → b < 256 → j < 32 → remainder_at (8192 * k + 32 * b + j) ≡ get_or (leaves k b) j 0
+unfolding remainder_at
 entry_at k b j hb hj =
     ap₂ (λ (x y : ℕ). get_or (leaves x y) ((8192 * k + 32 * b + j) % 32) 0) zeros byte ∙ ap (λ (z : ℕ). get_or (leaves k b) z 0) place
   where
@@ -56,9 +56,9 @@ put-more {table} {row} {at} {j} {v} hj h right e filled =
       below = λ k q. more k (omega arith);
     }
   where
-    more : (k : ℕ) → k < at + j + 1 → get_or (set table (at + j) v) k 0 ≡ remainderAt k
+    more : (k : ℕ) → k < at + j + 1 → get_or (set table (at + j) v) k 0 ≡ remainder_at k
     more =
-        below_more (λ k. get_or (set table (at + j) v) k 0 ≡ remainderAt k) (at + j)
+        below_more (λ k. get_or (set table (at + j) v) k 0 ≡ remainder_at k) (at + j)
         (λ k lt. get_or-set_other table (at + j) k v 0 (λ q. omega (arith, q)) ∙ filled.below k lt)
         (get_or-set_same table (at + j) v 0 (omega (arith, filled.size)) ∙ e ∙ right.byte j hj)
 

@@ -12,16 +12,16 @@ use Rattle.verdict.specs.declared.Verdict.TheVariants.{Pass, Refused, OtherPsn, 
 use Rattle.texts.specs.Text.{the}
 use Rattle.texts.specs.Numbers.{decimal}
 use Rattle.texts.proofs.Distinct.{decimal-digits, split, decimal-same, digit-first}
-use Rattle.report.specs.Words.{meaning, answerText, verdictText}
+use Rattle.report.specs.Words.{meaning, answer_text, verdict_text}
 
 -- an answer's text begins with a digit
-answer-first : (a : Answer) → get_or (answerText a) 0 0 < 58
-unfolding answerText
+answer-first : (a : Answer) → get_or (answer_text a) 0 0 < 58
+unfolding answer_text
 answer-first a = simp append_assoc (digit-first 19 (number_of a) _)
 
 -- `pass` IS PRINTED FOR A PASS ALONE
-pub pass-only : (v : Verdict) → verdictText v ≡ the "pass\n" → v ≡ Pass
-unfolding verdictText
+pub pass-only : (v : Verdict) → verdict_text v ≡ the "pass\n" → v ≡ Pass
+unfolding verdict_text
 pass-only Pass e = refl
 pass-only (Refused a) e = absurd (omega (arith, answer-first a, ap (λ (l : List ℕ). get_or l 0 0) e))
 pass-only (OtherPsn psn) e = absurd (omega (arith, ap (λ (l : List ℕ). get_or l 0 0) e))
@@ -68,12 +68,12 @@ pub same_answer : (a b : Answer) → number_of a ≡ number_of b → place_of a 
 same_answer a b hn hp = sym (told a).0 ∙ ap₂ (λ (n p : ℕ). get_or (answers p) n Done) hn hp ∙ (told b).0
 
 -- the first line is number and place
-number-and-place : (a : Answer) → answerText a ≡ decimal (number_of a) ++ (32 ∷ (decimal (place_of a) ++ (10 ∷ meaning a)))
-unfolding answerText
+number-and-place : (a : Answer) → answer_text a ≡ decimal (number_of a) ++ (32 ∷ (decimal (place_of a) ++ (10 ∷ meaning a)))
+unfolding answer_text
 number-and-place a = simp append_assoc
 
 -- DIFFERENT ANSWERS HAVE DIFFERENT TEXTS
-pub answers-differ : (a b : Answer) → place_of a < 10 ^ 20 → place_of b < 10 ^ 20 → answerText a ≡ answerText b → a ≡ b
+pub answers-differ : (a b : Answer) → place_of a < 10 ^ 20 → place_of b < 10 ^ 20 → answer_text a ≡ answer_text b → a ≡ b
 answers-differ a b ha hb e =
     let lines = sym (number-and-place a) ∙ e ∙ number-and-place b in
     let one = split (decimal-digits 20 (number_of a)) (decimal-digits 20 (number_of b)) 32 32 (decimal (place_of a) ++ (10 ∷ meaning a)) (decimal (place_of b) ++ (10 ∷ meaning b)) (omega arith) (omega arith) lines in

@@ -38,24 +38,24 @@ meaning NoBench = the "the bench is above 3\n"
 meaning BenchWaiting = the "the bench has a waiting order\n"
 
 -- number and place in a line, then what they mean
-unfoldable pub answerText : Answer → List ℕ
-answerText a = decimal (number_of a) ++ the " " ++ decimal (place_of a) ++ the "\n" ++ meaning a
+unfoldable pub answer_text : Answer → List ℕ
+answer_text a = decimal (number_of a) ++ the " " ++ decimal (place_of a) ++ the "\n" ++ meaning a
 
 -- ---- what was read, and verdicts
 
-unfoldable pub psnText : ℕ → List ℕ
-psnText psn = hexadecimal psn ++ the "\n"
+unfoldable pub psn_text : ℕ → List ℕ
+psn_text psn = hexadecimal psn ++ the "\n"
 
-abbrev pub firstText : Bool → List ℕ
-firstText first = cond first (the "first # 1\n") (the "first # 0\n")
+abbrev pub first_text : Bool → List ℕ
+first_text first = cond first (the "first # 1\n") (the "first # 0\n")
 
 -- the PSN and the first #, a line each
-unfoldable pub readText : ℕ → Bool → List ℕ
-readText psn first = psnText psn ++ firstText first
+unfoldable pub read_text : ℕ → Bool → List ℕ
+read_text psn first = psn_text psn ++ first_text first
 
-unfoldable pub verdictText : Verdict → List ℕ
-verdictText Pass = the "pass\n"
-verdictText (Refused a) = answerText a
-verdictText (OtherPsn psn) = the "the PSN differs: the image has " ++ psnText psn.0
-verdictText (OtherUser n) = the "user byte " ++ decimal n ++ the " differs\n"
-verdictText (OtherSide n) = the "side byte " ++ decimal n ++ the " differs\n"
+unfoldable pub verdict_text : Verdict → List ℕ
+verdict_text Pass = the "pass\n"
+verdict_text (Refused a) = answer_text a
+verdict_text (OtherPsn psn) = the "the PSN differs: the image has " ++ psn_text psn.0
+verdict_text (OtherUser n) = the "user byte " ++ decimal n ++ the " differs\n"
+verdict_text (OtherSide n) = the "side byte " ++ decimal n ++ the " differs\n"

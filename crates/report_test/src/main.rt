@@ -1,4 +1,6 @@
 // Every answer, verdict and tally in words, and what was read.
+#![tactic(auto)]
+
 use address::Psn;
 use answer::Answer;
 use gaps::Tally;

@@ -1,7 +1,9 @@
 // The roots of columns, one by one.
+#![tactic(auto)]
+
 ghost use Rattle.std.specs.Prelude.{◌≡◌};
 ghost use Rattle.galois.specs.Tables.{AreTables};
-ghost use Rattle.column.specs.Column.{value, hasRoots};
+ghost use Rattle.column.specs.Column.{value, has_roots};
 
 use field::Gf;
 
@@ -22,7 +24,7 @@ fn value_at(powers: &[u8; 256], logs: &[u8; 256], column: &[u8], x: Gf) -> Gf
 // Whether the column has the roots α^0 to α^(count - 1): from count bytes on, whether it is a multiple of the generator (column, proofs/Multiple:
 // right-multiple, multiple-right).
 pub fn has_roots(column: &[u8], count: u8) -> bool
-    ensures { result ≡ hasRoots count column.now }
+    ensures { result ≡ has_roots count column.now }
 {
     let powers = field_tables::powers();
     let logs = field_tables::logs();

@@ -13,21 +13,21 @@ use Rattle.laws.specs.Bytes.{Bytes}
 use Rattle.laws.specs.Combined.{combined}
 use Rattle.laws.specs.Tabulate.{tabulate}
 use Rattle.laws.proofs.Bytes.{bytes-tabulate}
-use Rattle.laws.proofs.Combined.{length-combined, getD-combined, is-combined, combined-comm, combined-twice, combined-inj}
+use Rattle.laws.proofs.Combined.{length-combined, get_d-combined, is-combined, combined-comm, combined-twice, combined-inj}
 use Rattle.laws.proofs.Fill.{Upto, upto-none, upto-more, upto_all}
 use Rattle.laws.proofs.Tabulate.{length-tabulate, get_d_tabulate}
 use Rattle.laws.proofs.Xor.{xor-both}
-use Rattle.scrambling.specs.Scrambling.{shifts, preset, register, scramblingByte, scramblingOf, scrambled}
+use Rattle.scrambling.specs.Scrambling.{shifts, preset, register, scrambling_byte, scrambling_of, scrambled}
 
 -- ---- the scrambling bytes
 
-pub length-scrambling : (psn : ℕ) → length (scramblingOf psn) ≡ 2052
-unfolding scramblingOf
-length-scrambling psn = length-tabulate 2052 (scramblingByte psn)
+pub length-scrambling : (psn : ℕ) → length (scrambling_of psn) ≡ 2052
+unfolding scrambling_of
+length-scrambling psn = length-tabulate 2052 (scrambling_byte psn)
 
-pub bytes-scrambling : (psn : ℕ) → Bytes (scramblingOf psn)
-unfolding scramblingOf scramblingByte
-bytes-scrambling psn = bytes-tabulate 2052 (scramblingByte psn) (λ k h. mod-lt (register (preset psn) k) (pow_pos 8))
+pub bytes-scrambling : (psn : ℕ) → Bytes (scrambling_of psn)
+unfolding scrambling_of scrambling_byte
+bytes-scrambling psn = bytes-tabulate 2052 (scrambling_byte psn) (λ k h. mod-lt (register (preset psn) k) (pow_pos 8))
 
 -- a turn of the loop, from the register p: s is the register at byte k
 pub record Streamed (p k s : ℕ) (l : List ℕ) : Type 0 where
@@ -46,8 +46,8 @@ streamed-more p k s r l h a e =
       held = rw (add-one k, ← a.held) e;
     }
 
-pub streamed-all : (psn k s : ℕ) (l : List ℕ) → 2052 ≤ k → Streamed (preset psn) k s l → l ≡ scramblingOf psn
-unfolding scramblingOf scramblingByte
+pub streamed-all : (psn k s : ℕ) (l : List ℕ) → 2052 ≤ k → Streamed (preset psn) k s l → l ≡ scrambling_of psn
+unfolding scrambling_of scrambling_byte
 streamed-all psn k s l h a = upto_all h a.filled
 
 -- ---- scrambled frames
@@ -56,9 +56,9 @@ pub length-scrambled : (stream frame : List ℕ) → length (scrambled stream fr
 unfolding scrambled
 length-scrambled stream frame = length-tabulate (length frame) (λ k. bit_xor (get_or frame k 0) (get_or stream k 0))
 
-pub getD-scrambled : (stream frame : List ℕ) (k : ℕ) → k < length frame → get_or (scrambled stream frame) k 0 ≡ bit_xor (get_or frame k 0) (get_or stream k 0)
+pub get_d-scrambled : (stream frame : List ℕ) (k : ℕ) → k < length frame → get_or (scrambled stream frame) k 0 ≡ bit_xor (get_or frame k 0) (get_or stream k 0)
 unfolding scrambled
-getD-scrambled stream frame k h = get_d_tabulate (length frame) (λ k. bit_xor (get_or frame k 0) (get_or stream k 0)) k 0 h
+get_d-scrambled stream frame k h = get_d_tabulate (length frame) (λ k. bit_xor (get_or frame k 0) (get_or stream k 0)) k 0 h
 
 pub bytes-scrambled : (stream frame : List ℕ) → Bytes stream → Bytes frame → Bytes (scrambled stream frame)
 unfolding scrambled
@@ -85,7 +85,7 @@ pub scrambled-within : (stream l : List ℕ) → length l ≤ length stream → 
 scrambled-within stream l h =
     let size : length l ≡ length (take (length l) stream) = sym (length-take-le (length l) stream h) in
     is-combined (scrambled stream l) l (take (length l) stream) (length-scrambled stream l) size
-    (λ k lt. getD-scrambled stream l k lt ∙ ap (bit_xor (get_or l k 0)) (sym (get_or-take (length l) stream k 0 lt)))
+    (λ k lt. get_d-scrambled stream l k lt ∙ ap (bit_xor (get_or l k 0)) (sym (get_or-take (length l) stream k 0 lt)))
 
 -- ---- scrambling drops out
 
@@ -104,8 +104,8 @@ scrambled-both stream f g same = is-combined (combined sf sg) f g (length-combin
 
     at : (k : ℕ) → k < length f → get_or (combined sf sg) k 0 ≡ bit_xor (get_or f k 0) (get_or g k 0)
     at k h =
-        getD-combined sf sg k sizes
-        ∙ ap₂ bit_xor (getD-scrambled stream f k h) (getD-scrambled stream g k (omega arith))
+        get_d-combined sf sg k sizes
+        ∙ ap₂ bit_xor (get_d-scrambled stream f k h) (get_d-scrambled stream g k (omega arith))
         ∙ xor-both (get_or f k 0) (get_or g k 0) (get_or stream k 0)
 
 -- so scrambling undone gives the frame: with the frame once scrambled both combine to the same

@@ -25,12 +25,12 @@ register s zero = s
 register s (suc k) = shifts 8 (register s k)
 
 -- s_7 to s_0
-unfoldable pub scramblingByte : ℕ → ℕ → ℕ
-scramblingByte psn k = register (preset psn) k % 2 ^ 8
+unfoldable pub scrambling_byte : ℕ → ℕ → ℕ
+scrambling_byte psn k = register (preset psn) k % 2 ^ 8
 
 -- the scrambling bytes of each data frame of a cluster
-unfoldable pub scramblingOf : ℕ → List ℕ
-scramblingOf psn = tabulate 2052 (scramblingByte psn)
+unfoldable pub scrambling_of : ℕ → List ℕ
+scrambling_of psn = tabulate 2052 (scrambling_byte psn)
 
 -- the bytes of a data frame, each with its scrambling byte by exclusive or
 unfoldable pub scrambled : List ℕ → List ℕ → List ℕ

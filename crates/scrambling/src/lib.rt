@@ -1,8 +1,10 @@
 // 13.4: scrambling.
+#![tactic(auto)]
+
 pub mod steps;
 
 ghost use Rattle.std.specs.Prelude.{◌≡◌, length};
-ghost use Rattle.scrambling.specs.Scrambling.{shifts, scramblingOf};
+ghost use Rattle.scrambling.specs.Scrambling.{shifts, scrambling_of};
 
 use address::Psn;
 
@@ -23,7 +25,7 @@ fn zeros() -> [u8; 2052]
 
 // The scrambling bytes, the same for each data frame of a cluster.
 pub fn scrambling(psn: Psn) -> [u8; 2052]
-    ensures { result ≡ scramblingOf psn.0 }
+    ensures { result ≡ scrambling_of psn.0 }
 {
     let mut stream = zeros();
     let mut s = 0x8000 + (psn.0 / 32 % 0x8000) as u16;

@@ -1,7 +1,9 @@
 // 13.2 to 13.4: data frames of sectors.
+#![tactic(auto)]
+
 ghost use Rattle.std.specs.Prelude.{◌≡◌};
 ghost use Rattle.scrambling.specs.Scrambling.{scrambled};
-ghost use Rattle.sector.specs.DataFrame.{edcRight, framed, framedOf};
+ghost use Rattle.sector.specs.DataFrame.{edc_right, framed, framed_of};
 
 use big_endian::steps::word_at;
 use big_endian::word_bytes;
@@ -10,7 +12,7 @@ use slices::steps::copy_bytes;
 
 // The scrambled data frame of a sector's 2,048 user bytes, in a frame of 2,052; false, and the frame as it was, at other lengths.
 pub fn data_frame(user: &[u8], stream: &[u8], frame: &mut [u8]) -> bool
-    ensures { framed result frame.new ≡ framedOf user.now stream.now frame.old }
+    ensures { framed result frame.new ≡ framed_of user.now stream.now frame.old }
 {
     if user.len() != 2048 {
         return false;
@@ -25,7 +27,7 @@ pub fn data_frame(user: &[u8], stream: &[u8], frame: &mut [u8]) -> bool
 
 // Whether these are 2,052 bytes of which, unscrambled, the last four are the error-detection code of those before.
 pub fn edc_right(frame: &[u8], stream: &[u8]) -> bool
-    ensures { result ≡ edcRight (scrambled stream.now frame.now) }
+    ensures { result ≡ edc_right (scrambled stream.now frame.now) }
 {
     if frame.len() != 2052 {
         return false;

@@ -5,8 +5,8 @@ use native.Mathlib.Omega.{arith}
 use lib.ListN.{take}
 use Rattle.laws.specs.Tabulate.{tabulate}
 use Rattle.bits.specs.Bits.{bits_of}
-use Rattle.edc.specs.Edc.{divided, remainderByG, edcOf}
+use Rattle.edc.specs.Edc.{divided, remainder_by_g, edc_of}
 
-pub one-byte-less : edcOf (take 1 (1 ∷ [])) ≡ edcOf (take 0 (1 ∷ [])) → ⊥
-unfolding edcOf remainderByG divided bits_of tabulate
+pub one-byte-less : edc_of (take 1 (1 ∷ [])) ≡ edc_of (take 0 (1 ∷ [])) → ⊥
+unfolding edc_of remainder_by_g divided bits_of tabulate
 one-byte-less e = omega (arith, e)

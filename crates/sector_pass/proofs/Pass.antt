@@ -9,9 +9,9 @@ use lib.ListN.{length, get_or, set, take, drop, length-append, length-drop, take
 use lib.Seq.{take_at, drop_at, take-add, drop-drop, drop-cons, get_or-drop, set_split, length-take-le}
 use Rattle.laws.specs.Combined.{combined}
 use Rattle.laws.specs.Tabulate.{tabulate}
-use Rattle.big_endian.specs.Words.{eightBytes}
+use Rattle.big_endian.specs.Words.{eight_bytes}
 use Rattle.big_endian.proofs.Words.{eight-combined}
-use Rattle.edc.specs.Edc.{edcOf}
+use Rattle.edc.specs.Edc.{edc_of}
 use Rattle.edc.proofs.Loops.{none_passed}
 use Rattle.scrambling.specs.Scrambling.{scrambled}
 use Rattle.scrambling.proofs.Stream.{length-scrambled, scrambled-append, scrambled-within}
@@ -26,10 +26,10 @@ scrambled-on stream l n m h =
     ∙ scrambled-append stream (take n l) (take m (drop n l))
     ∙ ap (λ (k : ℕ). scrambled stream (take n l) ++ scrambled (drop k stream) (take m (drop n l))) (length-take-le n l h)
 
-eight-scrambled : (stream : List ℕ) (n eight s : ℕ) → n + 8 ≤ length stream → eightBytes s ≡ take 8 (drop n stream)
-    → eightBytes (bit_xor eight s) ≡ scrambled (drop n stream) (eightBytes eight)
+eight-scrambled : (stream : List ℕ) (n eight s : ℕ) → n + 8 ≤ length stream → eight_bytes s ≡ take 8 (drop n stream)
+    → eight_bytes (bit_xor eight s) ≡ scrambled (drop n stream) (eight_bytes eight)
 eight-scrambled stream n eight s h e =
-    eight-combined eight s ∙ ap (combined (eightBytes eight)) e ∙ sym (scrambled-within (drop n stream) (eightBytes eight) (omega (arith, length-drop n stream)))
+    eight-combined eight s ∙ ap (combined (eight_bytes eight)) e ∙ sym (scrambled-within (drop n stream) (eight_bytes eight) (omega (arith, length-drop n stream)))
 
 byte-scrambled : (stream : List ℕ) (n x s : ℕ) → s ≡ get_or stream n 0 → bit_xor x s ∷ [] ≡ scrambled (drop n stream) (x ∷ [])
 unfolding scrambled tabulate
@@ -64,13 +64,13 @@ module _ (user stream before : List ℕ) where
 
     -- a part of m bytes more
     writing-part : (m next : ℕ) (part bytes : List ℕ) → n + m ≤ length user → part ≡ take m (drop n user) → bytes ≡ scrambled (drop n stream) part
-        → next ≡ edcOf (take n user ++ part) → PassWriting user stream before (n + m) (take n frame ++ (bytes ++ drop m (drop n frame))) next
+        → next ≡ edc_of (take n user ++ part) → PassWriting user stream before (n + m) (take n frame ++ (bytes ++ drop m (drop n frame))) next
     writing-part m next part bytes h ep eb en =
         record {
           taken = h;
           written = ap (take (n + m)) seam ∙ take_at (take n frame ++ bytes) behind (n + m) size ∙ ap₂ ◌++◌ p.written (eb ∙ ap (scrambled (drop n stream)) ep) ∙ sym (scrambled-on stream user n m p.taken);
           rest = ap (drop (n + m)) seam ∙ drop_at (take n frame ++ bytes) behind (n + m) size ∙ ap (drop m) p.rest ∙ drop-drop m n before;
-          remainder = en ∙ ap edcOf (ap (λ (l : List ℕ). take n user ++ l) ep ∙ sym (take-add n m user));
+          remainder = en ∙ ap edc_of (ap (λ (l : List ℕ). take n user ++ l) ep ∙ sym (take-add n m user));
         }
       where
         behind : List ℕ
@@ -86,14 +86,14 @@ module _ (user stream before : List ℕ) where
         size = omega (arith, length-append (take n frame) bytes, front, ap length eb, length-scrambled (drop n stream) part, part-size)
 
     -- m and past as the code has them
-    pub writing-eight : (eight s next m past : ℕ) (bytes : List ℕ) → m ≡ 8 → past ≡ n + 8 → past ≤ length user → past ≤ length stream → eightBytes eight ≡ take 8 (drop n user)
-        → eightBytes s ≡ take 8 (drop n stream) → bytes ≡ eightBytes (bit_xor eight s) → ((l : List ℕ) → register ≡ edcOf l → next ≡ edcOf (l ++ eightBytes eight))
+    pub writing-eight : (eight s next m past : ℕ) (bytes : List ℕ) → m ≡ 8 → past ≡ n + 8 → past ≤ length user → past ≤ length stream → eight_bytes eight ≡ take 8 (drop n user)
+        → eight_bytes s ≡ take 8 (drop n stream) → bytes ≡ eight_bytes (bit_xor eight s) → ((l : List ℕ) → register ≡ edc_of l → next ≡ edc_of (l ++ eight_bytes eight))
         → PassWriting user stream before past (take n frame ++ (bytes ++ drop m (drop n frame))) next
     writing-eight eight s next m past bytes em eq hu hs eu es eb en =
-        rw (em, eq) (writing-part 8 next (eightBytes eight) bytes (omega arith) eu (eb ∙ eight-scrambled stream n eight s (omega arith) es) (en (take n user) p.remainder))
+        rw (em, eq) (writing-part 8 next (eight_bytes eight) bytes (omega arith) eu (eb ∙ eight-scrambled stream n eight s (omega arith) es) (en (take n user) p.remainder))
 
     pub writing-byte : (s next : ℕ) → n < length user → n < length frame → s ≡ get_or stream n 0
-        → ((l : List ℕ) → register ≡ edcOf l → next ≡ edcOf (l ++ (get_or user n 0 ∷ [])))
+        → ((l : List ℕ) → register ≡ edc_of l → next ≡ edc_of (l ++ (get_or user n 0 ∷ [])))
         → PassWriting user stream before (n + 1) (set frame n (bit_xor (get_or user n 0) s)) next
     writing-byte s next hu hf es en =
         let x : ℕ = get_or user n 0 in
@@ -128,20 +128,20 @@ module _ (frame stream : List ℕ) where
 
   module _ (n register : ℕ) (p : PassReading frame stream n register) where
     undoing-part : (m next : ℕ) (part bytes : List ℕ) → n + m ≤ length frame → part ≡ take m (drop n frame) → bytes ≡ scrambled (drop n stream) part
-        → next ≡ edcOf (scrambled stream (take n frame) ++ bytes) → PassReading frame stream (n + m) next
+        → next ≡ edc_of (scrambled stream (take n frame) ++ bytes) → PassReading frame stream (n + m) next
     undoing-part m next part bytes h ep eb en =
         record {
           taken = h;
-          remainder = en ∙ ap edcOf (ap (λ (l : List ℕ). scrambled stream (take n frame) ++ l) (eb ∙ ap (scrambled (drop n stream)) ep) ∙ sym (scrambled-on stream frame n m p.taken));
+          remainder = en ∙ ap edc_of (ap (λ (l : List ℕ). scrambled stream (take n frame) ++ l) (eb ∙ ap (scrambled (drop n stream)) ep) ∙ sym (scrambled-on stream frame n m p.taken));
         }
 
-    pub undoing-eight : (eight s next past : ℕ) → past ≡ n + 8 → past ≤ length frame → past ≤ length stream → eightBytes eight ≡ take 8 (drop n frame) → eightBytes s ≡ take 8 (drop n stream)
-        → ((l : List ℕ) → register ≡ edcOf l → next ≡ edcOf (l ++ eightBytes (bit_xor eight s))) → PassReading frame stream past next
+    pub undoing-eight : (eight s next past : ℕ) → past ≡ n + 8 → past ≤ length frame → past ≤ length stream → eight_bytes eight ≡ take 8 (drop n frame) → eight_bytes s ≡ take 8 (drop n stream)
+        → ((l : List ℕ) → register ≡ edc_of l → next ≡ edc_of (l ++ eight_bytes (bit_xor eight s))) → PassReading frame stream past next
     undoing-eight eight s next past eq hf hs ef es en =
-        rw eq (undoing-part 8 next (eightBytes eight) (eightBytes (bit_xor eight s)) (omega arith) ef (eight-scrambled stream n eight s (omega arith) es) (en (scrambled stream (take n frame)) p.remainder))
+        rw eq (undoing-part 8 next (eight_bytes eight) (eight_bytes (bit_xor eight s)) (omega arith) ef (eight-scrambled stream n eight s (omega arith) es) (en (scrambled stream (take n frame)) p.remainder))
 
     pub undoing-byte : (s next : ℕ) → n < length frame → s ≡ get_or stream n 0
-        → ((l : List ℕ) → register ≡ edcOf l → next ≡ edcOf (l ++ (bit_xor (get_or frame n 0) s ∷ []))) → PassReading frame stream (n + 1) next
+        → ((l : List ℕ) → register ≡ edc_of l → next ≡ edc_of (l ++ (bit_xor (get_or frame n 0) s ∷ []))) → PassReading frame stream (n + 1) next
     undoing-byte s next h es en =
         let x : ℕ = get_or frame n 0 in
         undoing-part 1 next (x ∷ []) (bit_xor x s ∷ []) (omega arith) (one-there frame n h) (byte-scrambled stream n x s es) (en (scrambled stream (take n frame)) p.remainder)

@@ -1,2 +1,4 @@
 // Test 16: the sectors of an ECC cluster. `steps` is for the crates of this repository.
+#![tactic(auto)]
+
 pub mod steps;

@@ -1,16 +1,16 @@
 // Data frames, four at a time, and the test of their EDC: one pass over each sector.
 ghost use Rattle.std.specs.Prelude.{◌≡◌, ◌<◌, length};
 ghost use Rattle.laws.specs.First.{first};
-ghost use Rattle.ldc.specs.Places.{frameIn};
-ghost use Rattle.cluster.specs.Multiplex.{ldcIn};
-ghost use Rattle.cluster.specs.Reading.{firstWrongSector};
-ghost use Rattle.ldc_words.specs.steps.Eighth.{framesOf, wrongFrame};
-ghost use Rattle.sizes.specs.Sizes.{workSize};
+ghost use Rattle.ldc.specs.Places.{frame_in};
+ghost use Rattle.cluster.specs.Multiplex.{ldc_in};
+ghost use Rattle.cluster.specs.Reading.{first_wrong_sector};
+ghost use Rattle.ldc_words.specs.steps.Eighth.{frames_of, wrong_frame};
+ghost use Rattle.sizes.specs.Sizes.{work_size};
 
 // Data frames 4 e to 4 e + 3 of a cluster, as they stand there.
 pub fn take_frames(work: &[u8], e: usize, frames: &mut [u8])
-    requires { ((length work.now ≡ workSize) × (length frames.old ≡ 8208)) × (e < 8) }
-    ensures { frames.new ≡ framesOf (frameIn (ldcIn work.now)) e }
+    requires { ((length work.now ≡ work_size) × (length frames.old ≡ 8208)) × (e < 8) }
+    ensures { frames.new ≡ frames_of (frame_in (ldc_in work.now)) e }
 {
     let mut words = ldc_words::steps::no_words();
     ldc_words::steps::take_words(work, e, 216, &mut words);
@@ -20,7 +20,7 @@ pub fn take_frames(work: &[u8], e: usize, frames: &mut [u8])
 // The lowest of four sectors whose EDC is wrong, or 4.
 fn first_wrong_frame(frames: &[u8], stream: &[u8]) -> usize
     requires { length frames.now ≡ 8208 }
-    ensures { result ≡ first 4 (wrongFrame stream.now frames.now) }
+    ensures { result ≡ first 4 (wrong_frame stream.now frames.now) }
 {
     let mut f = 0;
     while f < 4 {
@@ -37,8 +37,8 @@ fn first_wrong_frame(frames: &[u8], stream: &[u8]) -> usize
 
 // The lowest sector whose EDC is wrong, or 32.
 pub fn first_wrong_sector(work: &[u8], stream: &[u8]) -> usize
-    requires { length work.now ≡ workSize }
-    ensures { result ≡ firstWrongSector stream.now work.now }
+    requires { length work.now ≡ work_size }
+    ensures { result ≡ first_wrong_sector stream.now work.now }
 {
     let mut frames = ldc_words::steps::no_frames();
     let mut e = 0;

@@ -1,4 +1,6 @@
 // Error-detection code and scrambling: document 01's trials, and clusters of which an independent program gave the values.
+#![tactic(auto)]
+
 ghost use Rattle.std.specs.Prelude.{◌≡◌, ◌≤◌, length};
 
 use address::Psn;
@@ -18,7 +20,7 @@ fn no_frame() -> [u8; 2052]
 }
 
 // The generator's state, the hashes of the user bytes and of the data frames so far, and how often the test of the code answered wrongly.
-#[derive(Drop)]
+#[derive(Clone, Copy)]
 struct Seen {
     state: u64,
     user: u64,

@@ -1,8 +1,10 @@
 // sheet FILE: whether a sheet of addresses is accepted. FILE has a PSN a line, eight hexadecimal digits; blank lines are passed over.
+#![tactic(auto)]
+
 use sheet_file::SheetFile;
 
 // What was read so far, and what the last read gave: 0 at the end of the file, below 0 where it cannot be read.
-#[derive(Drop)]
+#[derive(Clone, Copy)]
 struct Turn {
     file: SheetFile,
     got: isize,

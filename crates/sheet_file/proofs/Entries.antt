@@ -9,33 +9,33 @@ use lib.ListN.{length, get_or, set, length-set, length-append, get_or-append}
 use lib.Seq.{get_or-append-add}
 use Rattle.laws.proofs.Fill.{upto-more}
 use Rattle.address.specs.declared.Psn.{Psn}
-use Rattle.notation.specs.Psn.{psnOf}
+use Rattle.notation.specs.Psn.{psn_of}
 use Rattle.sheet_file.specs.declared.SheetEntries.{SheetEntries}
-use Rattle.sheet_file.specs.File.{Entry, line_of, is_number, number_in, wrongLine, fileEntry}
-use Rattle.sheet_file.specs.steps.Reading.{wrongAfter, HoldsEntries, IsEntry}
+use Rattle.sheet_file.specs.File.{Entry, line_of, is_number, number_in, wrong_line, file_entry}
+use Rattle.sheet_file.specs.steps.Reading.{wrong_after, HoldsEntries, IsEntry}
 
 -- ---- the first line that is no PSN
 
 module _ (wrong line : ℕ) (right : Bool) where
-  pub wrong-kept : (wrong ≡ 0 → ⊥) → wrong ≡ wrongAfter wrong line right
+  pub wrong-kept : (wrong ≡ 0 → ⊥) → wrong ≡ wrong_after wrong line right
   wrong-kept h = rw (ne_eqb wrong 0 h)
 
-  pub wrong-none : wrong ≡ 0 → right ≡ true → 0 ≡ wrongAfter wrong line right
+  pub wrong-none : wrong ≡ 0 → right ≡ true → 0 ≡ wrong_after wrong line right
   wrong-none e t = rw (eq-eqb wrong 0 e, t)
 
-  pub wrong-here : wrong ≡ 0 → right ≡ false → line ≡ wrongAfter wrong line right
+  pub wrong-here : wrong ≡ 0 → right ≡ false → line ≡ wrong_after wrong line right
   wrong-here e t = rw (eq-eqb wrong 0 e, t)
 
 -- an entry more
-wrong-more : (list : List Entry) (entry : Entry) → wrongLine (list ++ (entry ∷ [])) ≡ wrongAfter (wrongLine list) (line_of entry) (is_number (psnOf entry.text))
-unfolding wrongLine
+wrong-more : (list : List Entry) (entry : Entry) → wrong_line (list ++ (entry ∷ [])) ≡ wrong_after (wrong_line list) (line_of entry) (is_number (psn_of entry.text))
+unfolding wrong_line
 wrong-more [] entry = refl
-wrong-more (e ∷ list) entry = by (is_number (psnOf e.text)) (wrong-more list entry)
+wrong-more (e ∷ list) entry = by (is_number (psn_of e.text)) (wrong-more list entry)
   where
-    by : (t : Bool) → wrongLine (list ++ (entry ∷ [])) ≡ wrongAfter (wrongLine list) (line_of entry) (is_number (psnOf entry.text))
-        → cond t (wrongLine (list ++ (entry ∷ []))) (line_of e) ≡ wrongAfter (cond t (wrongLine list) (line_of e)) (line_of entry) (is_number (psnOf entry.text))
+    by : (t : Bool) → wrong_line (list ++ (entry ∷ [])) ≡ wrong_after (wrong_line list) (line_of entry) (is_number (psn_of entry.text))
+        → cond t (wrong_line (list ++ (entry ∷ []))) (line_of e) ≡ wrong_after (cond t (wrong_line list) (line_of e)) (line_of entry) (is_number (psn_of entry.text))
     by true rest = rest
-    by false rest = wrong-kept (line_of e) (line_of entry) (is_number (psnOf entry.text)) (λ z. omega (arith, z))
+    by false rest = wrong-kept (line_of e) (line_of entry) (is_number (psn_of entry.text)) (λ z. omega (arith, z))
 
 -- ---- the entries
 
@@ -44,25 +44,25 @@ module _ (list : List Entry) (entry : Entry) where
   longer : length (list ++ (entry ∷ [])) ≡ suc (length list)
   longer = omega (arith, length-append list (entry ∷ []))
 
-  old-at : (i : ℕ) → i < length list → fileEntry (list ++ (entry ∷ [])) i ≡ fileEntry list i
+  old-at : (i : ℕ) → i < length list → file_entry (list ++ (entry ∷ [])) i ≡ file_entry list i
   old-at i h = get_or-append list (entry ∷ []) (record { before = 0; text = [] }) i h
 
-  new-at : (i : ℕ) → i ≡ length list → fileEntry (list ++ (entry ∷ [])) i ≡ entry
-  new-at i e = ap (fileEntry (list ++ (entry ∷ []))) {y = length list + 0} (omega (arith, e)) ∙ get_or-append-add list (entry ∷ []) 0 (record { before = 0; text = [] })
+  new-at : (i : ℕ) → i ≡ length list → file_entry (list ++ (entry ∷ [])) i ≡ entry
+  new-at i e = ap (file_entry (list ++ (entry ∷ []))) {y = length list + 0} (omega (arith, e)) ∙ get_or-append-add list (entry ∷ []) 0 (record { before = 0; text = [] })
 
   -- what is kept of each entry, f, with that of the new one set behind the others
   kept-behind : {A : Type 0} (d : A) (f : Entry → A) (l : List A) (n : ℕ) (v : A) → n ≡ length list → n < 64 → length l ≡ 64 → v ≡ f entry
-      → ((i : ℕ) → i < length list → get_or l i d ≡ f (fileEntry list i)) → (i : ℕ) → i < length (list ++ (entry ∷ [])) → get_or (set l n v) i d ≡ f (fileEntry (list ++ (entry ∷ [])) i)
+      → ((i : ℕ) → i < length list → get_or l i d ≡ f (file_entry list i)) → (i : ℕ) → i < length (list ++ (entry ∷ [])) → get_or (set l n v) i d ≡ f (file_entry (list ++ (entry ∷ [])) i)
   kept-behind {A} d f l n v all h room new old i within =
-      (upto-more {d = d} {f = λ k. f (fileEntry (list ++ (entry ∷ [])) k)} {n = 64} {i = n} {l = l} {v = v} h (new ∙ sym (ap f (new-at n all)))
+      (upto-more {d = d} {f = λ k. f (file_entry (list ++ (entry ∷ [])) k)} {n = 64} {i = n} {l = l} {v = v} h (new ∙ sym (ap f (new-at n all)))
       (record { within = omega (arith, h); size = room; below = λ k lt. old k (omega (arith, lt, all)) ∙ sym (ap f (old-at k (omega (arith, lt, all)))) })
       ).below i (omega (arith, within, longer, all))
 
-  module _ {held : SheetEntries} {psn line wrong : ℕ} {right : Bool} (holds : HoldsEntries list held) (is : IsEntry entry psn right line) (hw : wrong ≡ wrongAfter held.wrong line right) where
-    is-wrong : wrong ≡ wrongLine (list ++ (entry ∷ []))
+  module _ {held : SheetEntries} {psn line wrong : ℕ} {right : Bool} (holds : HoldsEntries list held) (is : IsEntry entry psn right line) (hw : wrong ≡ wrong_after held.wrong line right) where
+    is-wrong : wrong ≡ wrong_line (list ++ (entry ∷ []))
     is-wrong =
         hw
-        ∙ (λ i. wrongAfter (holds.wrong i) (is.own_line i) (is.is-psn i))
+        ∙ (λ i. wrong_after (holds.wrong i) (is.own_line i) (is.is-psn i))
         ∙ sym (wrong-more list entry)
 
     -- there is no room for it
@@ -73,7 +73,7 @@ module _ (list : List Entry) (entry : Entry) where
           psns-room = holds.psns-room;
           lines-room = holds.lines-room;
           count = omega (arith, many, longer);
-          psns = λ i lt _. holds.psns i lt (omega arith) ∙ sym (ap (λ (e : Entry). number_in (psnOf e.text)) (old-at i (omega arith)));
+          psns = λ i lt _. holds.psns i lt (omega arith) ∙ sym (ap (λ (e : Entry). number_in (psn_of e.text)) (old-at i (omega arith)));
           lines = λ i lt _. holds.lines i lt (omega arith) ∙ sym (ap line_of (old-at i (omega arith)));
           wrong = is-wrong;
         }
@@ -87,7 +87,7 @@ module _ (list : List Entry) (entry : Entry) where
           count = omega (arith, all, longer, h);
           psns = λ i lt within.
               ap (λ (q : Psn). q.0)
-              (kept-behind (record { 0 = 0 }) (λ e. record { 0 = number_in (psnOf e.text) }) held.psns held.count p all h holds.psns-room (λ j. record { 0 = (hp ∙ is.own-psn) j })
+              (kept-behind (record { 0 = 0 }) (λ e. record { 0 = number_in (psn_of e.text) }) held.psns held.count p all h holds.psns-room (λ j. record { 0 = (hp ∙ is.own-psn) j })
               (λ k old j. record { 0 = holds.psns k (omega (arith, old, all, h)) old j }) i within);
           lines = λ i lt within.
               kept-behind 0 line_of held.lines held.count line all h holds.lines-room is.own_line (λ k old. holds.lines k (omega (arith, old, all, h)) old) i within;

@@ -12,24 +12,24 @@ use Rattle.notation.specs.declared.PsnText.{PsnText}
 use Rattle.sheet_file.specs.declared.Line.{Line}
 use Rattle.sheet_file.specs.declared.SheetEntries.{SheetEntries}
 use Rattle.sheet_file.specs.declared.SheetFile.{SheetFile}
-use Rattle.sheet_file.specs.File.{lines_from, trimmed, Entry, entryOn, entriesFrom, fileEntries, is_number, number_in}
-use Rattle.sheet_file.specs.steps.Reading.{shownPsn, HoldsLine, HoldsEntries, IsEntry, HasRead}
+use Rattle.sheet_file.specs.File.{lines_from, trimmed, Entry, entry_on, entries_from, file_entries, is_number, number_in}
+use Rattle.sheet_file.specs.steps.Reading.{shown_psn, HoldsLine, HoldsEntries, IsEntry, HasRead}
 use Rattle.sheet_file.proofs.Lines.{line-psn}
 
 -- ---- a line ends
 
-entry-none : (n : ℕ) (text : List ℕ) → length text ≡ 0 → entryOn n text ≡ []
+entry-none : (n : ℕ) (text : List ℕ) → length text ≡ 0 → entry_on n text ≡ []
 entry-none n [] e = refl
 entry-none n (b ∷ text) e = absurd (omega (arith, e))
 
-entry-one : (n : ℕ) (text : List ℕ) → (length text ≡ 0 → ⊥) → entryOn n text ≡ record { before = n; text = text } ∷ []
+entry-one : (n : ℕ) (text : List ℕ) → (length text ≡ 0 → ⊥) → entry_on n text ≡ record { before = n; text = text } ∷ []
 entry-one n [] h = absurd (h refl)
 entry-one n (b ∷ text) h = refl
 
 -- what the end of a line promises: held are the entries and the line before it, r the entries behind it
 abbrev Ends : SheetEntries → Line → ℕ → SheetEntries → Type 0
 Ends held line before r =
-    (list : List Entry) (begun : List ℕ) → before < 2 ^ 63 → HoldsEntries list held → HoldsLine begun line → HoldsEntries (list ++ entryOn before (trimmed begun)) r
+    (list : List Entry) (begun : List ℕ) → before < 2 ^ 63 → HoldsEntries list held → HoldsLine begun line → HoldsEntries (list ++ entry_on before (trimmed begun)) r
 
 pub ends-blank : {held : SheetEntries} {line : Line} {before : ℕ} → line.size ≡ 0 → Ends held line before held
 ends-blank {held} {line} {before} none list begun h entries holds =
@@ -38,7 +38,7 @@ ends-blank {held} {line} {before} none list begun h entries holds =
 
 -- shown is what stands on the line, psn and right what it says; number is the line's
 pub ends-entry : {held r : SheetEntries} {line : Line} {before number psn : ℕ} {right : Bool} {shown : PsnText}
-    → (line.size ≡ 0 → ⊥) → shown ≡ shownPsn line.text line.size → (before < 2 ^ 63 → number ≡ before + 1) → psn ≡ number_in shown → right ≡ is_number shown
+    → (line.size ≡ 0 → ⊥) → shown ≡ shown_psn line.text line.size → (before < 2 ^ 63 → number ≡ before + 1) → psn ≡ number_in shown → right ≡ is_number shown
     → ((list : List Entry) (entry : Entry) → HoldsEntries list held → IsEntry entry psn right number → HoldsEntries (list ++ (entry ∷ [])) r)
     → Ends held line before r
 ends-entry {held} {r} {line} {before} some hs hn hp hr add list begun h entries holds =
@@ -55,8 +55,8 @@ abbrev pub Steps : SheetFile → ℕ → SheetFile → Type 0
 Steps file b r = (bytes : List ℕ) → length bytes < 2 ^ 63 → HasRead bytes file → HasRead (bytes ++ (b ∷ [])) r
 
 module _ (file : SheetFile) (b : ℕ) where
-  later : (bytes rest : List ℕ) → fileEntries ((bytes ++ (b ∷ [])) ++ rest) ≡ fileEntries (bytes ++ (b ∷ rest))
-  later bytes rest = ap fileEntries (append_assoc bytes (b ∷ []) rest)
+  later : (bytes rest : List ℕ) → file_entries ((bytes ++ (b ∷ [])) ++ rest) ≡ file_entries (bytes ++ (b ∷ rest))
+  later bytes rest = ap file_entries (append_assoc bytes (b ∷ []) rest)
 
   -- of a line
   pub steps_on : {line : Line} → (b ≡ 10 → ⊥) → ((begun : List ℕ) → HoldsLine begun file.line → HoldsLine (begun ++ (b ∷ [])) line)
@@ -72,16 +72,16 @@ module _ (file : SheetFile) (b : ℕ) where
         whole = λ rest.
             later bytes rest
             ∙ read.whole (b ∷ rest)
-            ∙ ap (λ (t : Bool). read.ended ++ entriesFrom file.before (cond t (read.begun ∷ lines_from [] rest) (lines_from (read.begun ++ (b ∷ [])) rest))) (ne_eqb b 10 other);
+            ∙ ap (λ (t : Bool). read.ended ++ entries_from file.before (cond t (read.begun ∷ lines_from [] rest) (lines_from (read.begun ++ (b ∷ [])) rest))) (ne_eqb b 10 other);
       }
 
   -- the line feed
   pub steps-end : {line : Line} {held : SheetEntries} {n : ℕ} → b ≡ 10 → HoldsLine [] line → (file.before < 2 ^ 63 → n ≡ file.before + 1) → Ends file.entries file.line file.before held
       → Steps file b (record { line = line; before = n; entries = held })
-  unfolding lines_from entriesFrom
+  unfolding lines_from entries_from
   steps-end {n = n} feed line hn ends bytes h read =
       let small : file.before < 2 ^ 63 = omega (arith, read.before, h) in
-      let more = entryOn file.before (trimmed read.begun) in
+      let more = entry_on file.before (trimmed read.begun) in
       record {
         ended = read.ended ++ more;
         begun = [];
@@ -91,9 +91,9 @@ module _ (file : SheetFile) (b : ℕ) where
         whole = λ rest.
             later bytes rest
             ∙ read.whole (b ∷ rest)
-            ∙ ap (λ (t : Bool). read.ended ++ entriesFrom file.before (cond t (read.begun ∷ lines_from [] rest) (lines_from (read.begun ++ (b ∷ [])) rest))) (eq-eqb b 10 feed)
-            ∙ sym (append_assoc read.ended more (entriesFrom (suc file.before) (lines_from [] rest)))
-            ∙ ap (λ (m : ℕ). (read.ended ++ more) ++ entriesFrom m (lines_from [] rest)) (sym (add-one file.before) ∙ sym (hn small));
+            ∙ ap (λ (t : Bool). read.ended ++ entries_from file.before (cond t (read.begun ∷ lines_from [] rest) (lines_from (read.begun ++ (b ∷ [])) rest))) (eq-eqb b 10 feed)
+            ∙ sym (append_assoc read.ended more (entries_from (suc file.before) (lines_from [] rest)))
+            ∙ ap (λ (m : ℕ). (read.ended ++ more) ++ entries_from m (lines_from [] rest)) (sym (add-one file.before) ∙ sym (hn small));
       }
 
 -- ---- many bytes
@@ -124,10 +124,10 @@ reads_all {file₀} {file} {l} {i} reads h front short read = subst (λ (m : Lis
 -- ---- the end
 
 pub ends-file : (file : SheetFile) {held : SheetEntries} → Ends file.entries file.line file.before held
-    → (bytes : List ℕ) → length bytes < 2 ^ 63 → HasRead bytes file → HoldsEntries (fileEntries bytes) held
-unfolding lines_from entriesFrom
+    → (bytes : List ℕ) → length bytes < 2 ^ 63 → HasRead bytes file → HoldsEntries (file_entries bytes) held
+unfolding lines_from entries_from
 ends-file file {held} ends bytes h read =
-    let more = entryOn file.before (trimmed read.begun) in
-    let all : fileEntries bytes ≡ read.ended ++ more =
-    ap fileEntries (sym (append-nil bytes)) ∙ read.whole [] ∙ ap (λ (l : List Entry). read.ended ++ l) (append-nil more) in
+    let more = entry_on file.before (trimmed read.begun) in
+    let all : file_entries bytes ≡ read.ended ++ more =
+    ap file_entries (sym (append-nil bytes)) ∙ read.whole [] ∙ ap (λ (l : List Entry). read.ended ++ l) (append-nil more) in
     subst (λ (l : List Entry). HoldsEntries l held) (sym all) (ends read.ended read.begun (omega (arith, read.before, h)) read.entries read.line)

@@ -12,37 +12,37 @@ use lib.Seq.{get_or-append-add}
 use Rattle.laws.proofs.Fill.{upto-more}
 use Rattle.laws.proofs.Tabulate.{is-tabulate}
 use Rattle.notation.specs.declared.PsnText.TheVariants.{NoNumber}
-use Rattle.notation.specs.Psn.{psnOf}
+use Rattle.notation.specs.Psn.{psn_of}
 use Rattle.notation.proofs.Digits.{another-length}
 use Rattle.sheet_file.specs.declared.Line.{Line}
-use Rattle.sheet_file.specs.File.{isWhite, trimmedTo, trimmed}
-use Rattle.sheet_file.specs.steps.Reading.{shownPsn, HoldsLine}
+use Rattle.sheet_file.specs.File.{is_white, trimmed_to, trimmed}
+use Rattle.sheet_file.specs.steps.Reading.{shown_psn, HoldsLine}
 
 -- ---- white bytes
 
 module _ (b : ℕ) where
-  pub white-9 : b ≡ 9 → true ≡ isWhite b
+  pub white-9 : b ≡ 9 → true ≡ is_white b
   white-9 e = rw (eq-eqb b 9 e)
 
-  pub white-13 : (b ≡ 9 → ⊥) → b ≡ 13 → true ≡ isWhite b
+  pub white-13 : (b ≡ 9 → ⊥) → b ≡ 13 → true ≡ is_white b
   white-13 h e = rw (ne_eqb b 9 h, eq-eqb b 13 e)
 
-  pub white-32 : (b ≡ 9 → ⊥) → (b ≡ 13 → ⊥) → eqb b 32 ≡ isWhite b
+  pub white-32 : (b ≡ 9 → ⊥) → (b ≡ 13 → ⊥) → eqb b 32 ≡ is_white b
   white-32 h i = rw (ne_eqb b 9 h, ne_eqb b 13 i)
 
 -- ---- what stands on a line
 
 -- a byte more
-trimmed-more : (l : List ℕ) (b : ℕ) → trimmed (l ++ (b ∷ [])) ≡ cond (isWhite b) (trimmed l) (l ++ (b ∷ []))
+trimmed-more : (l : List ℕ) (b : ℕ) → trimmed (l ++ (b ∷ [])) ≡ cond (is_white b) (trimmed l) (l ++ (b ∷ []))
 unfolding trimmed
 trimmed-more [] b = refl
-trimmed-more (c ∷ l) b = ap (trimmedTo c) (trimmed-more l b) ∙ by (isWhite b)
+trimmed-more (c ∷ l) b = ap (trimmed_to c) (trimmed-more l b) ∙ by (is_white b)
   where
-    front : (l : List ℕ) → trimmedTo c (l ++ (b ∷ [])) ≡ c ∷ (l ++ (b ∷ []))
+    front : (l : List ℕ) → trimmed_to c (l ++ (b ∷ [])) ≡ c ∷ (l ++ (b ∷ []))
     front [] = refl
     front (d ∷ l) = refl
 
-    by : (t : Bool) → trimmedTo c (cond t (trimmed l) (l ++ (b ∷ []))) ≡ cond t (trimmedTo c (trimmed l)) (c ∷ (l ++ (b ∷ [])))
+    by : (t : Bool) → trimmed_to c (cond t (trimmed l) (l ++ (b ∷ []))) ≡ cond t (trimmed_to c (trimmed l)) (c ∷ (l ++ (b ∷ [])))
     by true = refl
     by false = front l
 
@@ -57,8 +57,8 @@ trimmed-at (b ∷ l) k h = by (trimmed l) (trimmed-at l) k h
     white false zero h = refl
     white false (suc k) h = absurd (not-suc-le-zero (le_of_suc-le-suc h))
 
-    by : (t : List ℕ) → ((k : ℕ) → k < length t → get_or t k 0 ≡ get_or l k 0) → (k : ℕ) → k < length (trimmedTo b t) → get_or (trimmedTo b t) k 0 ≡ get_or (b ∷ l) k 0
-    by [] rest k h = white (isWhite b) k h
+    by : (t : List ℕ) → ((k : ℕ) → k < length t → get_or t k 0 ≡ get_or l k 0) → (k : ℕ) → k < length (trimmed_to b t) → get_or (trimmed_to b t) k 0 ≡ get_or (b ∷ l) k 0
+    by [] rest k h = white (is_white b) k h
     by (c ∷ t) rest zero h = refl
     by (c ∷ t) rest (suc k) h = rest k (le_of_suc-le-suc h)
 
@@ -71,24 +71,24 @@ trimmed-short (b ∷ l) = by (trimmed l) (trimmed-short l)
     white true = omega arith
     white false = omega arith
 
-    by : (t : List ℕ) → length t ≤ length l → length (trimmedTo b t) ≤ suc (length l)
-    by [] h = white (isWhite b)
+    by : (t : List ℕ) → length t ≤ length l → length (trimmed_to b t) ≤ suc (length l)
+    by [] h = white (is_white b)
     by (c ∷ t) h = omega arith
 
 -- ---- a line that is being read
 
 -- t is whether the byte is white
-module _ (b size longer : ℕ) {t : Bool} (h : t ≡ isWhite b) where
-  pub size-white : t ≡ true → size ≡ cond (isWhite b) size longer
+module _ (b size longer : ℕ) {t : Bool} (h : t ≡ is_white b) where
+  pub size-white : t ≡ true → size ≡ cond (is_white b) size longer
   size-white e = ap (λ (t : Bool). cond t size longer) (sym e ∙ h)
 
-  pub size-other : t ≡ false → longer ≡ cond (isWhite b) size longer
+  pub size-other : t ≡ false → longer ≡ cond (is_white b) size longer
   size-other e = ap (λ (t : Bool). cond t size longer) (sym e ∙ h)
 
 -- the size with a byte more, of which the old size and the whole length are known
-size-more : (begun : List ℕ) (b size longer r : ℕ) → size ≡ min 9 (length (trimmed begun)) → longer ≡ min 9 (suc (length begun)) → r ≡ cond (isWhite b) size longer
+size-more : (begun : List ℕ) (b size longer r : ℕ) → size ≡ min 9 (length (trimmed begun)) → longer ≡ min 9 (suc (length begun)) → r ≡ cond (is_white b) size longer
     → r ≡ min 9 (length (trimmed (begun ++ (b ∷ []))))
-size-more begun b size longer r hs hl hr = hr ∙ by (isWhite b) ∙ sym (ap (λ (l : List ℕ). min 9 (length l)) (trimmed-more begun b))
+size-more begun b size longer r hs hl hr = hr ∙ by (is_white b) ∙ sym (ap (λ (l : List ℕ). min 9 (length l)) (trimmed-more begun b))
   where
     by : (t : Bool) → cond t size longer ≡ min 9 (length (cond t (trimmed begun) (begun ++ (b ∷ []))))
     by true = hs
@@ -99,7 +99,7 @@ module _ (line : Line) (b r : ℕ) (begun : List ℕ) (holds : HoldsLine begun l
   longer = omega (arith, length-append begun (b ∷ []))
 
   -- the eight bytes are there already
-  pub line-full : 8 ≤ line.held → r ≡ cond (isWhite b) line.size 9 → HoldsLine (begun ++ (b ∷ [])) (record { text = line.text; held = line.held; size = r })
+  pub line-full : 8 ≤ line.held → r ≡ cond (is_white b) line.size 9 → HoldsLine (begun ++ (b ∷ [])) (record { text = line.text; held = line.held; size = r })
   line-full h hr =
       let whole : 8 ≤ length begun = omega (arith, h, holds.held) in
       record {
@@ -110,7 +110,7 @@ module _ (line : Line) (b r : ℕ) (begun : List ℕ) (holds : HoldsLine begun l
       }
 
   -- they are not
-  pub line-more : line.held < 8 → r ≡ cond (isWhite b) line.size (line.held + 1)
+  pub line-more : line.held < 8 → r ≡ cond (is_white b) line.size (line.held + 1)
       → HoldsLine (begun ++ (b ∷ [])) (record { text = set line.text line.held b; held = line.held + 1; size = r })
   line-more h hr =
       record {
@@ -137,18 +137,18 @@ module _ (line : Line) (b r : ℕ) (begun : List ℕ) (holds : HoldsLine begun l
           ).below k (omega (arith, within, longer, all))
 
 -- the PSN that is shown is that of what stands on the line
-pub line-psn : {begun : List ℕ} {line : Line} → HoldsLine begun line → shownPsn line.text line.size ≡ psnOf (trimmed begun)
+pub line-psn : {begun : List ℕ} {line : Line} → HoldsLine begun line → shown_psn line.text line.size ≡ psn_of (trimmed begun)
 line-psn {begun} {line} holds = by (eqb (length (trimmed begun)) 8) refl
   where
     at : length (trimmed begun) ≡ 8 → (k : ℕ) → k < 8 → get_or line.text k 0 ≡ get_or (trimmed begun) k 0
     at e k lt = holds.bytes k lt (omega (arith, e, lt, trimmed-short begun)) ∙ sym (trimmed-at begun k (omega (arith, e, lt)))
 
-    by : (t : Bool) → eqb (length (trimmed begun)) 8 ≡ t → shownPsn line.text line.size ≡ psnOf (trimmed begun)
+    by : (t : Bool) → eqb (length (trimmed begun)) 8 ≡ t → shown_psn line.text line.size ≡ psn_of (trimmed begun)
     by true t =
         let e = eqb-true (length (trimmed begun)) 8 t in
-        ap (λ (u : Bool). cond u (psnOf line.text) NoNumber) (eq-eqb line.size 8 (omega (arith, holds.size, e)))
-        ∙ ap psnOf (is-tabulate 0 8 (λ k. get_or (trimmed begun) k 0) line.text holds.room (at e) ∙ sym (is-tabulate 0 8 (λ k. get_or (trimmed begun) k 0) (trimmed begun) e (λ k _. refl)))
+        ap (λ (u : Bool). cond u (psn_of line.text) NoNumber) (eq-eqb line.size 8 (omega (arith, holds.size, e)))
+        ∙ ap psn_of (is-tabulate 0 8 (λ k. get_or (trimmed begun) k 0) line.text holds.room (at e) ∙ sym (is-tabulate 0 8 (λ k. get_or (trimmed begun) k 0) (trimmed begun) e (λ k _. refl)))
     by false t =
         let other = eqb-false (length (trimmed begun)) 8 t in
-        ap (λ (u : Bool). cond u (psnOf line.text) NoNumber) (ne_eqb line.size 8 (λ e. other (omega (arith, holds.size, e))))
+        ap (λ (u : Bool). cond u (psn_of line.text) NoNumber) (ne_eqb line.size 8 (λ e. other (omega (arith, holds.size, e))))
         ∙ another-length (trimmed begun) other

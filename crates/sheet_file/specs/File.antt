@@ -1,10 +1,10 @@
 -- A sheet as a file (document 02, W-211): a PSN a line, eight hexadecimal digits; blank lines are passed over.
 use Rattle.std.specs.Prelude.{Bool, true, false, cond, ◌||◌, List, [], ◌∷◌, ◌++◌, ℕ, suc, eqb, length, get_or}
 use Rattle.answer.specs.declared.Answer.{Answer}
-use Rattle.address_sheet.specs.Sheet.{sheetAnswer}
+use Rattle.address_sheet.specs.Sheet.{sheet_answer}
 use Rattle.notation.specs.declared.PsnText.{PsnText}
 use Rattle.notation.specs.declared.PsnText.TheVariants.{Number, NoNumber}
-use Rattle.notation.specs.Psn.{psnOf}
+use Rattle.notation.specs.Psn.{psn_of}
 
 -- ---- lines
 
@@ -14,17 +14,17 @@ lines_from begun [] = begun ∷ []
 lines_from begun (b ∷ text) = cond (eqb b 10) (begun ∷ lines_from [] text) (lines_from (begun ++ (b ∷ [])) text)
 
 -- a tab, a carriage return, a space
-abbrev pub isWhite : ℕ → Bool
-isWhite b = eqb b 9 || (eqb b 13 || eqb b 32)
+abbrev pub is_white : ℕ → Bool
+is_white b = eqb b 9 || (eqb b 13 || eqb b 32)
 
-abbrev pub trimmedTo : ℕ → List ℕ → List ℕ
-trimmedTo b [] = cond (isWhite b) [] (b ∷ [])
-trimmedTo b (c ∷ rest) = b ∷ (c ∷ rest)
+abbrev pub trimmed_to : ℕ → List ℕ → List ℕ
+trimmed_to b [] = cond (is_white b) [] (b ∷ [])
+trimmed_to b (c ∷ rest) = b ∷ (c ∷ rest)
 
 -- what stands on a line: white bytes at its end do not count; nothing on a blank one
 unfoldable pub trimmed : List ℕ → List ℕ
 trimmed [] = []
-trimmed (b ∷ line) = trimmedTo b (trimmed line)
+trimmed (b ∷ line) = trimmed_to b (trimmed line)
 
 -- ---- entries: the lines that are not blank
 
@@ -33,17 +33,17 @@ pub record Entry : Type 0 where
   pub before : ℕ
   pub text : List ℕ
 
-abbrev pub entryOn : ℕ → List ℕ → List Entry
-entryOn n [] = []
-entryOn n (b ∷ text) = record { before = n; text = b ∷ text } ∷ []
+abbrev pub entry_on : ℕ → List ℕ → List Entry
+entry_on n [] = []
+entry_on n (b ∷ text) = record { before = n; text = b ∷ text } ∷ []
 
 -- of lines before which n stand
-unfoldable pub entriesFrom : ℕ → List (List ℕ) → List Entry
-entriesFrom n [] = []
-entriesFrom n (line ∷ lines) = entryOn n (trimmed line) ++ entriesFrom (suc n) lines
+unfoldable pub entries_from : ℕ → List (List ℕ) → List Entry
+entries_from n [] = []
+entries_from n (line ∷ lines) = entry_on n (trimmed line) ++ entries_from (suc n) lines
 
-abbrev pub fileEntries : List ℕ → List Entry
-fileEntries bytes = entriesFrom 0 (lines_from [] bytes)
+abbrev pub file_entries : List ℕ → List Entry
+file_entries bytes = entries_from 0 (lines_from [] bytes)
 
 -- lines are counted from 1
 abbrev pub line_of : Entry → ℕ
@@ -58,20 +58,20 @@ number_in (Number psn) = psn.0
 number_in NoNumber = 0
 
 -- the line of the first entry that is no PSN, 0 where there is none
-unfoldable pub wrongLine : List Entry → ℕ
-wrongLine [] = 0
-wrongLine (entry ∷ rest) = cond (is_number (psnOf entry.text)) (wrongLine rest) (line_of entry)
+unfoldable pub wrong_line : List Entry → ℕ
+wrong_line [] = 0
+wrong_line (entry ∷ rest) = cond (is_number (psn_of entry.text)) (wrong_line rest) (line_of entry)
 
-abbrev pub fileEntry : List Entry → ℕ → Entry
-fileEntry list i = get_or list i (record { before = 0; text = [] })
+abbrev pub file_entry : List Entry → ℕ → Entry
+file_entry list i = get_or list i (record { before = 0; text = [] })
 
 -- PSN and line of entry i
-abbrev pub psnAt : List Entry → ℕ → ℕ
-psnAt list i = number_in (psnOf (fileEntry list i).text)
+abbrev pub psn_at : List Entry → ℕ → ℕ
+psn_at list i = number_in (psn_of (file_entry list i).text)
 
 abbrev pub line_at : List Entry → ℕ → ℕ
-line_at list i = line_of (fileEntry list i)
+line_at list i = line_of (file_entry list i)
 
 -- what is answered of the sheet, where every entry is a PSN
-abbrev pub fileAnswer : List ℕ → Answer
-fileAnswer bytes = sheetAnswer (length (fileEntries bytes)) (psnAt (fileEntries bytes))
+abbrev pub file_answer : List ℕ → Answer
+file_answer bytes = sheet_answer (length (file_entries bytes)) (psn_at (file_entries bytes))

@@ -1,7 +1,7 @@
 // The steps: a line, the entries, a file.
 ghost use Rattle.std.specs.Prelude.{◌≡◌, cond, List, [], ◌∷◌, ◌++◌, ℕ, ◌+◌, ◌^◌, ◌<◌, ◌≤◌, length};
-ghost use Rattle.sheet_file.specs.File.{isWhite, trimmed, Entry, entryOn, fileEntries};
-ghost use Rattle.sheet_file.specs.steps.Reading.{shownPsn, wrongAfter, HoldsLine, HoldsEntries, IsEntry, HasRead};
+ghost use Rattle.sheet_file.specs.File.{is_white, trimmed, Entry, entry_on, file_entries};
+ghost use Rattle.sheet_file.specs.steps.Reading.{shown_psn, wrong_after, HoldsLine, HoldsEntries, IsEntry, HasRead};
 
 use crate::{Line, SheetEntries, SheetFile};
 use address::Psn;
@@ -10,7 +10,7 @@ use notation::PsnText;
 // ---- a line
 
 fn is_white(byte: u8) -> bool
-    ensures { result ≡ isWhite byte }
+    ensures { result ≡ is_white byte }
 {
     if byte == 9 {
         return true;
@@ -32,7 +32,7 @@ fn no_line() -> Line
 }
 
 fn size_after(byte: u8, size: usize, longer: usize) -> usize
-    ensures { result ≡ cond (isWhite byte) size longer }
+    ensures { result ≡ cond (is_white byte) size longer }
 {
     if is_white(byte) {
         return size;
@@ -63,7 +63,7 @@ fn add_byte(line: Line, byte: u8) -> Line
 
 // The PSN on a line of this size.
 fn psn_on(text: [u8; 8], size: usize) -> PsnText
-    ensures { result ≡ shownPsn text size }
+    ensures { result ≡ shown_psn text size }
 {
     if size != 8 {
         return PsnText::NoNumber;
@@ -96,7 +96,7 @@ fn one_more(n: usize) -> usize
 
 // The first line that is no PSN, where this one may be.
 fn wrong_after(wrong: usize, right: bool, line: usize) -> usize
-    ensures { result ≡ wrongAfter wrong line right }
+    ensures { result ≡ wrong_after wrong line right }
 {
     if wrong != 0 {
         return wrong;
@@ -136,7 +136,7 @@ fn add_entry(entries: SheetEntries, psn: Psn, right: bool, line: usize) -> Sheet
 // A line ends, before which so many stand: an entry, unless it is blank.
 fn end_line(entries: SheetEntries, line: Line, before: usize) -> SheetEntries
     ensures { (list : List Entry) (begun : List ℕ) → before < 2 ^ 63 → HoldsEntries list entries → HoldsLine begun line
-        → HoldsEntries (list ++ entryOn before (trimmed begun)) result }
+        → HoldsEntries (list ++ entry_on before (trimmed begun)) result }
 {
     let size = line.size;
     let text = line.text;
@@ -200,7 +200,7 @@ pub fn read(file: SheetFile, bytes: &[u8]) -> SheetFile
 
 // The file ends: its entries.
 pub fn finish(file: SheetFile) -> SheetEntries
-    ensures { (bytes : List ℕ) → length bytes < 2 ^ 63 → HasRead bytes file → HoldsEntries (fileEntries bytes) result }
+    ensures { (bytes : List ℕ) → length bytes < 2 ^ 63 → HasRead bytes file → HoldsEntries (file_entries bytes) result }
 {
     let line = file.line;
     let entries = file.entries;

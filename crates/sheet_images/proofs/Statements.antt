@@ -3,7 +3,7 @@ use mathlib.Core.Path.{◌≡◌, refl, sym, ◌∙◌}
 use mathlib.Core.Bool.{false}
 use Prim.Native.Nat.{ℕ, ◌<◌}
 use Rattle.answer.specs.declared.Answer.TheVariants.{Done}
-use Rattle.address_sheet.specs.Sheet.{sheetAnswer}
+use Rattle.address_sheet.specs.Sheet.{sheet_answer}
 use Rattle.address_sheet.specs.Promise.{RightSheet}
 use Rattle.address_sheet.proofs.Statements.{sheet-iff}
 use Rattle.image.specs.Image.{Input}
@@ -11,7 +11,7 @@ use Rattle.image.proofs.Demand3.{Same, images-equal, equal-images}
 use Rattle.image.proofs.Statements.{zeros, zeros-accepted}
 use Rattle.sheet_images.specs.Images.{ClusterOf, ImagesApart}
 
-module _ (count : ℕ) (psn : ℕ → ℕ) (accepted : sheetAnswer count psn ≡ Done) where
+module _ (count : ℕ) (psn : ℕ → ℕ) (accepted : sheet_answer count psn ≡ Done) where
   right : RightSheet count psn
   right = (sheet-iff count psn).0 accepted
 

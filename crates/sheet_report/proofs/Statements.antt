@@ -14,57 +14,57 @@ use Rattle.answer.specs.Answer.{number_of, place_of}
 use Rattle.answer.proofs.Tests.{number-zero}
 use Rattle.address_sheet.proofs.Statements.{sheet-iff}
 use Rattle.texts.specs.declared.Text.{Text}
-use Rattle.texts.specs.Text.{the, text_of, blankText}
-use Rattle.texts.specs.Numbers.{decimalTo, decimal}
+use Rattle.texts.specs.Text.{the, text_of, blank_text}
+use Rattle.texts.specs.Numbers.{decimal_to, decimal}
 use Rattle.texts.proofs.Distinct.{decimal-digits, split, decimal-same, text_same}
 use Rattle.report.specs.Words.{meaning}
 use Rattle.report.proofs.Statements.{number_small}
-use Rattle.sheet_file.specs.File.{fileEntries, wrongLine, psnAt, line_at, fileAnswer}
+use Rattle.sheet_file.specs.File.{file_entries, wrong_line, psn_at, line_at, file_answer}
 use Rattle.sheet_report.specs.declared.SheetSaid.{SheetSaid}
-use Rattle.sheet_report.specs.Said.{lineWords, sheetText, fileSaid, RightFile}
+use Rattle.sheet_report.specs.Said.{line_words, sheet_text, file_said, RightFile}
 
 -- the number stands before the first space
-zero-text : (a : Answer) (line : ℕ) → sheetText a line ≡ the "0 0\n" → a ≡ Done
-unfolding sheetText decimalTo
+zero-text : (a : Answer) (line : ℕ) → sheet_text a line ≡ the "0 0\n" → a ≡ Done
+unfolding sheet_text decimal_to
 zero-text a line e =
-    let rest = decimal (place_of a) ++ the "\n" ++ lineWords a line ++ meaning a in
-    let same : decimal (number_of a) ++ (32 ∷ rest) ≡ sheetText a line = simp append_assoc in
+    let rest = decimal (place_of a) ++ the "\n" ++ line_words a line ++ meaning a in
+    let same : decimal (number_of a) ++ (32 ∷ rest) ≡ sheet_text a line = simp append_assoc in
     let number = (split (decimal-digits 20 (number_of a)) (decimal-digits 20 0) 32 32 rest (the "0\n") (omega arith) (omega arith) (same ∙ e)).0 in
     number-zero a (decimal-same 20 (number_of a) 0 (number_small a) (omega arith) number)
 
-text-zero : (a : Answer) (line : ℕ) → a ≡ Done → sheetText a line ≡ the "0 0\n"
-unfolding sheetText decimalTo
-text-zero a line e = ap (λ (x : Answer). sheetText x line) e
+text-zero : (a : Answer) (line : ℕ) → a ≡ Done → sheet_text a line ≡ the "0 0\n"
+unfolding sheet_text decimal_to
+text-zero a line e = ap (λ (x : Answer). sheet_text x line) e
 
 module _ (bytes : List ℕ) where
   line : ℕ
-  line = line_at (fileEntries bytes) (place_of (fileAnswer bytes))
+  line = line_at (file_entries bytes) (place_of (file_answer bytes))
 
   -- what is printed where t says whether every line is
   abbrev printed : Bool → Text
-  printed t = cond t (text_of (sheetText (fileAnswer bytes) line)) blankText
+  printed t = cond t (text_of (sheet_text (file_answer bytes) line)) blank_text
 
-  is-printed : (fileSaid bytes).text ≡ printed (eqb (wrongLine (fileEntries bytes)) 0)
-  unfolding fileSaid line
-  is-printed = by (eqb (wrongLine (fileEntries bytes)) 0)
+  is-printed : (file_said bytes).text ≡ printed (eqb (wrong_line (file_entries bytes)) 0)
+  unfolding file_said line
+  is-printed = by (eqb (wrong_line (file_entries bytes)) 0)
     where
-      by : (t : Bool) → (cond {A = SheetSaid} t (record { wrong = 0; text = printed true }) (record { wrong = wrongLine (fileEntries bytes); text = blankText })).text ≡ printed t
+      by : (t : Bool) → (cond {A = SheetSaid} t (record { wrong = 0; text = printed true }) (record { wrong = wrong_line (file_entries bytes); text = blank_text })).text ≡ printed t
       by true = refl
       by false = refl
 
-  only : (t : Bool) → eqb (wrongLine (fileEntries bytes)) 0 ≡ t → printed t ≡ text_of (the "0 0\n") → RightFile bytes
-  unfolding text_of blankText
+  only : (t : Bool) → eqb (wrong_line (file_entries bytes)) 0 ≡ t → printed t ≡ text_of (the "0 0\n") → RightFile bytes
+  unfolding text_of blank_text
   only true t e =
-      let done = zero-text (fileAnswer bytes) line (text_same (sheetText (fileAnswer bytes) line) (the "0 0\n") e) in
-      (eqb-true (wrongLine (fileEntries bytes)) 0 t, (sheet-iff (length (fileEntries bytes)) (psnAt (fileEntries bytes))).0 done)
+      let done = zero-text (file_answer bytes) line (text_same (sheet_text (file_answer bytes) line) (the "0 0\n") e) in
+      (eqb-true (wrong_line (file_entries bytes)) 0 t, (sheet-iff (length (file_entries bytes)) (psn_at (file_entries bytes))).0 done)
   only false t e = let none : ◌≡◌ {A = ℕ} 0 4 = ap (λ (x : Text). x.size) e in absurd (omega arith)
 
   -- `0 0` IS PRINTED FOR AN ACCEPTED SHEET ALONE
-  pub zero-only : ((fileSaid bytes).text ≡ text_of (the "0 0\n")) ↔ RightFile bytes
+  pub zero-only : ((file_said bytes).text ≡ text_of (the "0 0\n")) ↔ RightFile bytes
   zero-only = (
-    λ e. only (eqb (wrongLine (fileEntries bytes)) 0) refl (sym is-printed ∙ e),
+    λ e. only (eqb (wrong_line (file_entries bytes)) 0) refl (sym is-printed ∙ e),
     λ right.
         is-printed
-        ∙ ap printed (eq-eqb (wrongLine (fileEntries bytes)) 0 right.0)
-        ∙ ap text_of (text-zero (fileAnswer bytes) line ((sheet-iff (length (fileEntries bytes)) (psnAt (fileEntries bytes))).1 right.1)),
+        ∙ ap printed (eq-eqb (wrong_line (file_entries bytes)) 0 right.0)
+        ∙ ap text_of (text-zero (file_answer bytes) line ((sheet-iff (length (file_entries bytes)) (psn_at (file_entries bytes))).1 right.1)),
   )

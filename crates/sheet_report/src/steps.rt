@@ -2,7 +2,7 @@
 ghost use Rattle.std.specs.Prelude.{◌≡◌, List, ℕ, ◌^◌, ◌<◌, length, get_or};
 ghost use Rattle.texts.specs.Text.{added, text_of};
 ghost use Rattle.sheet_file.specs.steps.Reading.{HasRead};
-ghost use Rattle.sheet_report.specs.Said.{namesEntry, lineWords, sheetText, fileSaid};
+ghost use Rattle.sheet_report.specs.Said.{names_entry, line_words, sheet_text, file_said};
 
 use crate::SheetSaid;
 use answer::Answer;
@@ -12,7 +12,7 @@ use texts::{Text, blank, put_decimal, put_piece};
 
 // Whether an answer's place is an entry.
 fn names_entry(answer: Answer) -> bool
-    ensures { result ≡ namesEntry answer }
+    ensures { result ≡ names_entry answer }
 {
     let number = answer.number();
     if number == 6 {
@@ -26,7 +26,7 @@ fn names_entry(answer: Answer) -> bool
 
 // The entry's line.
 fn put_line(text: Text, answer: Answer, line: usize) -> Text
-    ensures { result ≡ added text (lineWords answer line) }
+    ensures { result ≡ added text (line_words answer line) }
 {
     if names_entry(answer) {
         return put_piece(text, b"line *: ", 0, line);
@@ -35,7 +35,7 @@ fn put_line(text: Text, answer: Answer, line: usize) -> Text
 }
 
 fn sheet_text(answer: Answer, line: usize) -> Text
-    ensures { result ≡ text_of (sheetText answer line) }
+    ensures { result ≡ text_of (sheet_text answer line) }
 {
     let numbered = put_decimal(blank(), answer.number() as u64);
     let placed = put_piece(numbered, b" *\n", 0, answer.place());
@@ -55,7 +55,7 @@ fn line_at(lines: [usize; address_sheet::SHEET], i: usize) -> usize
 
 // What is said of a file that was read to its end.
 pub fn said(file: SheetFile) -> SheetSaid
-    ensures { (bytes : List ℕ) → length bytes < 2 ^ 63 → HasRead bytes file → result ≡ fileSaid bytes }
+    ensures { (bytes : List ℕ) → length bytes < 2 ^ 63 → HasRead bytes file → result ≡ file_said bytes }
 {
     let entries = sheet_file::steps::finish(file);
     let psns = entries.psns;

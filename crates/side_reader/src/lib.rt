@@ -1,14 +1,16 @@
 // The side data of a BIS block.
+#![tactic(auto)]
+
 ghost use Rattle.std.specs.Prelude.{◌≡◌, ◌<◌};
-ghost use Rattle.bis.specs.Reading.{sideByteIn, sideOut};
-ghost use Rattle.sizes.specs.Sizes.{sideSize};
+ghost use Rattle.bis.specs.Reading.{side_byte_in, side_out};
+ghost use Rattle.sizes.specs.Sizes.{side_size};
 
 use bis::Block;
 
 // Byte k of the side data.
 fn side_byte(block: &Block, k: usize) -> u8
-    requires { k < sideSize }
-    ensures { result ≡ sideByteIn block.now k }
+    requires { k < side_size }
+    ensures { result ≡ side_byte_in block.now k }
 {
     if k < 16 {
         let primary = bis_fields::steps::primary_in(block, k);
@@ -19,7 +21,7 @@ fn side_byte(block: &Block, k: usize) -> u8
 
 // The flag bytes and the user control data; a slice that is not 592 long is left as it was.
 pub fn side_data(block: Block, side: &mut [u8])
-    ensures { side.new ≡ sideOut block side.old }
+    ensures { side.new ≡ side_out block side.old }
 {
     if side.len() != sizes::SIDE {
         return;

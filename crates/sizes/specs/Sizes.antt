@@ -2,37 +2,37 @@
 use Rattle.std.specs.Prelude.{ℕ}
 
 -- the user data of a cluster, in bytes
-abbrev pub userSize : ℕ
-userSize = 65536
+abbrev pub user_size : ℕ
+user_size = 65536
 
 -- the side data, in bytes: 16 flag bytes and 576 bytes of user control data
-abbrev pub sideSize : ℕ
-sideSize = 592
+abbrev pub side_size : ℕ
+side_size = 592
 
 -- the recording frames of a cluster: as many rows has the ECC cluster, and as many dc words there are
-abbrev pub frameCount : ℕ
-frameCount = 496
+abbrev pub frame_count : ℕ
+frame_count = 496
 
 -- the dc words as bytes, four each
-abbrev pub dcSize : ℕ
-dcSize = 1984
+abbrev pub dc_size : ℕ
+dc_size = 1984
 
 -- a row of the ECC cluster, in bytes
-abbrev pub rowSize : ℕ
-rowSize = 155
+abbrev pub row_size : ℕ
+row_size = 155
 
 -- the ECC cluster, in bytes: the work slice
-abbrev pub workSize : ℕ
-workSize = 76880
+abbrev pub work_size : ℕ
+work_size = 76880
 
 -- a modulated frame with its sync, in bits
-abbrev pub frameSize : ℕ
-frameSize = 1932
+abbrev pub frame_size : ℕ
+frame_size = 1932
 
 -- the frames of a cluster, in bits
-abbrev pub recordingSize : ℕ
-recordingSize = 958272
+abbrev pub recording_size : ℕ
+recording_size = 958272
 
 -- the image, in bytes
-abbrev pub imageSize : ℕ
-imageSize = 119788
+abbrev pub image_size : ℕ
+image_size = 119788

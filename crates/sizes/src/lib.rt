@@ -1,4 +1,5 @@
 // Document 01's sizes, each named once; the definitions have them in specs/Sizes.
+#![tactic(auto)]
 
 // The user data of a cluster, in bytes.
 pub const USER: usize = 65536;

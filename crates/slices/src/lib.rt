@@ -1,4 +1,6 @@
 // Slices of plain numbers: cleared, copied. `steps` is for the crates of this repository.
+#![tactic(auto)]
+
 pub mod steps;
 
 ghost use Rattle.std.specs.Prelude.{◌≡◌, length};

@@ -1,7 +1,7 @@
 // The tests first; then the lent slices are filled, or work is cleared.
 ghost use Rattle.std.specs.Prelude.{◌≡◌, length};
-ghost use Rattle.sizes.specs.Sizes.{frameCount, sideSize, userSize, workSize};
-ghost use Rattle.strict_cluster.specs.steps.Given.{Given, clusterOutcome};
+ghost use Rattle.sizes.specs.Sizes.{frame_count, side_size, user_size, work_size};
+ghost use Rattle.strict_cluster.specs.steps.Given.{Given, cluster_outcome};
 
 use address::{Psn, PsnAnswer};
 use answer::Answer;
@@ -17,7 +17,7 @@ fn give(
     side: &mut [u8],
     dc: &mut [u32],
 )
-    requires { ((length work.now ≡ workSize) × (length user.old ≡ userSize)) × ((length side.old ≡ sideSize) × ((length stream.now ≡ 2052) × ((length words.now ≡ frameCount) × (length dc.old ≡ frameCount)))) }
+    requires { ((length work.now ≡ work_size) × (length user.old ≡ user_size)) × ((length side.old ≡ side_size) × ((length stream.now ≡ 2052) × ((length words.now ≡ frame_count) × (length dc.old ≡ frame_count)))) }
     ensures { Given work.now block stream.now words.now user.new side.new dc.new }
 {
     user_reader::steps::user_bytes(work, stream, user);
@@ -34,9 +34,9 @@ pub fn read(
     side: &mut [u8],
     dc: &mut [u32],
 ) -> PsnAnswer
-    requires { ((length work.old ≡ workSize) × (length user.old ≡ userSize)) × ((length side.old ≡ sideSize) × ((length words.now ≡ frameCount) × (length dc.old ≡ frameCount))) }
+    requires { ((length work.old ≡ work_size) × (length user.old ≡ user_size)) × ((length side.old ≡ side_size) × ((length words.now ≡ frame_count) × (length dc.old ≡ frame_count))) }
     ensures { record { answer = result.answer; psn = result.psn.0; lent = record { user = user.exit.now; side = side.new; dc = dc.new; work = work.new } }
-        ≡ clusterOutcome before work.old words.now (record { user = user.entry.now; side = side.old; dc = dc.old; work = work.old }) }
+        ≡ cluster_outcome before work.old words.now (record { user = user.entry.now; side = side.old; dc = dc.old; work = work.old }) }
 {
     let block = bis_cluster::steps::bis_block(work);
     let tested = cluster_tests::steps::test(before, work, block);

@@ -1,4 +1,6 @@
 // The tally of document 01: how often each gap length occurs in the frame that standard input gives.
+#![tactic(auto)]
+
 use libc::STDIN_FILENO;
 
 // One byte more than the input has, so that a longer input is noticed.

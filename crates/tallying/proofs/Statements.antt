@@ -6,10 +6,10 @@ use native.Mathlib.Omega.{arith}
 use lib.ListN.{get_or}
 use Rattle.texts.specs.Text.{the}
 use Rattle.gaps.specs.declared.Tally.{Tally}
-use Rattle.tallying.specs.Table.{rows_from, tallyText}
+use Rattle.tallying.specs.Table.{rows_from, tally_text}
 
-pub table-only : (tally : Tally) → get_or (tallyText tally) 0 0 ≡ 103 → tally.accepted ≡ true
-unfolding tallyText
+pub table-only : (tally : Tally) → get_or (tally_text tally) 0 0 ≡ 103 → tally.accepted ≡ true
+unfolding tally_text
 table-only tally e = by tally.accepted e
   where
     by : (t : Bool) → get_or (cond t (the "gap count\n" ++ rows_from 1 tally.counts) (the "refused\n")) 0 0 ≡ 103 → t ≡ true

@@ -9,17 +9,17 @@ use borrow.Author.Tests.{lt-ltb}
 use lib.ListN.{length, length-append, get_or, drop}
 use lib.Seq.{drop-cons, drop-length}
 use Rattle.texts.specs.declared.Text.{Text}
-use Rattle.texts.specs.Text.{the, text_of, blankText, added}
-use Rattle.texts.specs.Numbers.{decimalTo, decimal}
+use Rattle.texts.specs.Text.{the, text_of, blank_text, added}
+use Rattle.texts.specs.Numbers.{decimal_to, decimal}
 use Rattle.texts.proofs.Texts.{added-two, from-blank}
 use Rattle.texts.proofs.Numbers.{decimal-short}
 use Rattle.gaps.specs.declared.Tally.{Tally}
-use Rattle.tallying.specs.Table.{row, rows_from, tallyText}
+use Rattle.tallying.specs.Table.{row, rows_from, tally_text}
 
 -- ---- it has room
 
 one-digit : (n : ℕ) → n < 10 → length (decimal n) ≡ 1
-unfolding decimalTo
+unfolding decimal_to
 one-digit n h = simp (lt-ltb _ _ h)
 
 rows_short : (n : ℕ) (counts : List ℕ) → n + length counts ≤ 10 → length (rows_from n counts) ≤ 23 * length counts
@@ -29,8 +29,8 @@ rows_short n (x ∷ counts) h =
     let one : length (decimal n) ≡ 1 = one-digit n (omega arith) in
     simp length-append (omega (arith, decimal-short 20 x, rows_short (suc n) counts (omega arith)))
 
-pub tally-short : (tally : Tally) → length tally.counts ≡ 8 → length (tallyText tally) ≤ 256
-unfolding tallyText
+pub tally-short : (tally : Tally) → length tally.counts ≡ 8 → length (tally_text tally) ≤ 256
+unfolding tally_text
 tally-short tally h = by tally.accepted (rows_short 1 tally.counts (omega arith))
   where
     by : (t : Bool) → length (rows_from 1 tally.counts) ≤ 23 * length tally.counts → length (cond t (the "gap count\n" ++ rows_from 1 tally.counts) (the "refused\n")) ≤ 256
@@ -69,18 +69,18 @@ rows_all {text} {counts} {done} {k} r h =
     let e : k ≡ length counts = omega (arith, r.size, r.within) in
     sym (ap (λ (l : List ℕ). added done (rows_from (k + 1) l)) (ap (λ (j : ℕ). drop j counts) e ∙ drop-length counts)) ∙ r.rest
 
-pub table_is : (tally : Tally) (b t u : Text) → length tally.counts ≡ 8 → tally.accepted ≡ true → b ≡ blankText → t ≡ added b (the "gap count\n")
-    → u ≡ added t (rows_from 1 tally.counts) → u ≡ text_of (tallyText tally)
-unfolding tallyText
+pub table_is : (tally : Tally) (b t u : Text) → length tally.counts ≡ 8 → tally.accepted ≡ true → b ≡ blank_text → t ≡ added b (the "gap count\n")
+    → u ≡ added t (rows_from 1 tally.counts) → u ≡ text_of (tally_text tally)
+unfolding tally_text
 table_is tally b t u size given hb ht hu =
-    let same : the "gap count\n" ++ rows_from 1 tally.counts ≡ tallyText tally = simp given in
-    from-blank (tallyText tally) u (tally-short tally size) (added-two b (the "gap count\n") (rows_from 1 tally.counts) t u ht hu ∙ ap₂ added hb same)
+    let same : the "gap count\n" ++ rows_from 1 tally.counts ≡ tally_text tally = simp given in
+    from-blank (tally_text tally) u (tally-short tally size) (added-two b (the "gap count\n") (rows_from 1 tally.counts) t u ht hu ∙ ap₂ added hb same)
 
-pub refusal_is : (tally : Tally) (b t : Text) → tally.accepted ≡ false → b ≡ blankText → t ≡ added b (the "refused\n") → t ≡ text_of (tallyText tally)
-unfolding tallyText
+pub refusal_is : (tally : Tally) (b t : Text) → tally.accepted ≡ false → b ≡ blank_text → t ≡ added b (the "refused\n") → t ≡ text_of (tally_text tally)
+unfolding tally_text
 refusal_is tally b t given hb ht =
-    let same : the "refused\n" ≡ tallyText tally = simp given in
-    from-blank (tallyText tally) t (rw (sym same) (omega arith)) (ht ∙ ap₂ added hb same)
+    let same : the "refused\n" ≡ tally_text tally = simp given in
+    from-blank (tally_text tally) t (rw (sym same) (omega arith)) (ht ∙ ap₂ added hb same)
 
-pub tally-is : (a b : Tally) (t : Text) → a ≡ b → t ≡ text_of (tallyText a) → t ≡ text_of (tallyText b)
-tally-is a b t e h = h ∙ ap (λ (x : Tally). text_of (tallyText x)) e
+pub tally-is : (a b : Tally) (t : Text) → a ≡ b → t ≡ text_of (tally_text a) → t ≡ text_of (tally_text b)
+tally-is a b t e h = h ∙ ap (λ (x : Tally). text_of (tally_text x)) e

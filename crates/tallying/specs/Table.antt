@@ -12,5 +12,5 @@ unfoldable pub rows_from : ℕ → List ℕ → List ℕ
 rows_from n [] = []
 rows_from n (x ∷ counts) = row n x ++ rows_from (suc n) counts
 
-unfoldable pub tallyText : Tally → List ℕ
-tallyText tally = cond tally.accepted (the "gap count\n" ++ rows_from 1 tally.counts) (the "refused\n")
+unfoldable pub tally_text : Tally → List ℕ
+tally_text tally = cond tally.accepted (the "gap count\n" ++ rows_from 1 tally.counts) (the "refused\n")

@@ -1,8 +1,10 @@
 // What the tally program prints, as bytes: how often each gap length occurs in the frame that its input gives.
+#![tactic(auto)]
+
 ghost use Rattle.std.specs.Prelude.{◌≡◌};
 ghost use Rattle.texts.specs.Text.{added, text_of};
 ghost use Rattle.frame_gaps.specs.Tally.{tallied};
-ghost use Rattle.tallying.specs.Table.{row, rows_from, tallyText};
+ghost use Rattle.tallying.specs.Table.{row, rows_from, tally_text};
 
 use gaps::Tally;
 use texts::{Text, blank, put, put_decimal, put_piece};
@@ -30,7 +32,7 @@ fn put_rows(text: Text, counts: [u32; 8]) -> Text
 
 // The counts of an accepted input, one to a line, or `refused`.
 pub fn tally_text(tally: Tally) -> Text
-    ensures { result ≡ text_of (tallyText tally) }
+    ensures { result ≡ text_of (tally_text tally) }
 {
     let accepted = tally.accepted;
     let counts = tally.counts;
@@ -42,7 +44,7 @@ pub fn tally_text(tally: Tally) -> Text
 
 // The whole of it.
 pub fn tally(input: &[u8]) -> Text
-    ensures { result ≡ text_of (tallyText (tallied input.now)) }
+    ensures { result ≡ text_of (tally_text (tallied input.now)) }
 {
     let tally = frame_gaps::tally_of(input);
     tally_text(tally)

@@ -1,4 +1,6 @@
 // Whole clusters for the tests: what an image is made of, the image, and the ECC cluster; loaded, drawn and compared.
+#![tactic(auto)]
+
 pub mod cut;
 pub mod files;
 pub mod marks;
@@ -6,7 +8,7 @@ pub mod marks;
 use test_bytes::{draws, lent};
 use test_support::{compare, lines};
 
-#[derive(Drop)]
+#[derive(Clone, Copy)]
 pub struct Cluster {
     pub user: [u8; 65536],
     pub side: [u8; 592],

@@ -12,16 +12,16 @@ use lib.ListN.{length, length-append}
 use Rattle.io.specs.Digits.{last_digits, hex_digit_ascii, IsDigitCount}
 use Rattle.texts.specs.declared.Text.{Text}
 use Rattle.texts.specs.Text.{added}
-use Rattle.texts.specs.Numbers.{decimalTo, decimal, hexadecimal}
+use Rattle.texts.specs.Numbers.{decimal_to, decimal, hexadecimal}
 
-pub decimal-short : (k n : ℕ) → length (decimalTo k n) ≤ k
-unfolding decimalTo
+pub decimal-short : (k n : ℕ) → length (decimal_to k n) ≤ k
+unfolding decimal_to
 decimal-short zero n = omega arith
 decimal-short (suc k) n = by (ltb n 10) (decimal-short k (n / 10))
   where
-    by : (t : Bool) → length (decimalTo k (n / 10)) ≤ k → length (cond t ((48 + n) ∷ []) (decimalTo k (n / 10) ++ ((48 + n % 10) ∷ []))) ≤ suc k
+    by : (t : Bool) → length (decimal_to k (n / 10)) ≤ k → length (cond t ((48 + n) ∷ []) (decimal_to k (n / 10) ++ ((48 + n % 10) ∷ []))) ≤ suc k
     by true h = omega arith
-    by false h = omega (arith, length-append (decimalTo k (n / 10)) ((48 + n % 10) ∷ []))
+    by false h = omega (arith, length-append (decimal_to k (n / 10)) ((48 + n % 10) ∷ []))
 
 pub length-hexadecimal : (n : ℕ) → length (hexadecimal n) ≡ 8
 unfolding hexadecimal
@@ -49,8 +49,8 @@ tens n k few =
     let less : suc k - 1 ≡ k = omega arith in
     (omega arith, (omega arith, omega arith, λ h. rw less (omega arith)))
 
-decimal-is : (k f n : ℕ) → k ≤ f → IsDigitCount 10 1 n k → last_digits 10 k n ≡ decimalTo f n
-unfolding decimalTo
+decimal-is : (k f n : ℕ) → k ≤ f → IsDigitCount 10 1 n k → last_digits 10 k n ≡ decimal_to f n
+unfolding decimal_to
 decimal-is zero f n h few = absurd (omega (arith, few.0))
 decimal-is (suc k) zero n h few = absurd (omega arith)
 decimal-is (suc zero) (suc f) n h few =
@@ -58,7 +58,7 @@ decimal-is (suc zero) (suc f) n h few =
     simp (lt-ltb _ _ small) (ap (λ (d : ℕ). d ∷ []) (one-digit n small))
 decimal-is (suc (suc k)) (suc f) n h few =
     let more = tens n k few in
-    let front : last_digits 10 (suc k) (n / 10) ≡ decimalTo f (n / 10) = decimal-is (suc k) f (n / 10) (omega arith) more.1 in
+    let front : last_digits 10 (suc k) (n / 10) ≡ decimal_to f (n / 10) = decimal-is (suc k) f (n / 10) (omega arith) more.1 in
     simp (le-ltb _ _ more.0) (ap₂ (λ (l : List ℕ) (d : ℕ). l ++ (d ∷ [])) front (last-digit n))
 
 -- ---- how many digits there are

@@ -10,7 +10,7 @@ use lib.Dec.{eqb}
 use lib.ListN.{length, get_or, drop}
 use lib.Seq.{drop-cons, drop-length}
 use Rattle.texts.specs.declared.Text.{Text}
-use Rattle.texts.specs.Text.{byteAdded, added}
+use Rattle.texts.specs.Text.{byte_added, added}
 use Rattle.texts.specs.Numbers.{decimal}
 use Rattle.texts.specs.Pieces.{shown, piece, PieceBehind}
 use Rattle.texts.proofs.Texts.{added_more}
@@ -58,7 +58,7 @@ module _ {l : List ℕ} {k i bars : ℕ} (p : PieceBehind l k i bars) where
 pub shown-number : (text t : Text) (n b : ℕ) → b ≡ 42 → t ≡ added text (decimal n) → t ≡ added text (shown n b)
 shown-number text t n b e h = h ∙ rw (eq-eqb b 42 e)
 
-pub shown-byte : (text t : Text) (n b : ℕ) → (b ≡ 42 → ⊥) → t ≡ byteAdded text b → t ≡ added text (shown n b)
+pub shown-byte : (text t : Text) (n b : ℕ) → (b ≡ 42 → ⊥) → t ≡ byte_added text b → t ≡ added text (shown n b)
 unfolding added
 shown-byte text t n b e h = h ∙ rw (ne_eqb b 42 e)
 

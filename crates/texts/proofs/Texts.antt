@@ -9,16 +9,16 @@ use lib.ListN.{length, set, get_or, drop, length-append}
 use lib.Seq.{drop-cons, drop-length}
 use Rattle.texts.specs.declared.Text.{Text}
 use Rattle.laws.specs.Zeros.{zeros}
-use Rattle.texts.specs.Text.{text_of, blankText, byteAdded, added}
+use Rattle.texts.specs.Text.{text_of, blank_text, byte_added, added}
 
 -- ---- one byte
 
-pub push-none : (text : Text) (b : ℕ) → 256 ≤ text.size → text ≡ byteAdded text b
-unfolding byteAdded
+pub push-none : (text : Text) (b : ℕ) → 256 ≤ text.size → text ≡ byte_added text b
+unfolding byte_added
 push-none text b h = simp (le-ltb _ _ h)
 
-pub push-one : (text : Text) (b : ℕ) → text.size < 256 → record { bytes = set text.bytes text.size b; size = text.size + 1 } ≡ byteAdded text b
-unfolding byteAdded
+pub push-one : (text : Text) (b : ℕ) → text.size < 256 → record { bytes = set text.bytes text.size b; size = text.size + 1 } ≡ byte_added text b
+unfolding byte_added
 push-one text b h = simp (lt-ltb _ _ h)
 
 -- ---- several
@@ -26,7 +26,7 @@ push-one text b h = simp (lt-ltb _ _ h)
 pub added_more : (text : Text) (a b : List ℕ) → added (added text a) b ≡ added text (a ++ b)
 unfolding added
 added_more text [] b = refl
-added_more text (x ∷ a) b = added_more (byteAdded text x) a b
+added_more text (x ∷ a) b = added_more (byte_added text x) a b
 
 -- two pieces, and three
 pub added-two : (text : Text) (a b : List ℕ) (t u : Text) → t ≡ added text a → u ≡ added t b → u ≡ added text (a ++ b)
@@ -43,7 +43,7 @@ pub record Behind (text : Text) (more : List ℕ) (done : Text) (i : ℕ) : Type
 pub behind-none : (text : Text) (more : List ℕ) → Behind text more text 0
 behind-none text more = record { within = omega arith; rest = refl }
 
-pub behind_more : {text : Text} {more : List ℕ} {done next : Text} {i : ℕ} → Behind text more done i → i < length more → next ≡ byteAdded done (get_or more i 0)
+pub behind_more : {text : Text} {more : List ℕ} {done next : Text} {i : ℕ} → Behind text more done i → i < length more → next ≡ byte_added done (get_or more i 0)
     → Behind text more next (i + 1)
 unfolding added
 behind_more {text} {more} {done} {next} {i} b h e = record {
@@ -65,8 +65,8 @@ set-behind [] b n = refl
 set-behind (x ∷ a) b n = ap (λ (l : List ℕ). x ∷ l) (set-behind a b n)
 
 -- a byte behind a text
-pushed-text : (a : List ℕ) (b : ℕ) → length a < 256 → byteAdded (text_of a) b ≡ text_of (a ++ (b ∷ []))
-unfolding byteAdded text_of
+pushed-text : (a : List ℕ) (b : ℕ) → length a < 256 → byte_added (text_of a) b ≡ text_of (a ++ (b ∷ []))
+unfolding byte_added text_of
 pushed-text a b h =
     let size : length (a ++ (b ∷ [])) ≡ length a + 1 = length-append a (b ∷ []) in
     let room : 256 - length a ≡ suc (256 - (length a + 1)) = omega arith in
@@ -83,6 +83,6 @@ added-text a (b ∷ more) h =
     ∙ ap text_of (append_assoc a (b ∷ []) more)
 
 -- what is put behind nothing
-pub from-blank : (bytes : List ℕ) (t : Text) → length bytes ≤ 256 → t ≡ added blankText bytes → t ≡ text_of bytes
-unfolding blankText text_of
+pub from-blank : (bytes : List ℕ) (t : Text) → length bytes ≤ 256 → t ≡ added blank_text bytes → t ≡ text_of bytes
+unfolding blank_text text_of
 from-blank bytes t h e = e ∙ added-text [] bytes (omega arith)

@@ -16,13 +16,13 @@ text_of bytes = record { bytes = bytes ++ zeros (256 - length bytes); size = len
 
 -- ---- how a text is made
 
-unfoldable pub blankText : Text
-blankText = record { bytes = zeros 256; size = 0 }
+unfoldable pub blank_text : Text
+blank_text = record { bytes = zeros 256; size = 0 }
 
 -- a byte more; one for which there is no room is left out
-unfoldable pub byteAdded : Text → ℕ → Text
-byteAdded text b = cond (ltb text.size 256) (record { bytes = set text.bytes text.size b; size = text.size + 1 }) text
+unfoldable pub byte_added : Text → ℕ → Text
+byte_added text b = cond (ltb text.size 256) (record { bytes = set text.bytes text.size b; size = text.size + 1 }) text
 
 unfoldable pub added : Text → List ℕ → Text
 added text [] = text
-added text (b ∷ more) = added (byteAdded text b) more
+added text (b ∷ more) = added (byte_added text b) more

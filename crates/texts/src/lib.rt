@@ -1,18 +1,20 @@
 // Texts of at most 256 bytes, put together of bytes and numbers.
+#![tactic(auto)]
+
 ghost use Rattle.std.specs.Prelude.{◌≡◌, cond, ◌-◌, ◌<◌, eqb};
-ghost use Rattle.texts.specs.Text.{blankText, byteAdded, added};
+ghost use Rattle.texts.specs.Text.{blank_text, byte_added, added};
 ghost use Rattle.texts.specs.Numbers.{decimal, hexadecimal};
 ghost use Rattle.texts.specs.Pieces.{shown, piece, PieceBehind};
 
 // The first `size` bytes; the others are 0.
-#[derive(Drop)]
+#[derive(Clone, Copy)]
 pub struct Text {
     pub bytes: [u8; 256],
     pub size: usize,
 }
 
 pub fn blank() -> Text
-    ensures { result ≡ blankText }
+    ensures { result ≡ blank_text }
 {
     Text {
         bytes: [0u8; 256],
@@ -22,7 +24,7 @@ pub fn blank() -> Text
 
 // A byte more, where there is room.
 fn push(text: Text, byte: u8) -> Text
-    ensures { result ≡ byteAdded text byte }
+    ensures { result ≡ byte_added text byte }
 {
     let size = text.size;
     if 256 <= size {

@@ -1,14 +1,14 @@
 // A row and a dc word out of words of 46 bits.
 ghost use Rattle.std.specs.Prelude.{◌≡◌, ◌<◌, length};
-ghost use Rattle.frame_bits.specs.FrameBits.{rowFrom, dcFrom};
+ghost use Rattle.frame_bits.specs.FrameBits.{row_from, dc_from};
 ghost use Rattle.frame_bits.specs.steps.Slices.{FiveBytes};
-ghost use Rattle.modulation.specs.steps.Words.{bitsIn, Words};
-ghost use Rattle.sizes.specs.Sizes.{rowSize};
+ghost use Rattle.modulation.specs.steps.Words.{bits_in, Words};
+ghost use Rattle.sizes.specs.Sizes.{row_size};
 
 // The five bytes of a frame's row at 5 m, as a number: 40 of the 45 data bits from 40 m on, out of two words. 35184372088832 is 2^45.
 fn five_in(words: &[u64; 29], m: usize) -> u64
     requires { Words words.now × (m < 31) }
-    ensures { FiveBytes (rowFrom (bitsIn words.now)) m result }
+    ensures { FiveBytes (row_from (bits_in words.now)) m result }
 {
     let p = 40 * m + 20;
     let i = p / 45;
@@ -18,8 +18,8 @@ fn five_in(words: &[u64; 29], m: usize) -> u64
 
 // The row of a frame.
 pub fn row_in(words: &[u64; 29], row: &mut [u8])
-    requires { Words words.now × (length row.old ≡ rowSize) }
-    ensures { row.new ≡ rowFrom (bitsIn words.now) }
+    requires { Words words.now × (length row.old ≡ row_size) }
+    ensures { row.new ≡ row_from (bits_in words.now) }
 {
     let mut m = 0;
     while m < 31 {
@@ -36,7 +36,7 @@ pub fn row_in(words: &[u64; 29], row: &mut [u8])
 // The dc word of a frame.
 pub fn dc_in(words: &[u64; 29]) -> u32
     requires { Words words.now }
-    ensures { result ≡ dcFrom (bitsIn words.now) }
+    ensures { result ≡ dc_from (bits_in words.now) }
 {
     let mut dc = 0;
     let mut i = 0;

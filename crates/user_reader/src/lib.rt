@@ -1,2 +1,4 @@
 // The user bytes of an ECC cluster. `steps` is for the crates of this repository.
+#![tactic(auto)]
+
 pub mod steps;

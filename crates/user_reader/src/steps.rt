@@ -1,13 +1,13 @@
 // Four data frames at a time: a pass that unscrambles.
 ghost use Rattle.std.specs.Prelude.{◌≡◌, length};
-ghost use Rattle.cluster.specs.Reading.{userIn};
-ghost use Rattle.ldc_words.specs.steps.Eighth.{userOf};
-ghost use Rattle.sizes.specs.Sizes.{workSize, userSize};
+ghost use Rattle.cluster.specs.Reading.{user_in};
+ghost use Rattle.ldc_words.specs.steps.Eighth.{user_of};
+ghost use Rattle.sizes.specs.Sizes.{work_size, user_size};
 
 // The user bytes of four data frames.
 fn unscramble_users(frames: &[u8], stream: &[u8], user: &mut [u8])
     requires { (length frames.now ≡ 8208) × ((length stream.now ≡ 2052) × (length user.old ≡ 8192)) }
-    ensures { user.new ≡ userOf stream.now frames.now }
+    ensures { user.new ≡ user_of stream.now frames.now }
 {
     let mut f = 0;
     while f < 4 {
@@ -22,8 +22,8 @@ fn unscramble_users(frames: &[u8], stream: &[u8], user: &mut [u8])
 
 // The user bytes of a cluster.
 pub fn user_bytes(work: &[u8], stream: &[u8], user: &mut [u8])
-    requires { (length work.now ≡ workSize) × ((length stream.now ≡ 2052) × (length user.old ≡ userSize)) }
-    ensures { user.new ≡ userIn stream.now work.now }
+    requires { (length work.now ≡ work_size) × ((length stream.now ≡ 2052) × (length user.old ≡ user_size)) }
+    ensures { user.new ≡ user_in stream.now work.now }
 {
     let mut frames = ldc_words::steps::no_frames();
     let mut e = 0;

@@ -11,19 +11,19 @@ kind_of (OtherPsn psn) = 2
 kind_of (OtherUser n) = 3
 kind_of (OtherSide n) = 4
 
-abbrev pub refusalIn : Verdict → ℕ
-refusalIn Pass = 0
-refusalIn (Refused a) = number_of a
-refusalIn (OtherPsn psn) = 0
-refusalIn (OtherUser n) = 0
-refusalIn (OtherSide n) = 0
+abbrev pub refusal_in : Verdict → ℕ
+refusal_in Pass = 0
+refusal_in (Refused a) = number_of a
+refusal_in (OtherPsn psn) = 0
+refusal_in (OtherUser n) = 0
+refusal_in (OtherSide n) = 0
 
-abbrev pub ownPsn : Verdict → ℕ
-ownPsn Pass = 0
-ownPsn (Refused a) = 0
-ownPsn (OtherPsn psn) = psn.0
-ownPsn (OtherUser n) = 0
-ownPsn (OtherSide n) = 0
+abbrev pub own_psn : Verdict → ℕ
+own_psn Pass = 0
+own_psn (Refused a) = 0
+own_psn (OtherPsn psn) = psn.0
+own_psn (OtherUser n) = 0
+own_psn (OtherSide n) = 0
 
 abbrev pub place_in : Verdict → ℕ
 place_in Pass = 0

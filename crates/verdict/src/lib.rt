@@ -1,12 +1,14 @@
 // The marker's verdict on an image, and as numbers for a caller in another language.
+#![tactic(auto)]
+
 ghost use Rattle.std.specs.Prelude.{◌≡◌};
-ghost use Rattle.verdict.specs.Verdict.{kind_of, refusalIn, ownPsn, place_in};
+ghost use Rattle.verdict.specs.Verdict.{kind_of, refusal_in, own_psn, place_in};
 
 use address::Psn;
 use answer::Answer;
 
 // Document 01 has no number for it; `Refused` carries the reader's answer.
-#[derive(Drop)]
+#[derive(Clone, Copy)]
 pub enum Verdict {
     Pass,
     // The reader's answer; or 1 or 2, where the given user bytes or side data have another length.
@@ -33,7 +35,7 @@ impl Verdict {
 
     // The answer's number.
     pub fn refusal(self) -> u32
-        ensures { result ≡ refusalIn self }
+        ensures { result ≡ refusal_in self }
     {
         match self {
             Verdict::Pass => 0,
@@ -45,7 +47,7 @@ impl Verdict {
     }
 
     pub fn own_psn(self) -> u32
-        ensures { result ≡ ownPsn self }
+        ensures { result ≡ own_psn self }
     {
         match self {
             Verdict::Pass => 0,

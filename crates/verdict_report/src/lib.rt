@@ -1,7 +1,9 @@
 // What the programs print for a verdict, as bytes.
+#![tactic(auto)]
+
 ghost use Rattle.std.specs.Prelude.{◌≡◌};
 ghost use Rattle.texts.specs.Text.{text_of};
-ghost use Rattle.report.specs.Words.{verdictText};
+ghost use Rattle.report.specs.Words.{verdict_text};
 
 use answer_report::answer_text;
 use psn_report::steps::psn_behind;
@@ -10,7 +12,7 @@ use verdict::Verdict;
 
 // `pass`, or the first difference, or a refusal's answer.
 pub fn verdict_text(verdict: Verdict) -> Text
-    ensures { result ≡ text_of (verdictText verdict) }
+    ensures { result ≡ text_of (verdict_text verdict) }
 {
     match verdict {
         Verdict::Pass => put(blank(), b"pass\n"),

@@ -2,10 +2,10 @@
 ghost use Rattle.std.specs.Prelude.{◌≡◌, ◌+◌, ◌*◌, ◌-◌, ◌/◌, ◌%◌, ◌^◌, ◌<◌, length, get_or};
 ghost use Rattle.bits.specs.Bits.{bits_of};
 ghost use Rattle.modulation.specs.Bits.{pairs};
-ghost use Rattle.frame_bits.specs.FrameBits.{frameBits};
+ghost use Rattle.frame_bits.specs.FrameBits.{frame_bits};
 ghost use Rattle.frame_bits.specs.steps.Words.{Word, GroupData, SixteenFrom, SixteenOn, bit_of, LastTwo};
-ghost use Rattle.modulation.specs.steps.Words.{bitsIn, Words};
-ghost use Rattle.sizes.specs.Sizes.{rowSize};
+ghost use Rattle.modulation.specs.steps.Words.{bits_in, Words};
+ghost use Rattle.sizes.specs.Sizes.{row_size};
 
 // Four bytes of a row, from byte i on.
 fn four_bytes(row: &[u8], i: usize) -> u64
@@ -28,7 +28,7 @@ fn eight_bytes(row: &[u8], i: usize) -> u64
 
 // The data bits of group i, which end at bit 45 i + 25 of the row. 35184372088832 is 2^45.
 fn group_data(row: &[u8], i: usize) -> u64
-    requires { (length row.now ≡ rowSize) × (i < 28) }
+    requires { (length row.now ≡ row_size) × (i < 28) }
     ensures { GroupData row.now i result }
 {
     if i == 0 {
@@ -49,8 +49,8 @@ fn dc_bit(dc: u32, i: usize) -> u64
 
 // The words of the frame with a row's bytes and a dc word.
 pub fn frame_words(row: &[u8], dc: u32, words: &mut [u64; 29])
-    requires { (length row.now ≡ rowSize) × Words words.old }
-    ensures { Words words.new × (bitsIn words.new ≡ frameBits row.now dc) }
+    requires { (length row.now ≡ row_size) × Words words.old }
+    ensures { Words words.new × (bits_in words.new ≡ frame_bits row.now dc) }
 {
     let mut i = 0;
     while i < 28 {
@@ -63,7 +63,7 @@ pub fn frame_words(row: &[u8], dc: u32, words: &mut [u64; 29])
 // is 2^30.
 pub fn sixteen_at(words: &[u64; 29], place: usize) -> usize
     requires { Words words.now × SixteenFrom place }
-    ensures { Word 16 (λ j. get_or (bitsIn words.now) j 0) (bit_of place - 20) result }
+    ensures { Word 16 (λ j. get_or (bits_in words.now) j 0) (bit_of place - 20) result }
 {
     let i = place / 64;
     let off = place % 64;
@@ -84,7 +84,7 @@ pub fn sixteen_on(place: usize) -> usize
 // The last four bits of the frame.
 pub fn last_two(words: &[u64; 29]) -> usize
     requires { Words words.now }
-    ensures { LastTwo (pairs (bitsIn words.now)) result }
+    ensures { LastTwo (pairs (bits_in words.now)) result }
 {
     (words[27] % 16) as usize
 }

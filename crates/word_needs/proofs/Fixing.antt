@@ -14,7 +14,7 @@ use Rattle.laws.specs.Same.{same}
 use Rattle.laws.proofs.Same.{same_true, same_refl}
 use Rattle.laws.proofs.Booleans.{and_left, and_right, and-true}
 use Rattle.modulation.specs.Modulation.{Two, d00, d01, d10, d11}
-use Rattle.word_needs.specs.Needed.{wordBits, every, fixedBy, needed}
+use Rattle.word_needs.specs.Needed.{word_bits, every, fixed_by, needed}
 use Rattle.word_needs.specs.Promise.{Fixes, Needs}
 
 -- ---- every list of n pairs
@@ -30,56 +30,56 @@ module _ (p q r s : Bool) where
   four-all e f g h = and-true p (q && (r && s)) e (and-true q (r && s) f (and-true r s g h))
 
 module _ (n : ℕ) (passes : List Two → Bool) where
-  everyBehind : Two → Bool
-  everyBehind d = every n (λ l. passes (d ∷ l))
+  every_behind : Two → Bool
+  every_behind d = every n (λ l. passes (d ∷ l))
 
-  fronts : every (suc n) passes ≡ true → (d : Two) → everyBehind d ≡ true
-  unfolding every everyBehind
-  fronts e d00 = (all-four (everyBehind d00) (everyBehind d01) (everyBehind d10) (everyBehind d11) e).0
-  fronts e d01 = (all-four (everyBehind d00) (everyBehind d01) (everyBehind d10) (everyBehind d11) e).1
-  fronts e d10 = (all-four (everyBehind d00) (everyBehind d01) (everyBehind d10) (everyBehind d11) e).2
-  fronts e d11 = (all-four (everyBehind d00) (everyBehind d01) (everyBehind d10) (everyBehind d11) e).3
+  fronts : every (suc n) passes ≡ true → (d : Two) → every_behind d ≡ true
+  unfolding every every_behind
+  fronts e d00 = (all-four (every_behind d00) (every_behind d01) (every_behind d10) (every_behind d11) e).0
+  fronts e d01 = (all-four (every_behind d00) (every_behind d01) (every_behind d10) (every_behind d11) e).1
+  fronts e d10 = (all-four (every_behind d00) (every_behind d01) (every_behind d10) (every_behind d11) e).2
+  fronts e d11 = (all-four (every_behind d00) (every_behind d01) (every_behind d10) (every_behind d11) e).3
 
 pub every-at : (n : ℕ) (passes : List Two → Bool) → every n passes ≡ true → (l : List Two) → length l ≡ n → passes l ≡ true
-unfolding every everyBehind
+unfolding every every_behind
 every-at zero passes e [] h = e
 every-at zero passes e (d ∷ l) h = absurd (omega arith)
 every-at (suc n) passes e [] h = absurd (omega arith)
 every-at (suc n) passes e (d ∷ l) h = every-at n (λ l. passes (d ∷ l)) (fronts n passes e d) l (omega arith)
 
 pub every_of : (n : ℕ) (passes : List Two → Bool) → ((l : List Two) → length l ≡ n → passes l ≡ true) → every n passes ≡ true
-unfolding every everyBehind
+unfolding every every_behind
 every_of zero passes each = each [] refl
 every_of (suc n) passes each =
     let of : (d : Two) → every n (λ l. passes (d ∷ l)) ≡ true = λ d. every_of n (λ l. passes (d ∷ l)) (λ l h. each (d ∷ l) (ap suc h)) in
-    four-all (everyBehind n passes d00) (everyBehind n passes d01) (everyBehind n passes d10) (everyBehind n passes d11) (of d00) (of d01) (of d10) (of d11)
+    four-all (every_behind n passes d00) (every_behind n passes d01) (every_behind n passes d10) (every_behind n passes d11) (of d00) (of d01) (of d10) (of d11)
 
 -- ---- the test of a number of pairs
 
 module _ (b : Bool) (ds : List Two) where
   tried : ℕ → List Two → Bool
-  tried k more = same (wordBits b (take k ds ++ more)) (wordBits b ds)
+  tried k more = same (word_bits b (take k ds ++ more)) (word_bits b ds)
 
-  fixes-test : (k : ℕ) → k ≤ length ds → Fixes b ds k → fixedBy b ds k ≡ true
-  unfolding fixedBy tried
+  fixes-test : (k : ℕ) → k ≤ length ds → Fixes b ds k → fixed_by b ds k ≡ true
+  unfolding fixed_by tried
   fixes-test k h f = every_of (length ds - k) (tried k) each
     where
       each : (more : List Two) → length more ≡ length ds - k → tried k more ≡ true
       each more e =
           let front : length (take k ds) ≡ k = length-take-le k ds h in
-          subst (λ (l : List ℕ). same l (wordBits b ds) ≡ true)
+          subst (λ (l : List ℕ). same l (word_bits b ds) ≡ true)
           (sym (f.same_bits (take k ds ++ more) (omega (arith, length-append (take k ds) more)) (take_at (take k ds) more k front)))
-          (same_refl (wordBits b ds))
+          (same_refl (word_bits b ds))
 
-  test-fixes : (k : ℕ) → k ≤ length ds → fixedBy b ds k ≡ true → Fixes b ds k
-  unfolding fixedBy tried
+  test-fixes : (k : ℕ) → k ≤ length ds → fixed_by b ds k ≡ true → Fixes b ds k
+  unfolding fixed_by tried
   test-fixes k h t = record { same_bits = λ es long front. at es long front }
     where
-      at : (es : List Two) → length es ≡ length ds → take k es ≡ take k ds → wordBits b es ≡ wordBits b ds
+      at : (es : List Two) → length es ≡ length ds → take k es ≡ take k ds → word_bits b es ≡ word_bits b ds
       at es long front =
           let whole : take k ds ++ drop k es ≡ es = ap (λ (l : List Two). l ++ drop k es) (sym front) ∙ take-append-drop k es in
-          ap (wordBits b) (sym whole)
-          ∙ same_true (wordBits b (take k ds ++ drop k es)) (wordBits b ds)
+          ap (word_bits b) (sym whole)
+          ∙ same_true (word_bits b (take k ds ++ drop k es)) (word_bits b ds)
           (every-at (length ds - k) (tried k) t (drop k es) (omega (arith, length-drop k es)))
 
   -- all that is left fixes the word
@@ -87,7 +87,7 @@ module _ (b : Bool) (ds : List Two) where
   all-fix =
       record {
         same_bits = λ es long front.
-            ap (wordBits b) (sym (take_all (length ds) es (omega arith)) ∙ front ∙ take_all (length ds) ds (omega arith));
+            ap (word_bits b) (sym (take_all (length ds) es (omega arith)) ∙ front ∙ take_all (length ds) ds (omega arith));
       }
 
   -- more pairs fix it, too
@@ -103,20 +103,20 @@ module _ (b : Bool) (ds : List Two) where
   pub needed-is : Needs b ds (needed b ds)
   unfolding needed
   needed-is =
-      elim (dec_lt (first (length ds) (fixedBy b ds)) (length ds)) [
+      elim (dec_lt (first (length ds) (fixed_by b ds)) (length ds)) [
         | yes h ↦
-            let found = first_holds (length ds) (fixedBy b ds) h in
+            let found = first_holds (length ds) (fixed_by b ds) h in
             record {
               fixes = test-fixes _ (omega arith) found.0;
               least = λ j below f. false≢true (sym (found.1.fails j below) ∙ fixes-test j (omega arith) f);
             }
         | no h ↦
-            let past : length ds ≤ first (length ds) (fixedBy b ds) = omega arith in
-            let end : first (length ds) (fixedBy b ds) ≡ length ds = ended (length ds) (fixedBy b ds) past in
+            let past : length ds ≤ first (length ds) (fixed_by b ds) = omega arith in
+            let end : first (length ds) (fixed_by b ds) ≡ length ds = ended (length ds) (fixed_by b ds) past in
             record {
               fixes = subst (Fixes b ds) (sym end) all-fix;
               least = λ j below f.
-                  false≢true (sym (first-all (length ds) (fixedBy b ds) past j (omega arith)) ∙ fixes-test j (omega arith) f);
+                  false≢true (sym (first-all (length ds) (fixed_by b ds) past j (omega arith)) ∙ fixes-test j (omega arith) f);
             }
       ]
 

@@ -8,26 +8,26 @@ use native.Mathlib.Omega.{arith}
 use lib.ListN.{length, length-append, replicate, length-replicate}
 use Rattle.laws.specs.Same.{same}
 use Rattle.laws.proofs.Same.{same_refl}
-use Rattle.modulation.specs.Modulation.{Two, d00, d01, d10, d11, Row, row_at, startsWith010, modulateFrom, modulate}
+use Rattle.modulation.specs.Modulation.{Two, d00, d01, d10, d11, Row, row_at, starts_with010, modulate_from, modulate}
 use Rattle.modulation.specs.Machine.{Wait, w, w00, w0000, w000000, w000010, w11, w1101, w110111, w11011100, w1101110000, waiting}
 use Rattle.modulation.specs.Bits.{bits}
 use Rattle.modulation.proofs.Machine.{next-000000, next-000010, next-11}
-use Rattle.word_needs.specs.Needed.{rowTaken, wordBits}
-use Rattle.word_needs.specs.steps.Walk.{Told, wait, word_of, told, sizeAtEnd}
+use Rattle.word_needs.specs.Needed.{row_taken, word_bits}
+use Rattle.word_needs.specs.steps.Walk.{Told, wait, word_of, told, size_at_end}
 
 -- ---- pairs that fix the row
 
 -- whatever follows l, the row is the same, of m pairs
 pub record Fixed (l : List Two) (m : ℕ) : Type 0 where
   pub row : Bool → Row
-  pub taken : (b : Bool) (more : List Two) → rowTaken b (l ++ more) ≡ row b
+  pub taken : (b : Bool) (more : List Two) → row_taken b (l ++ more) ≡ row b
   pub size : (b : Bool) → length (row b).pairs ≡ m
 
 longer : {l : List Two} {m : ℕ} → Fixed l m → (k : List Two) → Fixed (l ++ k) m
 longer {l} f k =
     record {
       row = f.row;
-      taken = λ b more. ap (rowTaken b) (append_assoc l k more) ∙ f.taken b (k ++ more);
+      taken = λ b more. ap (row_taken b) (append_assoc l k more) ∙ f.taken b (k ++ more);
       size = f.size;
     }
 
@@ -35,36 +35,36 @@ abbrev row-11 : Bool → Row
 row-11 b = cond b (row_at 12) (row_at 13)
 
 -- a row that the bit before does not choose
-always-row : {l : List Two} {m : ℕ} (k : ℕ) → ((b : Bool) (more : List Two) → rowTaken b (l ++ more) ≡ row_at k) → length (row_at k).pairs ≡ m → Fixed l m
+always-row : {l : List Two} {m : ℕ} (k : ℕ) → ((b : Bool) (more : List Two) → row_taken b (l ++ more) ≡ row_at k) → length (row_at k).pairs ≡ m → Fixed l m
 always-row k taken size = record { row = λ b. row_at k; taken = taken; size = λ b. size }
 
-row-of-11 : {l : List Two} → ((b : Bool) (more : List Two) → rowTaken b (l ++ more) ≡ row-11 b) → Fixed l 1
+row-of-11 : {l : List Two} → ((b : Bool) (more : List Two) → row_taken b (l ++ more) ≡ row-11 b) → Fixed l 1
 row-of-11 taken = record { row = row-11; taken = taken; size = λ b. elim b [ true ↦ refl | false ↦ refl ] }
 
 -- 110111 where 010 follows, and where it does not
-row-substituted : (b : Bool) (ds : List Two) → startsWith010 (modulate false ds).groups ≡ true → rowTaken b (d11 ∷ d01 ∷ d11 ∷ ds) ≡ row_at 6
-unfolding modulateFrom
+row-substituted : (b : Bool) (ds : List Two) → starts_with010 (modulate false ds).groups ≡ true → row_taken b (d11 ∷ d01 ∷ d11 ∷ ds) ≡ row_at 6
+unfolding modulate_from
 row-substituted b ds e = rw e
 
-row_plain : (b : Bool) (ds : List Two) → startsWith010 (modulate false ds).groups ≡ false → rowTaken b (d11 ∷ d01 ∷ d11 ∷ ds) ≡ row-11 b
-unfolding modulateFrom
+row_plain : (b : Bool) (ds : List Two) → starts_with010 (modulate false ds).groups ≡ false → row_taken b (d11 ∷ d01 ∷ d11 ∷ ds) ≡ row-11 b
+unfolding modulate_from
 row_plain true ds e = rw e
 row_plain false ds e = rw e
 
 -- 11 before all other pairs
-other-11 : (b : Bool) (ds : List Two) → (rowTaken b (d11 ∷ d00 ∷ ds) ≡ row-11 b) × (rowTaken b (d11 ∷ d10 ∷ ds) ≡ row-11 b) × (rowTaken b (d11 ∷ d11 ∷ ds) ≡ row-11 b)
-unfolding modulateFrom
+other-11 : (b : Bool) (ds : List Two) → (row_taken b (d11 ∷ d00 ∷ ds) ≡ row-11 b) × (row_taken b (d11 ∷ d10 ∷ ds) ≡ row-11 b) × (row_taken b (d11 ∷ d11 ∷ ds) ≡ row-11 b)
+unfolding modulate_from
 other-11 true ds = (refl, refl, refl)
 other-11 false ds = (refl, refl, refl)
 
-other-1101 : (b : Bool) (ds : List Two) → (rowTaken b (d11 ∷ d01 ∷ d00 ∷ ds) ≡ row-11 b) × (rowTaken b (d11 ∷ d01 ∷ d01 ∷ ds) ≡ row-11 b) × (rowTaken b (d11 ∷ d01 ∷ d10 ∷ ds) ≡ row-11 b)
-unfolding modulateFrom
+other-1101 : (b : Bool) (ds : List Two) → (row_taken b (d11 ∷ d01 ∷ d00 ∷ ds) ≡ row-11 b) × (row_taken b (d11 ∷ d01 ∷ d01 ∷ ds) ≡ row-11 b) × (row_taken b (d11 ∷ d01 ∷ d10 ∷ ds) ≡ row-11 b)
+unfolding modulate_from
 other-1101 true ds = (refl, refl, refl)
 other-1101 false ds = (refl, refl, refl)
 
 -- 11 where two pairs or fewer are behind it
-pub plain_end : (b : Bool) (ds : List Two) → length ds < 3 → rowTaken b (d11 ∷ ds) ≡ row-11 b
-unfolding modulateFrom
+pub plain_end : (b : Bool) (ds : List Two) → length ds < 3 → row_taken b (d11 ∷ ds) ≡ row-11 b
+unfolding modulate_from
 plain_end true [] h = refl
 plain_end false [] h = refl
 plain_end b (d00 ∷ ds) h = (other-11 b ds).0
@@ -81,37 +81,37 @@ plain_end b (d01 ∷ d11 ∷ d ∷ ds) h = absurd (omega arith)
 -- ---- a pair more
 
 -- how many pairs have to be behind those that wait, so that the frame's end does not decide
-abbrev pub leftBehind : Wait → ℕ
-leftBehind w = 4
-leftBehind w00 = 0
-leftBehind w0000 = 0
-leftBehind w000000 = 0
-leftBehind w000010 = 0
-leftBehind w11 = 3
-leftBehind w1101 = 2
-leftBehind w110111 = 1
-leftBehind w11011100 = 0
-leftBehind w1101110000 = 0
+abbrev pub left_behind : Wait → ℕ
+left_behind w = 4
+left_behind w00 = 0
+left_behind w0000 = 0
+left_behind w000000 = 0
+left_behind w000010 = 0
+left_behind w11 = 3
+left_behind w1101 = 2
+left_behind w110111 = 1
+left_behind w11011100 = 0
+left_behind w1101110000 = 0
 
 pub record WaitsOn (s t : Wait) (d : Two) : Type 0 where
   pub front : waiting t ≡ waiting s ++ d ∷ []
-  pub less : leftBehind t ≤ leftBehind s - 1
+  pub less : left_behind t ≤ left_behind s - 1
 
 -- the same of what a pair more tells
-abbrev pub leftTold : Told → ℕ
-leftTold (wait t) = leftBehind t
-leftTold (word_of m) = 0
+abbrev pub left_told : Told → ℕ
+left_told (wait t) = left_behind t
+left_told (word_of m) = 0
 
 -- what the table tells is so
 abbrev pub Tells : Told → Wait → Two → Type 0
 Tells (wait t) s d = WaitsOn s t d
 Tells (word_of m) s d = Fixed (waiting s ++ d ∷ []) m
 
-waits-on : {s t : Wait} {d : Two} → waiting t ≡ waiting s ++ d ∷ [] → leftBehind t ≤ leftBehind s - 1 → WaitsOn s t d
+waits-on : {s t : Wait} {d : Two} → waiting t ≡ waiting s ++ d ∷ [] → left_behind t ≤ left_behind s - 1 → WaitsOn s t d
 waits-on e h = record { front = e; less = h }
 
 pub tells : (s : Wait) (d : Two) → Tells (told s d) s d
-unfolding modulateFrom
+unfolding modulate_from
 tells w d00 = waits-on refl (omega arith)
 tells w d01 = always-row 10 (λ b more. refl) refl
 tells w d10 = always-row 11 (λ b more. refl) refl
@@ -154,8 +154,8 @@ tells w1101110000 d10 = row-of-11 (λ b more. row_plain b (d00 ∷ d00 ∷ d10 �
 tells w1101110000 d11 = row-of-11 (λ b more. row_plain b (d00 ∷ d00 ∷ d11 ∷ more) refl)
 
 -- the frame ends with those that wait
-pub at-end : (s : Wait) (b : Bool) → length (rowTaken b (waiting s)).pairs ≡ sizeAtEnd s
-unfolding modulateFrom
+pub at-end : (s : Wait) (b : Bool) → length (row_taken b (waiting s)).pairs ≡ size_at_end s
+unfolding modulate_from
 at-end w b = refl
 at-end w00 b = refl
 at-end w0000 b = refl
@@ -175,7 +175,7 @@ pub record Open (l : List Two) (n : ℕ) : Type 0 where
   pub other : List Two
   pub one_size : length one ≡ n
   pub other-size : length other ≡ n
-  pub unlike : (b : Bool) → wordBits b (l ++ one) ≡ wordBits b (l ++ other) → ⊥
+  pub unlike : (b : Bool) → word_bits b (l ++ one) ≡ word_bits b (l ++ other) → ⊥
 
 unlike-lists : (k l : List ℕ) → same k l ≡ false → k ≡ l → ⊥
 unlike-lists k l e p = false≢true (sym e ∙ ap (same k) (sym p) ∙ same_refl k)
@@ -195,14 +195,14 @@ opened l x y f g e differ n h =
           (sym (given x f b t) ∙ p ∙ given y g b t);
     }
   where
-    given : (x : List Two) {m : ℕ} (f : Fixed (l ++ x) m) (b : Bool) (t : List Two) → wordBits b (l ++ (x ++ t)) ≡ bits (f.row b).groups
-    given x f b t = ap (wordBits b) (sym (append_assoc l x t)) ∙ ap (λ (r : Row). bits r.groups) (f.taken b t)
+    given : (x : List Two) {m : ℕ} (f : Fixed (l ++ x) m) (b : Bool) (t : List Two) → word_bits b (l ++ (x ++ t)) ≡ bits (f.row b).groups
+    given x f b t = ap (word_bits b) (sym (append_assoc l x t)) ∙ ap (λ (r : Row). bits r.groups) (f.taken b t)
 
 pub open-front : (n : ℕ) → 0 < n → Open [] n
 unfolding tells always-row
 open-front n p = opened [] (d01 ∷ []) (d10 ∷ []) (tells w d01) (tells w d10) refl (λ b. refl) n (omega arith)
 
-pub open_at : (s : Wait) (n : ℕ) → leftBehind s ≤ n → 0 < n → Open (waiting s) n
+pub open_at : (s : Wait) (n : ℕ) → left_behind s ≤ n → 0 < n → Open (waiting s) n
 unfolding tells always-row longer row-of-11
 open_at w n h p = open-front n p
 open_at w00 n h p = opened (waiting w00) (d01 ∷ []) (d10 ∷ []) (tells w00 d01) (tells w00 d10) refl (λ b. refl) n (omega arith)

@@ -9,30 +9,30 @@ use native.Mathlib.Decide.{dec_lt}
 use native.Mathlib.Omega.{arith}
 use lib.ListN.{length, get_or, drop, length-append}
 use Rattle.laws.proofs.Booleans.{and_left}
-use Rattle.modulation.specs.Modulation.{Two, twoNumber, starts, lastBit, modulateFrom, modulate}
+use Rattle.modulation.specs.Modulation.{Two, two_number, starts, last_bit, modulate_from, modulate}
 use Rattle.modulation.specs.Bits.{bits}
 use Rattle.modulation.proofs.Bits.{bits-append}
 use Rattle.modulation.proofs.Fronts.{two-injective, starts-split}
 use Rattle.modulation.proofs.Words.{row-size, drop-behind, some-row}
-use Rattle.word_needs.specs.Needed.{rowTaken, needed, WordStart, startsFrom, wordStarts, most, mostNeeded}
-use Rattle.word_needs.specs.Promise.{nowhere, wordsBits}
-use Rattle.word_needs.specs.steps.Walk.{walkWord}
+use Rattle.word_needs.specs.Needed.{row_taken, needed, WordStart, starts_from, word_starts, most, most_needed}
+use Rattle.word_needs.specs.Promise.{nowhere, words_bits}
+use Rattle.word_needs.specs.steps.Walk.{walk_word}
 use Rattle.word_needs.proofs.Walk.{walk_is}
 
 -- ---- one behind the other
 
-words-from : (ds : List Two) (k : ℕ) (b : Bool) → wordsBits (startsFrom ds k b) ≡ bits (modulateFrom ds k b).groups
-unfolding startsFrom wordsBits modulateFrom
+words-from : (ds : List Two) (k : ℕ) (b : Bool) → words_bits (starts_from ds k b) ≡ bits (modulate_from ds k b).groups
+unfolding starts_from words_bits modulate_from
 words-from [] k b = refl
 words-from (d ∷ ds) (suc k) b = words-from ds k b
 words-from (d ∷ ds) zero b =
-    let r = rowTaken b (d ∷ ds) in
+    let r = row_taken b (d ∷ ds) in
     let n = length r.pairs - 1 in
-    let c = lastBit false r.groups in
-    ap (λ (l : List ℕ). bits r.groups ++ l) (words-from ds n c) ∙ sym (bits-append r.groups (modulateFrom ds n c).groups)
+    let c = last_bit false r.groups in
+    ap (λ (l : List ℕ). bits r.groups ++ l) (words-from ds n c) ∙ sym (bits-append r.groups (modulate_from ds n c).groups)
 
 -- THE WORDS, ONE BEHIND THE OTHER, ARE THE FRAME'S MODULATION BITS
-pub words-frame : (b : Bool) (ds : List Two) → wordsBits (wordStarts b ds) ≡ bits (modulate b ds).groups
+pub words-frame : (b : Bool) (ds : List Two) → words_bits (word_starts b ds) ≡ bits (modulate b ds).groups
 words-frame b ds = words-from ds 0 b
 
 -- ---- the bit before
@@ -40,23 +40,23 @@ words-frame b ds = words-from ds 0 b
 pub needed-bit : (b c : Bool) (d : Two) (ds : List Two) → needed b (d ∷ ds) ≡ needed c (d ∷ ds)
 needed-bit b c d ds = (walk_is b d ds).needs ∙ sym (walk_is c d ds).needs
 
-size-bit : (b c : Bool) (d : Two) (ds : List Two) → length (rowTaken b (d ∷ ds)).pairs ≡ length (rowTaken c (d ∷ ds)).pairs
+size-bit : (b c : Bool) (d : Two) (ds : List Two) → length (row_taken b (d ∷ ds)).pairs ≡ length (row_taken c (d ∷ ds)).pairs
 size-bit b c d ds = (walk_is b d ds).size ∙ sym (walk_is c d ds).size
 
-pub most-from : (ds : List Two) (k : ℕ) (b c : Bool) → most (startsFrom ds k b) ≡ most (startsFrom ds k c)
-unfolding startsFrom most
+pub most-from : (ds : List Two) (k : ℕ) (b c : Bool) → most (starts_from ds k b) ≡ most (starts_from ds k c)
+unfolding starts_from most
 most-from [] k b c = refl
 most-from (d ∷ ds) (suc k) b c = most-from ds k b c
 most-from (d ∷ ds) zero b c =
-    let next : Bool → Bool = λ b. lastBit false (rowTaken b (d ∷ ds)).groups in
+    let next : Bool → Bool = λ b. last_bit false (row_taken b (d ∷ ds)).groups in
     ap₂ max (needed-bit b c d ds)
-    (most-from ds (length (rowTaken b (d ∷ ds)).pairs - 1) (next b) (next c)
-    ∙ ap (λ (n : ℕ). most (startsFrom ds (n - 1) (next c))) (size-bit b c d ds))
+    (most-from ds (length (row_taken b (d ∷ ds)).pairs - 1) (next b) (next c)
+    ∙ ap (λ (n : ℕ). most (starts_from ds (n - 1) (next c))) (size-bit b c d ds))
 
 -- ---- word by word
 
-skip : (ds : List Two) (k : ℕ) (b : Bool) → startsFrom ds k b ≡ wordStarts b (drop k ds)
-unfolding startsFrom
+skip : (ds : List Two) (k : ℕ) (b : Bool) → starts_from ds k b ≡ word_starts b (drop k ds)
+unfolding starts_from
 skip [] zero b = refl
 skip [] (suc k) b = refl
 skip (d ∷ ds) zero b = refl
@@ -64,43 +64,43 @@ skip (d ∷ ds) (suc k) b = skip ds k b
 
 -- the next word begins behind the pairs of the first
 pub starts-next : (b : Bool) (d : Two) (ds : List Two)
-    → wordStarts b (d ∷ ds)
-    ≡ record { bit = b; left = d ∷ ds } ∷ wordStarts (lastBit false (rowTaken b (d ∷ ds)).groups) (drop (length (rowTaken b (d ∷ ds)).pairs) (d ∷ ds))
-unfolding startsFrom
+    → word_starts b (d ∷ ds)
+    ≡ record { bit = b; left = d ∷ ds } ∷ word_starts (last_bit false (row_taken b (d ∷ ds)).groups) (drop (length (row_taken b (d ∷ ds)).pairs) (d ∷ ds))
+unfolding starts_from
 starts-next b d ds =
-    let r = rowTaken b (d ∷ ds) in
+    let r = row_taken b (d ∷ ds) in
     let n = length r.pairs in
-    let c = lastBit false r.groups in
+    let c = last_bit false r.groups in
     ap (λ (l : List WordStart). record { bit = b; left = d ∷ ds } ∷ l)
-    (skip ds (n - 1) c ∙ ap (wordStarts c) (drop-behind d ds n (row-size (some-row b d ds)).1))
+    (skip ds (n - 1) c ∙ ap (word_starts c) (drop-behind d ds n (row-size (some-row b d ds)).1))
 
 module _ (d : Two) (ds : List Two) where
-  pub size-some : 1 ≤ (walkWord (d ∷ ds)).size
+  pub size-some : 1 ≤ (walk_word (d ∷ ds)).size
   size-some = omega (arith, (walk_is false d ds).size, (row-size (some-row false d ds)).1)
 
-  pub size-most : (walkWord (d ∷ ds)).size ≤ suc (length ds)
+  pub size-most : (walk_word (d ∷ ds)).size ≤ suc (length ds)
   size-most =
-      let r = rowTaken false (d ∷ ds) in
-      let stands = starts-split twoNumber two-injective r.pairs (d ∷ ds) (and_left (starts twoNumber r.pairs (d ∷ ds)) _ (some-row false d ds).passed) in
+      let r = row_taken false (d ∷ ds) in
+      let stands = starts-split two_number two-injective r.pairs (d ∷ ds) (and_left (starts two_number r.pairs (d ∷ ds)) _ (some-row false d ds).passed) in
       omega (arith, (walk_is false d ds).size, ap length stands, length-append r.pairs (drop (length r.pairs) (d ∷ ds)))
 
   -- from a word's start on, and from the next
-  pub most-word : (b : Bool) → mostNeeded b (d ∷ ds) ≡ max (walkWord (d ∷ ds)).needs (mostNeeded b (drop (walkWord (d ∷ ds)).size (d ∷ ds)))
-  unfolding startsFrom most
+  pub most-word : (b : Bool) → most_needed b (d ∷ ds) ≡ max (walk_word (d ∷ ds)).needs (most_needed b (drop (walk_word (d ∷ ds)).size (d ∷ ds)))
+  unfolding starts_from most
   most-word b =
-      let r = rowTaken b (d ∷ ds) in
+      let r = row_taken b (d ∷ ds) in
       let n = length r.pairs in
       let is = walk_is b d ds in
       ap₂ max is.needs
-      (most-from ds (n - 1) (lastBit false r.groups) b
+      (most-from ds (n - 1) (last_bit false r.groups) b
       ∙ ap most (skip ds (n - 1) b)
-      ∙ ap (λ (l : List Two). mostNeeded b l) (drop-behind d ds n (row-size (some-row b d ds)).1)
-      ∙ ap (λ (k : ℕ). mostNeeded b (drop k (d ∷ ds))) is.size)
+      ∙ ap (λ (l : List Two). most_needed b l) (drop-behind d ds n (row-size (some-row b d ds)).1)
+      ∙ ap (λ (k : ℕ). most_needed b (drop k (d ∷ ds))) is.size)
 
 -- ---- the most
 
-pub most-none : (b : Bool) → mostNeeded b [] ≡ 0
-unfolding startsFrom most
+pub most-none : (b : Bool) → most_needed b [] ≡ 0
+unfolding starts_from most
 most-none b = refl
 
 -- no word needs more
@@ -129,8 +129,8 @@ some-most s (t ∷ l) = either (some-most t l)
         ]
 
 -- a frame that is not empty has a first word
-pub first_word : (b : Bool) (d : Two) (ds : List Two) → MostMet (wordStarts b (d ∷ ds))
-unfolding startsFrom
+pub first_word : (b : Bool) (d : Two) (ds : List Two) → MostMet (word_starts b (d ∷ ds))
+unfolding starts_from
 first_word b d ds =
-    let r = rowTaken b (d ∷ ds) in
-    some-most (record { bit = b; left = d ∷ ds }) (startsFrom ds (length r.pairs - 1) (lastBit false r.groups))
+    let r = row_taken b (d ∷ ds) in
+    some-most (record { bit = b; left = d ∷ ds }) (starts_from ds (length r.pairs - 1) (last_bit false r.groups))

@@ -12,11 +12,11 @@ use lib.Seq.{take_at, take_all, take-take, length-take-le}
 use Rattle.modulation.specs.Modulation.{Two, d00, d01, d10, d11, Row}
 use Rattle.modulation.specs.Machine.{Wait, w, w00, w0000, w000000, w000010, w11, w1101, w110111, w11011100, w1101110000, waiting}
 use Rattle.modulation.specs.Bits.{bits}
-use Rattle.word_needs.specs.Needed.{rowTaken, wordBits, needed}
+use Rattle.word_needs.specs.Needed.{row_taken, word_bits, needed}
 use Rattle.word_needs.specs.Promise.{Fixes}
-use Rattle.word_needs.specs.steps.Walk.{Told, wait, word_of, told, sizeAtEnd, Walked, walked, onward, walk, endsPlain, walkWord}
+use Rattle.word_needs.specs.steps.Walk.{Told, wait, word_of, told, size_at_end, Walked, walked, onward, walk, ends_plain, walk_word}
 use Rattle.word_needs.proofs.Fixing.{all-fix, more-fix, needed-is, needed-only}
-use Rattle.word_needs.proofs.Rows.{Fixed, leftBehind, leftTold, Tells, tells, at-end, Open, open-front, open_at, plain_end}
+use Rattle.word_needs.proofs.Rows.{Fixed, left_behind, left_told, Tells, tells, at-end, Open, open-front, open_at, plain_end}
 
 -- no fewer than n pairs fix the word
 pub record AtLeast (b : Bool) (ds : List Two) (n : ℕ) : Type 0 where
@@ -25,14 +25,14 @@ pub record AtLeast (b : Bool) (ds : List Two) (n : ℕ) : Type 0 where
 -- what is walked is what the word needs, and has
 pub record Walks (b : Bool) (ds : List Two) (v : Walked) : Type 0 where
   pub needs : needed b ds ≡ v.needs
-  pub size : length (rowTaken b ds).pairs ≡ v.size
+  pub size : length (row_taken b ds).pairs ≡ v.size
 
 module _ (b : Bool) where
   -- pairs behind which it is open do not fix the word
   open-fewer : (l rest : List Two) → Open l (length rest) → Fixes b (l ++ rest) (length l) → ⊥
   open-fewer l rest o f = o.unlike b (given o.one o.one_size ∙ sym (given o.other o.other-size))
     where
-      given : (k : List Two) → length k ≡ length rest → wordBits b (l ++ k) ≡ wordBits b (l ++ rest)
+      given : (k : List Two) → length k ≡ length rest → word_bits b (l ++ k) ≡ word_bits b (l ++ rest)
       given k e =
           f.same_bits (l ++ k) (omega (arith, length-append l k, length-append l rest))
           (take_at l k (length l) refl ∙ sym (take_at l rest (length l) refl))
@@ -47,12 +47,12 @@ module _ (b : Bool) where
   fixed_fixes : (l : List Two) (m : ℕ) (rest : List Two) → Fixed l m → Fixes b (l ++ rest) (length l)
   fixed_fixes l m rest f = record { same_bits = λ es long front. given es front ∙ sym (ap (λ (r : Row). bits r.groups) (f.taken b rest)) }
     where
-      given : (es : List Two) → take (length l) es ≡ take (length l) (l ++ rest) → wordBits b es ≡ bits (f.row b).groups
+      given : (es : List Two) → take (length l) es ≡ take (length l) (l ++ rest) → word_bits b es ≡ bits (f.row b).groups
       given es front =
           let whole : l ++ drop (length l) es ≡ es =
           ap (λ (k : List Two). k ++ drop (length l) es) (sym (front ∙ take_at l rest (length l) refl)) ∙ take-append-drop (length l) es
           in
-          ap (wordBits b) (sym whole) ∙ ap (λ (r : Row). bits r.groups) (f.taken b (drop (length l) es))
+          ap (word_bits b) (sym whole) ∙ ap (λ (r : Row). bits r.groups) (f.taken b (drop (length l) es))
 
   -- one pair more
   module _ (s : Wait) (d : Two) (ds : List Two) where
@@ -62,8 +62,8 @@ module _ (b : Bool) where
     long : length (waiting s ++ d ∷ []) ≡ suc (length (waiting s))
     long = omega (arith, length-append (waiting s) (d ∷ []))
 
-    walk_step : (t : Told) → Tells t s d → leftTold t ≤ length ds → AtLeast b (waiting s ++ d ∷ ds) (suc (length (waiting s)))
-        → ((u : Wait) → leftBehind u ≤ length ds → AtLeast b (waiting u ++ ds) (length (waiting u)) → Walks b (waiting u ++ ds) (walk u (length (waiting u)) ds))
+    walk_step : (t : Told) → Tells t s d → left_told t ≤ length ds → AtLeast b (waiting s ++ d ∷ ds) (suc (length (waiting s)))
+        → ((u : Wait) → left_behind u ≤ length ds → AtLeast b (waiting u ++ ds) (length (waiting u)) → Walks b (waiting u ++ ds) (walk u (length (waiting u)) ds))
         → Walks b (waiting s ++ d ∷ ds) (onward t (length (waiting s)) (λ u. walk u (suc (length (waiting s))) ds))
     walk_step (wait u) y room least on =
         let same : waiting u ++ ds ≡ waiting s ++ d ∷ ds = ap (λ (l : List Two). l ++ ds) y.front ∙ snoc in
@@ -74,7 +74,7 @@ module _ (b : Bool) where
     walk_step (word_of m) y room least on =
         record {
           needs = needed-only b (waiting s ++ d ∷ ds) (suc (length (waiting s))) (record { fixes = fix; least = least.fewer });
-          size = ap (λ (l : List Two). length (rowTaken b l).pairs) (sym snoc) ∙ ap (λ (r : Row). length r.pairs) (y.taken b ds) ∙ y.size b;
+          size = ap (λ (l : List Two). length (row_taken b l).pairs) (sym snoc) ∙ ap (λ (r : Row). length r.pairs) (y.taken b ds) ∙ y.size b;
         }
       where
         fix : Fixes b (waiting s ++ d ∷ ds) (suc (length (waiting s)))
@@ -83,30 +83,30 @@ module _ (b : Bool) where
             (subst (Fixes b ((waiting s ++ d ∷ []) ++ ds)) long (fixed_fixes (waiting s ++ d ∷ []) m ds y))
 
   -- the frame ends
-  walk-stop : (s : Wait) → AtLeast b (waiting s ++ []) (length (waiting s)) → Walks b (waiting s ++ []) (walked (length (waiting s)) (sizeAtEnd s))
+  walk-stop : (s : Wait) → AtLeast b (waiting s ++ []) (length (waiting s)) → Walks b (waiting s ++ []) (walked (length (waiting s)) (size_at_end s))
   walk-stop s least =
       let none = append-nil (waiting s) in
       record {
         needs =
             needed-only b (waiting s ++ []) (length (waiting s))
             (record { fixes = subst (Fixes b (waiting s ++ [])) (ap length none) (all-fix b (waiting s ++ [])); least = least.fewer });
-        size = ap (λ (l : List Two). length (rowTaken b l).pairs) none ∙ at-end s b;
+        size = ap (λ (l : List Two). length (row_taken b l).pairs) none ∙ at-end s b;
       }
 
-  pub walk_from : (ds : List Two) (s : Wait) → leftBehind s ≤ length ds → AtLeast b (waiting s ++ ds) (length (waiting s))
+  pub walk_from : (ds : List Two) (s : Wait) → left_behind s ≤ length ds → AtLeast b (waiting s ++ ds) (length (waiting s))
       → Walks b (waiting s ++ ds) (walk s (length (waiting s)) ds)
   walk_from [] s h least = walk-stop s least
   walk_from (d ∷ ds) s h least =
       walk_step s d ds (told s d) (tells s d) (room (told s d) (tells s d)) (at_least (waiting s) (d ∷ ds) (open_at s (suc (length ds)) h (omega arith)))
       (λ u l more. walk_from ds u l more)
     where
-      room : (t : Told) → Tells t s d → leftTold t ≤ length ds
+      room : (t : Told) → Tells t s d → left_told t ≤ length ds
       room (wait u) y = omega (arith, y.less)
       room (word_of m) y = omega arith
 
   -- ---- the word
 
-  from_front : (d : Two) (ds : List Two) → leftTold (told w d) ≤ length ds → Walks b (d ∷ ds) (walk w 0 (d ∷ ds))
+  from_front : (d : Two) (ds : List Two) → left_told (told w d) ≤ length ds → Walks b (d ∷ ds) (walk w 0 (d ∷ ds))
   from_front d ds room =
       walk_step w d ds (told w d) (tells w d) room (at_least [] (d ∷ ds) (open-front (suc (length ds)) (omega arith)))
       (λ u l more. walk_from ds u l more)
@@ -130,13 +130,13 @@ module _ (b : Bool) where
       fix : Fixes b (d11 ∷ ds) 1
       fix = record { same_bits = λ es long front. given es long front }
         where
-          given : (es : List Two) → length es ≡ suc (length ds) → take 1 es ≡ d11 ∷ [] → wordBits b es ≡ wordBits b (d11 ∷ ds)
+          given : (es : List Two) → length es ≡ suc (length ds) → take 1 es ≡ d11 ∷ [] → word_bits b es ≡ word_bits b (d11 ∷ ds)
           given [] long front = absurd (omega arith)
           given (e ∷ es) long front =
-              ap (λ (x : Two). wordBits b (x ∷ es)) (ap (λ (l : List Two). get_or l 0 d00) front)
+              ap (λ (x : Two). word_bits b (x ∷ es)) (ap (λ (l : List Two). get_or l 0 d00) front)
               ∙ ap (λ (r : Row). bits r.groups) (plain_end b es (omega arith) ∙ sym (plain_end b ds h))
 
-  pub walk_is : (d : Two) (ds : List Two) → Walks b (d ∷ ds) (walkWord (d ∷ ds))
+  pub walk_is : (d : Two) (ds : List Two) → Walks b (d ∷ ds) (walk_word (d ∷ ds))
   walk_is d00 ds = from_front d00 ds (omega arith)
   walk_is d01 ds = from_front d01 ds (omega arith)
   walk_is d10 ds = from_front d10 ds (omega arith)
@@ -190,7 +190,7 @@ front_of (d ∷ ds) s h = one_more (told s d) (tells s d) (λ u l. front_of ds u
         }
 
 module _ (b : Bool) (ds es : List Two) (same : take 6 ds ≡ take 6 es) where
-  by_front : Front ds → wordBits b ds ≡ wordBits b es
+  by_front : Front ds → word_bits b ds ≡ word_bits b es
   by_front f =
       let n = length f.front in
       let begins : take n es ≡ f.front =
@@ -201,15 +201,15 @@ module _ (b : Bool) (ds es : List Two) (same : take 6 ds ≡ take 6 es) where
       ∙ take_at f.front f.rest n refl
       in
       let whole : f.front ++ drop n es ≡ es = ap (λ (l : List Two). l ++ drop n es) (sym begins) ∙ take-append-drop n es in
-      ap (wordBits b) (sym f.split)
+      ap (word_bits b) (sym f.split)
       ∙ ap (λ (r : Row). bits r.groups) (f.fixed.taken b f.rest ∙ sym (f.fixed.taken b (drop n es)))
-      ∙ ap (wordBits b) whole
+      ∙ ap (word_bits b) whole
 
   -- the word's modulation bits depend on the bit before and on six pairs, or on all that are left
-  pub six-fix : wordBits b ds ≡ wordBits b es
+  pub six-fix : word_bits b ds ≡ word_bits b es
   six-fix =
       elim (dec_lt (length ds) 6) [
-        | yes h ↦ ap (wordBits b) (sym (take_all 6 ds (omega arith)) ∙ same ∙ take_all 6 es (short h))
+        | yes h ↦ ap (word_bits b) (sym (take_all 6 ds (omega arith)) ∙ same ∙ take_all 6 es (short h))
         | no h ↦ by_front (front_of ds w (omega arith))
       ]
     where
@@ -235,5 +235,5 @@ walk-most (d ∷ ds) s = one_more (told s d) (tells s d) (λ u. walk-most ds u)
         subst (λ (n : ℕ). (walk u n ds).needs ≤ 6) (ap length y.front ∙ omega (arith, length-append (waiting s) (d ∷ []))) (on u)
     one_more (word_of m) y on = omega (arith, waiting-size s)
 
-pub walk-word-most : (ds : List Two) → (walkWord ds).needs ≤ 6
-walk-word-most ds = elim (endsPlain ds) as (λ x. (cond x (walked 1 1) (walk w 0 ds)).needs ≤ 6) [ true ↦ omega arith | false ↦ walk-most ds w ]
+pub walk-word-most : (ds : List Two) → (walk_word ds).needs ≤ 6
+walk-word-most ds = elim (ends_plain ds) as (λ x. (cond x (walked 1 1) (walk w 0 ds)).needs ≤ 6) [ true ↦ omega arith | false ↦ walk-most ds w ]

@@ -1,17 +1,17 @@
 // A word's start, and what it needs from there on.
 ghost use Rattle.std.specs.Prelude.{◌≡◌, ◌<◌, get_or, drop};
-ghost use Rattle.modulation.specs.Modulation.{twoNumber, d00};
-ghost use Rattle.modulation.specs.Machine.{w, waitAt};
+ghost use Rattle.modulation.specs.Modulation.{two_number, d00};
+ghost use Rattle.modulation.specs.Machine.{w, wait_at};
 ghost use Rattle.modulation.specs.Bits.{pairs};
-ghost use Rattle.modulation.specs.steps.Pairs.{twoOf};
-ghost use Rattle.modulation.specs.steps.Words.{bitsIn, Words};
-ghost use Rattle.word_needs.specs.steps.Walk.{told, toldNumber, sizeAtEnd, walk, endsPlain, walkWord};
+ghost use Rattle.modulation.specs.steps.Pairs.{two_of};
+ghost use Rattle.modulation.specs.steps.Words.{bits_in, Words};
+ghost use Rattle.word_needs.specs.steps.Walk.{told, told_number, size_at_end, walk, ends_plain, walk_word};
 
 // The pairs of a frame's 1,268 bits.
 pub const PAIRS: usize = 634;
 
 // The pairs that a word needs, and those that it has.
-#[derive(Drop)]
+#[derive(Clone, Copy)]
 pub struct Walked {
     pub needs: usize,
     pub size: usize,
@@ -37,7 +37,7 @@ const SIZE_AT_END: [usize; 10] = [0, 1, 2, 3, 3, 1, 1, 1, 1, 3];
 
 fn told(waits: usize, pair: usize) -> usize
     requires { (waits < 10) × (pair < 4) }
-    ensures { result ≡ toldNumber (told (waitAt waits) (twoOf pair)) }
+    ensures { result ≡ told_number (told (wait_at waits) (two_of pair)) }
 {
     let by_pair = TOLD[waits];
     by_pair[pair]
@@ -45,7 +45,7 @@ fn told(waits: usize, pair: usize) -> usize
 
 fn size_at_end(waits: usize) -> usize
     requires { waits < 10 }
-    ensures { result ≡ sizeAtEnd (waitAt waits) }
+    ensures { result ≡ size_at_end (wait_at waits) }
 {
     SIZE_AT_END[waits]
 }
@@ -53,7 +53,7 @@ fn size_at_end(waits: usize) -> usize
 // Pair p of a frame. A word of 46 bits has 23 pairs; ten of the first do not count.
 fn pair_at(words: &[u64; 29], p: usize) -> usize
     requires { Words words.now × (p < 634) }
-    ensures { result ≡ twoNumber (get_or (pairs (bitsIn words.now)) p d00) }
+    ensures { result ≡ two_number (get_or (pairs (bits_in words.now)) p d00) }
 {
     let at = p + 10;
     ((words[at / 23] >> (44 - 2 * (at % 23))) % 4) as usize
@@ -62,7 +62,7 @@ fn pair_at(words: &[u64; 29], p: usize) -> usize
 // From pair p on until the word is fixed, or the frame ends.
 fn walk(words: &[u64; 29], p: usize) -> Walked
     requires { Words words.now × (p < 634) }
-    ensures { record { needs = result.needs; size = result.size } ≡ walk w 0 (drop p (pairs (bitsIn words.now))) }
+    ensures { record { needs = result.needs; size = result.size } ≡ walk w 0 (drop p (pairs (bits_in words.now))) }
 {
     let mut waits = 0;
     let mut n = 0;
@@ -86,7 +86,7 @@ fn walk(words: &[u64; 29], p: usize) -> Walked
 // Whether pair p is 11 with two pairs or fewer behind it: it is not substituted, whatever they are.
 fn ends_plain(words: &[u64; 29], p: usize) -> bool
     requires { Words words.now × (p < 634) }
-    ensures { result ≡ endsPlain (drop p (pairs (bitsIn words.now))) }
+    ensures { result ≡ ends_plain (drop p (pairs (bits_in words.now))) }
 {
     if pair_at(words, p) == 3 {
         return PAIRS < p + 4;
@@ -97,7 +97,7 @@ fn ends_plain(words: &[u64; 29], p: usize) -> bool
 // The word that begins at pair p.
 pub fn word_at(words: &[u64; 29], p: usize) -> Walked
     requires { Words words.now × (p < 634) }
-    ensures { record { needs = result.needs; size = result.size } ≡ walkWord (drop p (pairs (bitsIn words.now))) }
+    ensures { record { needs = result.needs; size = result.size } ≡ walk_word (drop p (pairs (bits_in words.now))) }
 {
     if ends_plain(words, p) {
         return Walked { needs: 1, size: 1 };

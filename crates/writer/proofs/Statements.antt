@@ -10,14 +10,14 @@ use lib.ListN.{length, get_or}
 use Rattle.laws.specs.Bytes.{Bytes}
 use Rattle.laws.proofs.First.{first-none, first-all}
 use Rattle.image.specs.Image.{Input, cluster, image}
-use Rattle.image.proofs.Demand3.{startingWith}
+use Rattle.image.proofs.Demand3.{starting_with}
 use Rattle.image.proofs.Statements.{zeros, zeros-accepted, either_first}
 use Rattle.answer.specs.declared.Answer.{Answer}
 use Rattle.answer.specs.declared.Answer.TheVariants.{Done, DcWord}
-use Rattle.answer.specs.Answer.{number_of, place_of, isDone, lowest}
+use Rattle.answer.specs.Answer.{number_of, place_of, is_done, lowest}
 use Rattle.answer.proofs.Tests.{number-zero, done-or-not, then_next, lowest-none}
 use Rattle.lengths.proofs.RightLengths.{lengths-right}
-use Rattle.input_tests.specs.Parts.{tooLarge, firstTooLarge, partsAnswer}
+use Rattle.input_tests.specs.Parts.{too_large, first_too_large, parts_answer}
 use Rattle.writer.specs.Outcome.{answer, Outcome, outcome}
 use Rattle.writer.specs.Promise.{WellFormed, WritesExactly}
 use Rattle.writer.proofs.Judging.{passed-all}
@@ -39,20 +39,20 @@ module _ (input : Input) (before work : List ℕ) (bytes : Bytes input.user) (si
         image-size = all.1;
       }
     where
-      small : 496 ≤ firstTooLarge input.dc → (n : ℕ) → n < 496 → get_or input.dc n 0 ≤ 0x0FFF_FFFF
-      small none n h = unfold firstTooLarge tooLarge in ltb-false 0x0FFF_FFFF (get_or input.dc n 0) (first-all 496 (tooLarge input.dc) none n h)
+      small : 496 ≤ first_too_large input.dc → (n : ℕ) → n < 496 → get_or input.dc n 0 ≤ 0x0FFF_FFFF
+      small none n h = unfold first_too_large too_large in ltb-false 0x0FFF_FFFF (get_or input.dc n 0) (first-all 496 (too_large input.dc) none n h)
 
   done-is : WellFormed input before work → answer input (length before) (length work) ≡ Done
   unfolding answer
   done-is w =
       let lengths = lengths-right (length input.user) (length input.side) (length input.dc) (length before) (length work) w.lengths w.image-size in
-      let words : lowest DcWord 496 (firstTooLarge input.dc) ≡ Done = lowest-none DcWord no-large in
-      then_next _ (partsAnswer input.psn input.dc) lengths ∙ then_next _ (lowest DcWord 496 (firstTooLarge input.dc)) w.accepted.psn ∙ words
+      let words : lowest DcWord 496 (first_too_large input.dc) ≡ Done = lowest-none DcWord no-large in
+      then_next _ (parts_answer input.psn input.dc) lengths ∙ then_next _ (lowest DcWord 496 (first_too_large input.dc)) w.accepted.psn ∙ words
     where
-      no-large : 496 ≤ firstTooLarge input.dc
+      no-large : 496 ≤ first_too_large input.dc
       no-large =
-          unfold firstTooLarge tooLarge in
-          let none = first-none 496 (tooLarge input.dc) (record { fails = λ n h. le-ltb 0x0FFF_FFFF (get_or input.dc n 0) (w.accepted.dc.small n h) }) in omega arith
+          unfold first_too_large too_large in
+          let none = first-none 496 (too_large input.dc) (record { fails = λ n h. le-ltb 0x0FFF_FFFF (get_or input.dc n 0) (w.accepted.dc.small n h) }) in omega arith
 
   -- the number is 0 exactly when the input is accepted and the slices have their lengths
   pub encoded : (number_of (outcome input before work).answer ≡ 0) ↔ WellFormed input before work
@@ -67,7 +67,7 @@ module _ (input : Input) (before work : List ℕ) (bytes : Bytes input.user) (si
   unfolding outcome
   filled w =
       let done = done-is w in
-      (ap place_of done, ap (λ (a : Answer). cond (isDone a) (image input) before) done, ap (λ (a : Answer). cond (isDone a) (cluster input) work) done)
+      (ap place_of done, ap (λ (a : Answer). cond (is_done a) (image input) before) done, ap (λ (a : Answer). cond (is_done a) (cluster input) work) done)
 
   -- as the contract has it: o is the answer and the slices at exit
   pub with-exactly : {o : Outcome} → o ≡ outcome input before work → (o ≡ outcome input before work) × WritesExactly input before work (number_of o.answer) o.image o.work
@@ -85,8 +85,8 @@ untouched input before work h =
     (ap (λ (d : Bool). cond d (image input) before) kept, ap (λ (d : Bool). cond d (cluster input) work) kept)
 
 -- the cluster of zeros is written, with either first #
-pub zeros-written : (h : Bool) (before work : List ℕ) → length before ≡ 119788 → length work ≡ 76880 → number_of (outcome (startingWith h zeros) before work).answer ≡ 0
+pub zeros-written : (h : Bool) (before work : List ℕ) → length before ≡ 119788 → length work ≡ 76880 → number_of (outcome (starting_with h zeros) before work).answer ≡ 0
 zeros-written h before work i w =
     let is = either_first h zeros zeros-accepted in
-    (encoded (startingWith h zeros) before work is.user.bytes is.side.bytes).1
+    (encoded (starting_with h zeros) before work is.user.bytes is.side.bytes).1
     (record { accepted = is; lengths = record { user = is.user.size; side = is.side.size; dc = is.dc.size; work = w }; image-size = i })

@@ -1,8 +1,10 @@
 // The writer: the image of a cluster, from its user bytes, PSN, side data, dc words and first #.
+#![tactic(auto)]
+
 ghost use Rattle.std.specs.Prelude.{◌≡◌, length};
-ghost use Rattle.answer.specs.Answer.{number_of, andThen};
-ghost use Rattle.lengths.specs.Lengths.{lengthsAnswer};
-ghost use Rattle.input_tests.specs.Parts.{partsAnswer};
+ghost use Rattle.answer.specs.Answer.{number_of, and_then};
+ghost use Rattle.lengths.specs.Lengths.{lengths_answer};
+ghost use Rattle.input_tests.specs.Parts.{parts_answer};
 ghost use Rattle.writer.specs.Outcome.{outcome};
 ghost use Rattle.writer.specs.Promise.{WritesExactly};
 
@@ -11,7 +13,7 @@ use answer::Answer;
 
 // All tests, in rising order.
 fn judge(user: usize, psn: Psn, side: usize, dc: &[u32], image: usize, work: usize) -> Answer
-    ensures { result ≡ andThen (lengthsAnswer user side (length dc.now) image work) (partsAnswer psn.0 dc.now) }
+    ensures { result ≡ and_then (lengths_answer user side (length dc.now) image work) (parts_answer psn.0 dc.now) }
 {
     let given = lengths::judge(user, side, dc.len(), image, work);
     if given.is_done() {

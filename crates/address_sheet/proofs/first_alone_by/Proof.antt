@@ -1,14 +1,14 @@
 -- `first_alone_by` meets its contract: a search from the front (Tests; laws, First).
 use Prim.Native.Nat.{◌-◌}
 use Rattle.laws.proofs.First.{Passed, passed_none, first_past}
-use Rattle.address_sheet.specs.Sheet.{aloneBy, entryPsn}
+use Rattle.address_sheet.specs.Sheet.{alone_by, entry_psn}
 use Rattle.address_sheet.proofs.Tests.{alone-here, alone-on}
 use borrow.Author.Rules.{rules}
 use Rattle.address_sheet.proofs.first_alone_by.Statement.{statement}
 use Rattle.address_sheet.proofs.first_alone_by.Tie as tie
 
 abbrev invariant-loop : tie.invariant-loop
-invariant-loop count number psns i₀ i = Passed (aloneBy number (entryPsn psns)) i
+invariant-loop count number psns i₀ i = Passed (alone_by number (entry_psn psns)) i
 
 abbrev decreases-loop : tie.decreases-loop
 decreases-loop count number psns i₀ i = count - i

@@ -2,14 +2,14 @@
 use Prim.Native.Nat.{◌-◌}
 use native.Mathlib.Omega.{arith}
 use Rattle.laws.proofs.First.{Passed, passed_none, first_past}
-use Rattle.address_sheet.specs.Sheet.{repeats, entryPsn}
+use Rattle.address_sheet.specs.Sheet.{repeats, entry_psn}
 use Rattle.address_sheet.proofs.Tests.{repeated-here, repeated-on}
 use borrow.Author.Rules.{rules}
 use Rattle.address_sheet.proofs.first_repeated.Statement.{statement}
 use Rattle.address_sheet.proofs.first_repeated.Tie as tie
 
 abbrev invariant-loop : tie.invariant-loop
-invariant-loop psns count later₀ later = Passed (repeats (entryPsn psns)) later
+invariant-loop psns count later₀ later = Passed (repeats (entry_psn psns)) later
 
 abbrev decreases-loop : tie.decreases-loop
 decreases-loop psns count later₀ later = count - later
@@ -27,7 +27,7 @@ returns : tie.Need-returns invariant-loop decreases-loop
 returns c =
     let same = c.before in
     let turn = same.before.before in
-    repeated-here (entryPsn turn.before.args.psns) turn.loop.invariant same.nearest-same.ensures (search rules) (λ e. omega (arith, c.if1.true, e))
+    repeated-here (entry_psn turn.before.args.psns) turn.loop.invariant same.nearest-same.ensures (search rules) (λ e. omega (arith, c.if1.true, e))
 
 add-later : tie.Need-overflow-add-later invariant-loop decreases-loop
 add-later c = search rules
@@ -39,7 +39,7 @@ loop-again : tie.Need-loop-preserved invariant-loop decreases-loop
 loop-again c =
     let same = c.before in
     let turn = same.before.before in
-    repeated-on (entryPsn turn.before.args.psns) turn.loop.invariant same.nearest-same.ensures (omega (arith, c.if1.false))
+    repeated-on (entry_psn turn.before.args.psns) turn.loop.invariant same.nearest-same.ensures (omega (arith, c.if1.false))
 
 returns-2 : tie.Need-returns-2 invariant-loop decreases-loop
 returns-2 c = search (first_past)

@@ -2,13 +2,13 @@
 use borrow.Author.Rules.{rules}
 use Prim.Native.Nat.{◌-◌}
 use Rattle.laws.proofs.First.{Passed, passed_none, passed-more, first-here, first_past}
-use Rattle.bis.specs.Reading.{wrongField, firstWrongField}
+use Rattle.bis.specs.Reading.{wrong_field, first_wrong_field}
 use Rattle.bis_fields.proofs.Judging.{field-judged}
 use Rattle.bis_fields.proofs.first_wrong_field.Statement.{statement}
 use Rattle.bis_fields.proofs.first_wrong_field.Tie as tie
 
 abbrev invariant-loop : tie.invariant-loop
-invariant-loop block unit₀ unit = Passed (wrongField block) unit
+invariant-loop block unit₀ unit = Passed (wrong_field block) unit
 
 abbrev decreases-loop : tie.decreases-loop
 decreases-loop block unit₀ unit = 16 - unit
@@ -26,7 +26,7 @@ has-roots-requires : tie.Need-has-roots-requires invariant-loop decreases-loop
 has-roots-requires c κs = search rules
 
 returns : tie.Need-returns invariant-loop decreases-loop
-unfolding firstWrongField
+unfolding first_wrong_field
 returns c = search (first-here, field-judged)
 
 add-unit : tie.Need-overflow-add-unit invariant-loop decreases-loop
@@ -39,7 +39,7 @@ loop-again : tie.Need-loop-preserved invariant-loop decreases-loop
 loop-again c = search (passed-more, field-judged)
 
 returns-2 : tie.Need-returns-2 invariant-loop decreases-loop
-unfolding firstWrongField
+unfolding first_wrong_field
 returns-2 c = search (first_past)
 
 pub first-wrong-field-spec : {M : Type 1} → statement M

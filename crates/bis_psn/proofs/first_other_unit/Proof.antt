@@ -2,13 +2,13 @@
 use borrow.Author.Rules.{rules}
 use Prim.Native.Nat.{◌-◌}
 use Rattle.laws.proofs.First.{Passed, passed_none, passed-more, first-here, first_past}
-use Rattle.bis.specs.Reading.{otherUnit, firstOtherUnit}
+use Rattle.bis.specs.Reading.{other_unit, first_other_unit}
 use Rattle.bis_psn.proofs.Judging.{unit-differs, unit-agrees}
 use Rattle.bis_psn.proofs.first_other_unit.Statement.{statement}
 use Rattle.bis_psn.proofs.first_other_unit.Tie as tie
 
 abbrev invariant-loop : tie.invariant-loop
-invariant-loop block psn y₀ y = Passed (otherUnit block psn.0) y
+invariant-loop block psn y₀ y = Passed (other_unit block psn.0) y
 
 abbrev decreases-loop : tie.decreases-loop
 decreases-loop block psn y₀ y = 16 - y
@@ -26,7 +26,7 @@ aun-in-requires : tie.Need-aun-in-requires invariant-loop decreases-loop
 aun-in-requires c κs = search rules
 
 returns : tie.Need-returns invariant-loop decreases-loop
-unfolding firstOtherUnit
+unfolding first_other_unit
 returns c = search (first-here, unit-differs, c.if1.true)
 
 add-y : tie.Need-overflow-add-y invariant-loop decreases-loop
@@ -39,7 +39,7 @@ loop-again : tie.Need-loop-preserved invariant-loop decreases-loop
 loop-again c = search (passed-more, unit-agrees)
 
 returns-2 : tie.Need-returns-2 invariant-loop decreases-loop
-unfolding firstOtherUnit
+unfolding first_other_unit
 returns-2 c = search (first_past)
 
 pub first-other-unit-spec : {M : Type 1} → statement M

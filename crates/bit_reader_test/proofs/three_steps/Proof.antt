@@ -53,7 +53,7 @@ use Rattle.bit_reader.proofs.ImageReader.step.Symbol as step-def
 use Rattle.bit_reader.proofs.ImageReader.step.Symbol.{name as #step}
 use Rattle.bit_reader.proofs.ImageReader.step.Met as step_thm
 use Rattle.bit_reader_test.specs.declared.Three.{Three}
-use Rattle.bit_reader_test.specs.Steps.{at_start, threeSteps}
+use Rattle.bit_reader_test.specs.Steps.{at_start, three_steps}
 use Rattle.bit_reader_test.specs.contracts.Three as S
 use Rattle.bit_reader_test.proofs.Three.TheLaws as S'
 use Rattle.bit_reader_test.specs.contracts.three_steps.Key.{name as #three-steps}
@@ -66,7 +66,7 @@ abbrev given_back : ℕ → ℕ → ℕ → ImageReader → Three
 given_back a b c z = record { first = a; second = b; third = c; position = z.position }
 
 steps-are : (s : Bor (List ℕ)) (h y x z : ImageReader) (a b c : ℕ) → (h.image ≡ s) × (h.position ≡ 0) → Said h a y → Said y b x → Said x c z
-    → given_back a b c z ≡ threeSteps (at_start s)
+    → given_back a b c z ≡ three_steps (at_start s)
 unfolding after
 steps-are s h y x z a b c start one two three =
     let h-is : h ≡ at_start s = λ i. record { image = start.0 i; position = start.1 i } in
@@ -123,7 +123,7 @@ module _ {M : Type 1} {𝓤 : Ura M} (𝓛 : Logic 𝓤) (at_mem : Memory → SP
   new-said : (r : ImageReader) → ent 𝓤 (ensured 𝓛 new.ended (new.clauses 𝓛 at_mem run) (κ, tt) (s, tt) tt r) (fact 𝓤 (Fresh r))
   new-said r = ex_e 𝓤 _ (λ ws. snd∗ 𝓤 (sem 𝓛 (lasts new.ended (κ, tt) (s, tt) ws)) (fact 𝓤 (Fresh r)))
 
-  exits : (t : Three) → t.first < 2 ^ 8 → t.second < 2 ^ 8 → t.third < 2 ^ 8 → t.position < 2 ^ 64 → t ≡ threeSteps (at_start s)
+  exits : (t : Three) → t.first < 2 ^ 8 → t.second < 2 ^ 8 → t.third < 2 ^ 8 → t.position < 2 ^ 64 → t ≡ three_steps (at_start s)
       → ent 𝓤 (sep 𝓤 (A.lft κ q) (sem 𝓛 Own)) (Post (S'.lowered t))
   exits t a-fits b-fits c-fits p-fits e =
       qed 𝓛 (‵ (flft κ q) ∷ ‵ Own ∷ []) ∵

@@ -3,15 +3,15 @@ use mathlib.Core.Path.{◌≡◌}
 use mathlib.Core.Bool.{Bool, true, false}
 use mathlib.Core.List.{List, [], ◌∷◌}
 use Prim.Native.Nat.{ℕ, ◌+◌}
-use Rattle.channel.specs.Channel.{channelBits, levelAfter}
+use Rattle.channel.specs.Channel.{channel_bits, level_after}
 
 -- how many channel bits are ONE
-unfoldable pub onesOf : List Bool → ℕ
-onesOf [] = 0
-onesOf (true ∷ cs) = 1 + onesOf cs
-onesOf (false ∷ cs) = onesOf cs
+unfoldable pub ones_of : List Bool → ℕ
+ones_of [] = 0
+ones_of (true ∷ cs) = 1 + ones_of cs
+ones_of (false ∷ cs) = ones_of cs
 
 -- the level after modulation bits, and so many ONEs more
 pub record Counted (level : Bool) (ones : ℕ) (b : List ℕ) (next : Bool) (total : ℕ) : Type 0 where
-  pub level-is : next ≡ levelAfter level b
-  pub ones-are : total ≡ ones + onesOf (channelBits level b)
+  pub level-is : next ≡ level_after level b
+  pub ones-are : total ≡ ones + ones_of (channel_bits level b)

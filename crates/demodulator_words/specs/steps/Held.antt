@@ -1,7 +1,7 @@
 -- What the automaton holds between two words of a frame, and the words that it leaves.
 use Rattle.std.specs.Prelude.{Bool, List, ◌≡◌, ℕ, ◌+◌, ◌*◌, ◌/◌, ◌%◌, ◌<◌, eqb}
 use Rattle.modulation.specs.Modulation.{Three}
-use Rattle.automaton.specs.Automaton.{ending, stateAfter, numberAfter}
+use Rattle.automaton.specs.Automaton.{ending, state_after, number_after}
 use Rattle.automaton.specs.steps.Table.{limit}
 
 -- x is a state and a number of 46 bits whose pending bits are zeros; 2251799813685248 is 2^51
@@ -12,8 +12,8 @@ pub record Held (x : ℕ) : Type 0 where
 
 -- with the groups gs read, x is a word of 46 bits and what is held of the next; 70368744177664 is 2^46
 pub record NextWord (gs : List Three) (x word held : ℕ) : Type 0 where
-  pub number : word * 70368744177664 + held / 32 ≡ numberAfter (x % 32) (x / 32) gs
-  pub state : held % 32 ≡ stateAfter (x % 32) gs
+  pub number : word * 70368744177664 + held / 32 ≡ number_after (x % 32) (x / 32) gs
+  pub state : held % 32 ≡ state_after (x % 32) gs
   pub below : word < 70368744177664
   pub holds : Held held
 

@@ -4,19 +4,19 @@ use Prim.Native.Nat.{ℕ, ◌≤◌, ◌+◌, ◌*◌, ◌-◌, ◌/◌}
 use lib.ListN.{length, take}
 use native.Mathlib.Omega.{arith}
 use borrow.Author.Rules.{rules}
-use Rattle.edc.specs.Edc.{edcOf}
+use Rattle.edc.specs.Edc.{edc_of}
 use Rattle.edc.proofs.Loops.{none_passed, eight-of-list, byte-of-list, bytes-passed}
 use Rattle.edc.proofs.edc.Statement.{statement}
 use Rattle.edc.proofs.edc.Tie as tie
 
 abbrev invariant-loop : tie.invariant-loop
-invariant-loop bytes register₀ eights k₀ register k = (k ≤ eights) × (register ≡ edcOf (take (8 * k) bytes))
+invariant-loop bytes register₀ eights k₀ register k = (k ≤ eights) × (register ≡ edc_of (take (8 * k) bytes))
 
 abbrev decreases-loop : tie.decreases-loop
 decreases-loop bytes register₀ eights k₀ register k = eights - k
 
 abbrev invariant-loop2 : tie.invariant-loop2
-invariant-loop2 bytes register₀ eights k₀ k-end register k = (k ≤ length bytes) × (register ≡ edcOf (take k bytes))
+invariant-loop2 bytes register₀ eights k₀ k-end register k = (k ≤ length bytes) × (register ≡ edc_of (take k bytes))
 
 abbrev decreases-loop2 : tie.decreases-loop2
 decreases-loop2 bytes register₀ eights k₀ k-end register k = length bytes - k
@@ -47,7 +47,7 @@ loop-again c =
     let k = head.loop.k in
     let next : 8 * k + 8 ≡ 8 * (k + 1) = omega arith in
     let passed = eight-of-list bytes (8 * k) read.double-word-at.result c.eight-more.result read.double-word-at.ensures (c.eight-more.ensures (take (8 * k) bytes) head.loop.invariant.1) in
-    (omega arith, passed ∙ ap (λ (n : ℕ). edcOf (take n bytes)) next)
+    (omega arith, passed ∙ ap (λ (n : ℕ). edc_of (take n bytes)) next)
 
 mul-k : tie.Need-overflow-mul-k invariant-loop decreases-loop invariant-loop2 decreases-loop2
 mul-k c = search rules
@@ -57,7 +57,7 @@ loop2-holds c =
     let head = c.before in
     let bytes = head.before.before.args.bytes.now in
     let end : head.loop.k ≡ length bytes / 8 = omega arith in
-    (omega arith, head.loop.invariant.1 ∙ ap (λ (n : ℕ). edcOf (take (8 * n) bytes)) end)
+    (omega arith, head.loop.invariant.1 ∙ ap (λ (n : ℕ). edc_of (take (8 * n) bytes)) end)
 
 shared-slice-read-byte-more :
     tie.Need-shared-slice-read-byte-more invariant-loop decreases-loop invariant-loop2 decreases-loop2

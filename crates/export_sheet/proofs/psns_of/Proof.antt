@@ -2,7 +2,7 @@
 use mathlib.Core.Path.{ap}
 use Prim.Native.Nat.{ℕ, ◌-◌}
 use Rattle.laws.proofs.Fill.{upto-none, upto-more, upto_all}
-use Rattle.export_sheet.specs.Exported.{givenPsns}
+use Rattle.export_sheet.specs.Exported.{given_psns}
 use Rattle.export_sheet.proofs.Exported.{NumbersTaken}
 use borrow.Author.Rules.{rules}
 use Rattle.export_sheet.proofs.psns_of.Statement.{statement}
@@ -38,7 +38,7 @@ loop-again c =
     upto-more {n = 64} (search rules) (ap (λ (n : ℕ). record { 0 = n }) c.number_at.ensures) turn.loop.invariant
 
 returns : tie.Need-returns invariant-loop decreases-loop
-unfolding givenPsns
+unfolding given_psns
 returns c = upto_all (search rules) c.before.loop.invariant
 
 pub psns-of-spec : {M : Type 1} → statement M

@@ -2,7 +2,7 @@
 use Rattle.std.specs.Prelude.{List, ◌≡◌, ℕ, ◌+◌, ◌*◌, ◌-◌, ◌/◌, ◌%◌, ◌^◌, ◌<◌, ◌≤◌, get_or, drop}
 use Rattle.bits.specs.Bits.{bits_of}
 use Rattle.modulation.specs.Modulation.{Two}
-use Rattle.modulation.specs.steps.Pairs.{nibblePairs}
+use Rattle.modulation.specs.steps.Pairs.{nibble_pairs}
 
 -- a number of n bits: those of f from p on
 pub record Word (n : ℕ) (f : ℕ → ℕ) (p w : ℕ) : Type 0 where
@@ -32,4 +32,4 @@ pub record SixteenOn (place next : ℕ) : Type 0 where
 -- the last two of 634 pairs
 pub record LastTwo (ds : List Two) (x : ℕ) : Type 0 where
   pub small : x < 16
-  pub pairs-are : drop 632 ds ≡ nibblePairs x
+  pub pairs-are : drop 632 ds ≡ nibble_pairs x

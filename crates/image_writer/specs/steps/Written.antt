@@ -4,12 +4,12 @@ use Rattle.bits.specs.Bits.{bits_of}
 use Rattle.modulation.specs.Bits.{bits}
 use Rattle.modulation.specs.Stream as Stream
 use Rattle.image.specs.Image.{Input, cluster, image}
-use Rattle.recording.specs.Recording.{recordingOf}
-use Rattle.sizes.specs.Sizes.{frameCount}
+use Rattle.recording.specs.Recording.{recording_of}
+use Rattle.sizes.specs.Sizes.{frame_count}
 
 -- the 496 frames, the sync that follows, and two zero bits
 pub record ImageWritten (first : Bool) (work dc after : List ℕ) : Type 0 where
-  pub whole : bits_of after ≡ bits (Stream.stream (recordingOf first work dc) frameCount) ++ (0 ∷ 0 ∷ [])
+  pub whole : bits_of after ≡ bits (Stream.stream (recording_of first work dc) frame_count) ++ (0 ∷ 0 ∷ [])
 
 -- the slices as they are when all is written
 pub record Filled (input : Input) (after work : List ℕ) : Type 0 where

@@ -1,7 +1,7 @@
 -- `most_needed` meets its contract: the tests, and the most bits where they are passed (Outcome). Assumes nothing.
 use mathlib.Core.Path.{sym, ap, ◌∙◌}
 use lib.ListN.{length}
-use Rattle.answer.specs.Answer.{isDone}
+use Rattle.answer.specs.Answer.{is_done}
 use Rattle.look_ahead.proofs.Outcome.{frame-done, outcome-done, outcome-refused}
 use borrow.Author.Rules.{rules}
 use Rattle.look_ahead.proofs.most_needed.Statement.{statement}
@@ -18,7 +18,7 @@ most-bits-requires c κs =
     let asked = c.before in
     let judged = asked.before in
     let start = judged.before.before in
-    (frame-done (length start.args.row.now) start.args.dc (ap isDone (sym judged.judge.ensures) ∙ sym asked.is-done.ensures ∙ c.if1.true)).row
+    (frame-done (length start.args.row.now) start.args.dc (ap is_done (sym judged.judge.ensures) ∙ sym asked.is-done.ensures ∙ c.if1.true)).row
 
 returns : tie.Need-returns
 returns c b =

@@ -5,8 +5,8 @@ use Rattle.laws.specs.Tabulate.{tabulate}
 use Rattle.modulation.specs.Modulation.{Two}
 use Rattle.modulation.specs.Bits.{pairs, Gives}
 
-unfoldable pub bitsIn : List ℕ → List ℕ
-bitsIn ws = tabulate 1268 (λ j. get_or ws ((j + 20) / 46) 0 / 2 ^ (45 - (j + 20) % 46) % 2)
+unfoldable pub bits_in : List ℕ → List ℕ
+bits_in ws = tabulate 1268 (λ j. get_or ws ((j + 20) / 46) 0 / 2 ^ (45 - (j + 20) % 46) % 2)
 
 -- 29 numbers of 46 bits; 70368744177664 is 2^46
 pub record Words (ws : List ℕ) : Type 0 where
@@ -16,5 +16,5 @@ pub record Words (ws : List ℕ) : Type 0 where
 -- the answer on modulation bits m and # of the next sync: the data bits in the words give them, or no data bits do, however many
 pub record WordsRead (before : Bool) (m : List ℕ) (hash answer : Bool) (ws : List ℕ) : Type 0 where
   pub words : Words ws
-  pub found : answer ≡ true → Gives before (pairs (bitsIn ws)) m hash
+  pub found : answer ≡ true → Gives before (pairs (bits_in ws)) m hash
   pub none : answer ≡ false → (ds : List Two) → Gives before ds m hash → ⊥

@@ -4,14 +4,14 @@ use native.Mathlib.Omega.{arith}
 use mathlib.Core.Path.{◌≡◌}
 use lib.ListN.{length}
 use Rattle.laws.proofs.Fill.{Upto, upto-none, upto-more}
-use Rattle.notation.specs.Words.{dcByte}
-use Rattle.notation.proofs.Words.{bytes-other-words, bytes-other-length, byte-written, bytes_read}
+use Rattle.notation.specs.Words.{dc_byte}
+use Rattle.notation.proofs.Words.{bytes-other-words, bytes-other-length, byte-written, bytes-read}
 use borrow.Author.Rules.{rules}
 use Rattle.notation.proofs.bytes_of.Statement.{statement}
 use Rattle.notation.proofs.bytes_of.Tie as tie
 
 abbrev invariant-loop : tie.invariant-loop
-invariant-loop words bytes₀ k₀ bytes k = (length words ≡ 496) × Upto 0 (dcByte words) 1984 k bytes
+invariant-loop words bytes₀ k₀ bytes k = (length words ≡ 496) × Upto 0 (dc_byte words) 1984 k bytes
 
 abbrev decreases-loop : tie.decreases-loop
 decreases-loop words bytes₀ k₀ bytes k = 1984 - k
@@ -53,7 +53,7 @@ same_length : tie.Need-same-length invariant-loop decreases-loop
 same_length c = search rules
 
 returns-3 : tie.Need-returns-3 invariant-loop decreases-loop
-returns-3 c = search (bytes_read, arith)
+returns-3 c = search (bytes-read, arith)
 
 pub bytes-of-spec : {M : Type 1} → statement M
 bytes-of-spec =

@@ -4,14 +4,14 @@ use Prim.Native.Nat.{◌-◌, ◌≤◌}
 use native.Mathlib.Omega.{arith}
 use lib.ListN.{length}
 use Rattle.laws.proofs.First.{Passed, passed_none, passed-more}
-use Rattle.notation.specs.Psn.{valueTo, noDigit}
-use Rattle.notation.proofs.Digits.{no_digit, a-digit, value-more, value-small, another-length, another-byte, eight-digits}
+use Rattle.notation.specs.Psn.{value_to, no_digit}
+use Rattle.notation.proofs.Digits.{no-digit, a-digit, value-more, value-small, another-length, another-byte, eight-digits}
 use borrow.Author.Rules.{rules}
 use Rattle.notation.proofs.psn_of.Statement.{statement}
 use Rattle.notation.proofs.psn_of.Tie as tie
 
 abbrev invariant-loop : tie.invariant-loop
-invariant-loop text value₀ k₀ value k = (k ≤ 8) × (length text ≡ 8) × Passed (noDigit text) k × (value ≡ valueTo text k)
+invariant-loop text value₀ k₀ value k = (k ≤ 8) × (length text ≡ 8) × Passed (no_digit text) k × (value ≡ value_to text k)
 
 abbrev decreases-loop : tie.decreases-loop
 decreases-loop text value₀ k₀ value k = 8 - k
@@ -20,7 +20,7 @@ returns : tie.Need-returns invariant-loop decreases-loop
 returns c = search (another-length)
 
 loop-holds : tie.Need-loop-init invariant-loop decreases-loop
-unfolding valueTo
+unfolding value_to
 loop-holds c = (omega arith, omega arith, passed_none, refl)
 
 shared-slice-read-digit : tie.Need-shared-slice-read-digit invariant-loop decreases-loop
@@ -30,7 +30,7 @@ digit-requires : tie.Need-digit-requires invariant-loop decreases-loop
 digit-requires c κs = search rules
 
 returns-2 : tie.Need-returns-2 invariant-loop decreases-loop
-returns-2 c = search (another-byte, no_digit)
+returns-2 c = search (another-byte, no-digit)
 
 mul-value : tie.Need-overflow-mul-value invariant-loop decreases-loop
 mul-value c = let inv = c.before.before.before.before.loop.invariant in let small = value-small _ _ _ inv.2 inv.3 (omega arith) in omega arith

@@ -1,11 +1,11 @@
 -- What is kept of a text while it is read.
 use Rattle.std.specs.Prelude.{◌≡◌, Bool, true, false, cond, ◌&&◌, List, [], ◌∷◌, ◌++◌, map, ℕ, ◌+◌, ◌*◌, ◌≤◌, min, eqb, leb, length, take}
-use Rattle.notation.specs.Psn.{digitOf}
+use Rattle.notation.specs.Psn.{digit_of}
 use Rattle.texts.specs.declared.Text.{Text}
 use Rattle.queue_lines.specs.declared.RecordLine.{RecordLine}
 use Rattle.queue_lines.specs.declared.RecordsRead.{RecordsRead}
 use Rattle.queue_lines.specs.declared.steps.LineRecord.{LineRecord}
-use Rattle.queue_lines.specs.Lines.{lines_of, isDigit, recordOn, said_of, textSaid}
+use Rattle.queue_lines.specs.Lines.{lines_of, is_digit, record_on, said_of, text_said}
 
 -- the bytes `begun` of a line
 pub record HoldsRecordLine (begun : List ℕ) (line : RecordLine) : Type 0 where
@@ -15,11 +15,11 @@ pub record HoldsRecordLine (begun : List ℕ) (line : RecordLine) : Type 0 where
 
 -- the byte of two digits, 256 for any other two
 abbrev pub pair_of : ℕ → ℕ → ℕ
-pair_of high low = cond (isDigit high && isDigit low) (digitOf high * 16 + digitOf low) 256
+pair_of high low = cond (is_digit high && is_digit low) (digit_of high * 16 + digit_of low) 256
 
 -- twelve bytes are held; a longer line is handled as the record without bytes
-unfoldable pub shownRecord : List ℕ → ℕ → List ℕ
-shownRecord text size = cond (leb size 12) (recordOn (take size text)) []
+unfoldable pub shown_record : List ℕ → ℕ → List ℕ
+shown_record text size = cond (leb size 12) (record_on (take size text)) []
 
 pub record HoldsRecord (bytes : List ℕ) (held : LineRecord) : Type 0 where
   pub room : length held.bytes ≡ 6
@@ -32,12 +32,12 @@ unbroken [] = true
 unbroken (b ∷ text) = cond (eqb b 10) false (unbroken text)
 
 -- what is printed of a text
-abbrev pub shownBytes : Text → List ℕ
-shownBytes text = take text.size text.bytes
+abbrev pub shown_bytes : Text → List ℕ
+shown_bytes text = take text.size text.bytes
 
 -- the first bytes of a text, what was printed for the lines that ended, and the line that is begun; whatever follows
 pub record HasRead (bytes printed : List ℕ) (read : RecordsRead) : Type 0 where
   pub begun : List ℕ
   pub one_line : unbroken begun ≡ true
   pub line : HoldsRecordLine begun read.line
-  pub whole : (rest : List ℕ) → textSaid (bytes ++ rest) ≡ printed ++ said_of read.queue (map recordOn (lines_of (begun ++ rest)))
+  pub whole : (rest : List ℕ) → text_said (bytes ++ rest) ≡ printed ++ said_of read.queue (map record_on (lines_of (begun ++ rest)))

@@ -28,6 +28,6 @@ unfoldable pub front : List ℕ → List ℕ → ℕ → ℕ → ℕ
 front was message at k = sum (get_or message (at + k) 0) (get_or was k 0)
 
 -- byte j of what the last n of eight bytes leave, added to a byte
-unfoldable pub leavesAdded : List ℕ → ℕ → ℕ → ℕ → ℕ
-leavesAdded eight j byte zero = byte
-leavesAdded eight j byte (suc n) = sum (leavesAdded eight j byte n) (get_or (leaves n (get_or eight (7 - n) 0)) j 0)
+unfoldable pub leaves_added : List ℕ → ℕ → ℕ → ℕ → ℕ
+leaves_added eight j byte zero = byte
+leaves_added eight j byte (suc n) = sum (leaves_added eight j byte n) (get_or (leaves n (get_or eight (7 - n) 0)) j 0)

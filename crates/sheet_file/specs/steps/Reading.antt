@@ -1,17 +1,17 @@
 -- What is kept of a file while it is read.
 use Rattle.std.specs.Prelude.{◌≡◌, Bool, cond, List, ◌++◌, ℕ, ◌≤◌, ◌<◌, min, eqb, length, get_or}
-use Rattle.address_sheet.specs.Sheet.{entryPsn}
+use Rattle.address_sheet.specs.Sheet.{entry_psn}
 use Rattle.notation.specs.declared.PsnText.{PsnText}
 use Rattle.notation.specs.declared.PsnText.TheVariants.{NoNumber}
-use Rattle.notation.specs.Psn.{psnOf}
+use Rattle.notation.specs.Psn.{psn_of}
 use Rattle.sheet_file.specs.declared.Line.{Line}
 use Rattle.sheet_file.specs.declared.SheetEntries.{SheetEntries}
 use Rattle.sheet_file.specs.declared.SheetFile.{SheetFile}
-use Rattle.sheet_file.specs.File.{lines_from, trimmed, Entry, entriesFrom, fileEntries, line_of, is_number, number_in, wrongLine, psnAt, line_at}
+use Rattle.sheet_file.specs.File.{lines_from, trimmed, Entry, entries_from, file_entries, line_of, is_number, number_in, wrong_line, psn_at, line_at}
 
 -- eight bytes are held; a text of another size is no PSN
-abbrev pub shownPsn : List ℕ → ℕ → PsnText
-shownPsn text size = cond (eqb size 8) (psnOf text) NoNumber
+abbrev pub shown_psn : List ℕ → ℕ → PsnText
+shown_psn text size = cond (eqb size 8) (psn_of text) NoNumber
 
 -- the bytes `begun` of a line
 pub record HoldsLine (begun : List ℕ) (line : Line) : Type 0 where
@@ -25,18 +25,18 @@ pub record HoldsEntries (list : List Entry) (held : SheetEntries) : Type 0 where
   pub psns-room : length held.psns ≡ 64
   pub lines-room : length held.lines ≡ 64
   pub count : held.count ≡ min 65 (length list)
-  pub psns : (i : ℕ) → i < 64 → i < length list → entryPsn held.psns i ≡ psnAt list i
+  pub psns : (i : ℕ) → i < 64 → i < length list → entry_psn held.psns i ≡ psn_at list i
   pub lines : (i : ℕ) → i < 64 → i < length list → get_or held.lines i 0 ≡ line_at list i
-  pub wrong : held.wrong ≡ wrongLine list
+  pub wrong : held.wrong ≡ wrong_line list
 
 -- the first line that is no PSN, 0 where there is none, behind one more
-abbrev pub wrongAfter : ℕ → ℕ → Bool → ℕ
-wrongAfter wrong line right = cond (eqb wrong 0) (cond right 0 line) wrong
+abbrev pub wrong_after : ℕ → ℕ → Bool → ℕ
+wrong_after wrong line right = cond (eqb wrong 0) (cond right 0 line) wrong
 
 -- what is known of an entry: its PSN, 0 where it is none; whether it is one; its line
 pub record IsEntry (entry : Entry) (psn : ℕ) (right : Bool) (line : ℕ) : Type 0 where
-  pub own-psn : psn ≡ number_in (psnOf entry.text)
-  pub is-psn : right ≡ is_number (psnOf entry.text)
+  pub own-psn : psn ≡ number_in (psn_of entry.text)
+  pub is-psn : right ≡ is_number (psn_of entry.text)
   pub own_line : line ≡ line_of entry
 
 -- the first bytes of a file: the entries of the lines that ended, and the line that is begun; whatever follows
@@ -46,4 +46,4 @@ pub record HasRead (bytes : List ℕ) (file : SheetFile) : Type 0 where
   pub before : file.before ≤ length bytes
   pub line : HoldsLine begun file.line
   pub entries : HoldsEntries ended file.entries
-  pub whole : (rest : List ℕ) → fileEntries (bytes ++ rest) ≡ ended ++ entriesFrom file.before (lines_from begun rest)
+  pub whole : (rest : List ℕ) → file_entries (bytes ++ rest) ≡ ended ++ entries_from file.before (lines_from begun rest)

@@ -3,13 +3,13 @@ use borrow.Author.Rules.{rules}
 use Prim.Native.Nat.{◌-◌}
 use native.Mathlib.Omega.{arith}
 use Rattle.laws.proofs.Fill.{Upto, upto-none, upto-more}
-use Rattle.bis.specs.Reading.{sideByteIn}
+use Rattle.bis.specs.Reading.{side_byte_in}
 use Rattle.side_reader.proofs.Judging.{side_left, side-filled}
 use Rattle.side_reader.proofs.side_data.Statement.{statement}
 use Rattle.side_reader.proofs.side_data.Tie as tie
 
 abbrev invariant-loop : tie.invariant-loop
-invariant-loop side₀ block k₀ side k = Upto 0 (sideByteIn block) 592 k side
+invariant-loop side₀ block k₀ side k = Upto 0 (side_byte_in block) 592 k side
 
 abbrev decreases-loop : tie.decreases-loop
 decreases-loop side₀ block k₀ side k = 592 - k

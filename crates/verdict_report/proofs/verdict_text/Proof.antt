@@ -1,6 +1,6 @@
 -- `verdict_text` meets its contract: the words of each verdict (report, Words).
 use Rattle.report.proofs.Words.{verdict-is, refused-is}
-use Rattle.report.specs.Words.{verdictText}
+use Rattle.report.specs.Words.{verdict_text}
 use Rattle.texts.specs.Pieces.{piece}
 use borrow.Author.Rules.{rules}
 use Rattle.verdict_report.proofs.verdict_text.Statement.{statement}
@@ -58,23 +58,23 @@ put-piece-requires-2 : tie.Need-put-piece-requires-2
 put-piece-requires-2 c κs = search rules
 
 returns : tie.Need-returns
-unfolding verdictText piece
+unfolding verdict_text piece
 returns c = search (verdict-is)
 
 returns-2 : tie.Need-returns-2
-unfolding verdictText piece
+unfolding verdict_text piece
 returns-2 c = search (refused-is)
 
 returns-3 : tie.Need-returns-3
-unfolding verdictText piece
+unfolding verdict_text piece
 returns-3 c = search (verdict-is)
 
 returns-4 : tie.Need-returns-4
-unfolding verdictText piece
+unfolding verdict_text piece
 returns-4 c = search (verdict-is)
 
 returns-5 : tie.Need-returns-5
-unfolding verdictText piece
+unfolding verdict_text piece
 returns-5 c = search (verdict-is)
 
 pub verdict-text-spec : {M : Type 1} → statement M

@@ -2,7 +2,7 @@
 -- (proofs/Walk: walk-is).
 use Rattle.std.specs.Prelude.{Bool, false, cond, List, [], ◌∷◌, ℕ, suc, ◌+◌, ltb, length}
 use Rattle.modulation.specs.Modulation.{Two, d00, d01, d10, d11}
-use Rattle.modulation.specs.Machine.{Wait, w, w00, w0000, w000000, w000010, w11, w1101, w110111, w11011100, w1101110000, waitNumber}
+use Rattle.modulation.specs.Machine.{Wait, w, w00, w0000, w000000, w000010, w11, w1101, w110111, w11011100, w1101110000, wait_number}
 
 -- these wait, or the word is fixed and has so many pairs
 pub data Told : Type 0 where
@@ -52,17 +52,17 @@ told w1101110000 d10 = word_of 1
 told w1101110000 d11 = word_of 1
 
 -- the frame ends with what waits: the word's pairs
-abbrev pub sizeAtEnd : Wait → ℕ
-sizeAtEnd w = 0
-sizeAtEnd w00 = 1
-sizeAtEnd w0000 = 2
-sizeAtEnd w000000 = 3
-sizeAtEnd w000010 = 3
-sizeAtEnd w11 = 1
-sizeAtEnd w1101 = 1
-sizeAtEnd w110111 = 1
-sizeAtEnd w11011100 = 1
-sizeAtEnd w1101110000 = 3
+abbrev pub size_at_end : Wait → ℕ
+size_at_end w = 0
+size_at_end w00 = 1
+size_at_end w0000 = 2
+size_at_end w000000 = 3
+size_at_end w000010 = 3
+size_at_end w11 = 1
+size_at_end w1101 = 1
+size_at_end w110111 = 1
+size_at_end w11011100 = 1
+size_at_end w1101110000 = 3
 
 -- the pairs that a word needs, and those that it has
 pub record Walked : Type 0 where
@@ -78,24 +78,24 @@ onward (word_of m) n rest = walked (suc n) m
 
 -- n pairs wait, these; ds are behind them
 abbrev pub walk : Wait → ℕ → List Two → Walked
-walk s n [] = walked n (sizeAtEnd s)
+walk s n [] = walked n (size_at_end s)
 walk s n (d ∷ ds) = onward (told s d) n (λ t. walk t (suc n) ds)
 
 -- 11 with two pairs or fewer behind it: it is not substituted, whatever they are
-abbrev pub endsPlain : List Two → Bool
-endsPlain [] = false
-endsPlain (d00 ∷ ds) = false
-endsPlain (d01 ∷ ds) = false
-endsPlain (d10 ∷ ds) = false
-endsPlain (d11 ∷ ds) = ltb (length ds) 3
+abbrev pub ends_plain : List Two → Bool
+ends_plain [] = false
+ends_plain (d00 ∷ ds) = false
+ends_plain (d01 ∷ ds) = false
+ends_plain (d10 ∷ ds) = false
+ends_plain (d11 ∷ ds) = ltb (length ds) 3
 
 -- the word at the front of ds
-abbrev pub walkWord : List Two → Walked
-walkWord ds = cond (endsPlain ds) (walked 1 1) (walk w 0 ds)
+abbrev pub walk_word : List Two → Walked
+walk_word ds = cond (ends_plain ds) (walked 1 1) (walk w 0 ds)
 
 -- ---- as numbers
 
 -- below 10 what waits; above it the word's pairs
-abbrev pub toldNumber : Told → ℕ
-toldNumber (wait s) = waitNumber s
-toldNumber (word_of m) = 10 + m
+abbrev pub told_number : Told → ℕ
+told_number (wait s) = wait_number s
+told_number (word_of m) = 10 + m

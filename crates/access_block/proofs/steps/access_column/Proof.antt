@@ -4,13 +4,13 @@ use Prim.Native.Nat.{◌-◌}
 use native.Mathlib.Omega.{arith}
 use mathlib.Core.Path.{refl}
 use Rattle.laws.proofs.Fill.{Upto, upto-none, upto-more, upto_all}
-use Rattle.bis.specs.AccessBlock.{accessByte}
-use Rattle.bis.specs.BisBlock.{accessColumn}
+use Rattle.bis.specs.AccessBlock.{access_byte}
+use Rattle.bis.specs.BisBlock.{access_column}
 use Rattle.access_block.proofs.steps.access_column.Statement.{statement}
 use Rattle.access_block.proofs.steps.access_column.Tie as tie
 
 abbrev invariant-loop : tie.invariant-loop
-invariant-loop fields side c column₀ row₀ column row = Upto 0 (λ k. accessByte fields side k c) 30 row column
+invariant-loop fields side c column₀ row₀ column row = Upto 0 (λ k. access_byte fields side k c) 30 row column
 
 abbrev decreases-loop : tie.decreases-loop
 decreases-loop fields side c column₀ row₀ column row = 30 - row
@@ -34,7 +34,7 @@ loop-again : tie.Need-loop-preserved invariant-loop decreases-loop
 loop-again c = search (upto-more, arith)
 
 returns : tie.Need-returns invariant-loop decreases-loop
-unfolding accessColumn
+unfolding access_column
 returns c = search (upto_all, arith)
 
 pub access-column-spec : {M : Type 1} → statement M

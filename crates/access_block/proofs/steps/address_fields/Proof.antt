@@ -5,7 +5,7 @@ use native.Mathlib.Omega.{arith}
 use mathlib.Core.Path.{refl}
 use Rattle.laws.proofs.Fill.{Upto, upto-none, upto_all}
 use mathlib.Core.List.{[]}
-use Rattle.bis.specs.AccessBlock.{addressFields, field_of}
+use Rattle.bis.specs.AccessBlock.{address_fields, field_of}
 use Rattle.access_block.proofs.Writing.{fields-more}
 use Rattle.access_block.proofs.steps.address_fields.Statement.{statement}
 use Rattle.access_block.proofs.steps.address_fields.Tie as tie
@@ -47,7 +47,7 @@ loop-again : tie.Need-loop-preserved invariant-loop decreases-loop
 loop-again c = search (fields-more, arith)
 
 returns : tie.Need-returns invariant-loop decreases-loop
-unfolding addressFields
+unfolding address_fields
 returns c = search (upto_all, arith)
 
 pub address-fields-spec : {M : Type 1} → statement M

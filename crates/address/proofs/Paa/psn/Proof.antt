@@ -1,5 +1,5 @@
 -- `Paa::psn` meets its contract: a PAA off a cluster, one above every zone, and any other (Judging).
-use Rattle.address.specs.Conversions.{paaToPsn}
+use Rattle.address.specs.Conversions.{paa_to_psn}
 use Rattle.address.proofs.Judging.{paa-off-cluster, paa-too-high}
 use borrow.Author.Rules.{rules}
 use Rattle.address.proofs.Paa.psn.Statement.{statement}
@@ -18,7 +18,7 @@ own-requires : tie.Need-own-requires
 own-requires c κs = search rules
 
 returns-3 : tie.Need-returns-3
-unfolding paaToPsn
+unfolding paa_to_psn
 returns-3 c = c.own.ensures
 
 pub psn-spec : {M : Type 1} → statement M

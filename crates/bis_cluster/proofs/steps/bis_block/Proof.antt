@@ -4,12 +4,12 @@ use mathlib.Core.List.{[]}
 use Prim.Native.Nat.{◌-◌}
 use borrow.Author.Rules.{rules}
 use Rattle.laws.proofs.Fill.{Upto, upto-none, upto-more, upto_all}
-use Rattle.cluster.specs.Multiplex.{columnIn, bisIn}
+use Rattle.cluster.specs.Multiplex.{column_in, bis_in}
 use Rattle.bis_cluster.proofs.steps.bis_block.Statement.{statement}
 use Rattle.bis_cluster.proofs.steps.bis_block.Tie as tie
 
 abbrev invariant-loop : tie.invariant-loop
-invariant-loop work block₀ c₀ block c = Upto [] (columnIn work) 24 c block
+invariant-loop work block₀ c₀ block c = Upto [] (column_in work) 24 c block
 
 abbrev decreases-loop : tie.decreases-loop
 decreases-loop work block₀ c₀ block c = 24 - c
@@ -39,7 +39,7 @@ loop-again : tie.Need-loop-preserved invariant-loop decreases-loop
 loop-again c = upto-more (omega arith) c.bis-column.ensures c.before.before.loop.invariant
 
 returns : tie.Need-returns invariant-loop decreases-loop
-unfolding bisIn
+unfolding bis_in
 returns c = upto_all (omega arith) c.before.loop.invariant
 
 pub bis-block-spec : {M : Type 1} → statement M

@@ -4,14 +4,14 @@ use Prim.Native.Nat.{◌-◌}
 use borrow.Author.Rules.{rules}
 use lib.ListN.{get_or}
 use Rattle.laws.proofs.Fill.{Upto, upto-none, upto_all}
-use Rattle.bis.specs.BisCluster.{bisRow, bisColumn}
-use Rattle.cluster.specs.Multiplex.{bisIndex, columnIn}
+use Rattle.bis.specs.BisCluster.{bis_row, bis_column}
+use Rattle.cluster.specs.Multiplex.{bis_index, column_in}
 use Rattle.bis_cluster.proofs.Loops.{column-read}
 use Rattle.bis_cluster.proofs.steps.bis_column.Statement.{statement}
 use Rattle.bis_cluster.proofs.steps.bis_column.Tie as tie
 
 abbrev invariant-loop : tie.invariant-loop
-invariant-loop work c column₀ n₀ column n = Upto 0 (λ N. get_or work (bisIndex (bisRow N c) (bisColumn N c)) 0) 62 n column
+invariant-loop work c column₀ n₀ column n = Upto 0 (λ N. get_or work (bis_index (bis_row N c) (bis_column N c)) 0) 62 n column
 
 abbrev decreases-loop : tie.decreases-loop
 decreases-loop work c column₀ n₀ column n = 62 - n
@@ -44,7 +44,7 @@ loop-again c =
     column-read args.work.now args.c head.loop.n c.before.bis-index.result head.loop.column (omega arith) c.before.bis-index.ensures head.loop.invariant
 
 returns : tie.Need-returns invariant-loop decreases-loop
-unfolding columnIn
+unfolding column_in
 returns c = upto_all (omega arith) c.before.loop.invariant
 
 pub bis-column-spec : {M : Type 1} → statement M

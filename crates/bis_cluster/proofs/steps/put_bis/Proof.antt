@@ -4,14 +4,14 @@ use Prim.Native.Nat.{◌-◌, ◌≤◌, ◌/◌, ◌%◌}
 use borrow.Author.Rules.{rules}
 use Rattle.laws.specs.Scatter.{Scattered}
 use Rattle.laws.proofs.Scatter.{scattered-none, scattered-end}
-use Rattle.bis.specs.BisCluster.{bisByte}
-use Rattle.cluster.specs.Multiplex.{bisIndex}
+use Rattle.bis.specs.BisCluster.{bis_byte}
+use Rattle.cluster.specs.Multiplex.{bis_index}
 use Rattle.bis_cluster.proofs.Loops.{bis-turn}
 use Rattle.bis_cluster.proofs.steps.put_bis.Statement.{statement}
 use Rattle.bis_cluster.proofs.steps.put_bis.Tie as tie
 
 abbrev invariant-loop : tie.invariant-loop
-invariant-loop work₀ block m₀ work m = (m ≤ 1488) × Scattered 0 (λ m. bisIndex (m / 3) (m % 3)) (λ m. bisByte block (m / 3) (m % 3)) work₀ m work
+invariant-loop work₀ block m₀ work m = (m ≤ 1488) × Scattered 0 (λ m. bis_index (m / 3) (m % 3)) (λ m. bis_byte block (m / 3) (m % 3)) work₀ m work
 
 abbrev decreases-loop : tie.decreases-loop
 decreases-loop work₀ block m₀ work m = 1488 - m

@@ -2,13 +2,13 @@
 use borrow.Author.Rules.{rules}
 use Prim.Native.Nat.{◌-◌}
 use Rattle.laws.proofs.First.{Passed, passed_none, passed-more, first-here, first_past}
-use Rattle.bis.specs.Reading.{wrongColumn, firstWrongColumn}
+use Rattle.bis.specs.Reading.{wrong_column, first_wrong_column}
 use Rattle.bis_columns.proofs.Judging.{column-judged}
 use Rattle.bis_columns.proofs.steps.first_wrong_column_by.Statement.{statement}
 use Rattle.bis_columns.proofs.steps.first_wrong_column_by.Tie as tie
 
 abbrev invariant-loop : tie.invariant-loop
-invariant-loop table block column₀ column = Passed (wrongColumn block) column
+invariant-loop table block column₀ column = Passed (wrong_column block) column
 
 abbrev decreases-loop : tie.decreases-loop
 decreases-loop table block column₀ column = 24 - column
@@ -26,7 +26,7 @@ is-code-word-requires : tie.Need-is-code-word-requires invariant-loop decreases-
 is-code-word-requires c κs = search rules
 
 returns : tie.Need-returns invariant-loop decreases-loop
-unfolding firstWrongColumn
+unfolding first_wrong_column
 returns c = search (first-here, column-judged)
 
 add-column : tie.Need-overflow-add-column invariant-loop decreases-loop
@@ -39,7 +39,7 @@ loop-again : tie.Need-loop-preserved invariant-loop decreases-loop
 loop-again c = search (passed-more, column-judged)
 
 returns-2 : tie.Need-returns-2 invariant-loop decreases-loop
-unfolding firstWrongColumn
+unfolding first_wrong_column
 returns-2 c = search (first_past)
 
 pub first-wrong-column-by-spec : {M : Type 1} → statement M

@@ -6,13 +6,13 @@ use mathlib.Core.Path.{refl}
 use Rattle.laws.proofs.Fill.{Upto, upto-none, upto-more, upto_all}
 use mathlib.Core.List.{[]}
 use lib.ListN.{get_or}
-use Rattle.bis.specs.AccessBlock.{rowOfAF, columnOfAF}
-use Rattle.bis.specs.Reading.{fieldIn}
+use Rattle.bis.specs.AccessBlock.{row_of_af, column_of_af}
+use Rattle.bis.specs.Reading.{field_in}
 use Rattle.bis_fields.proofs.steps.field_in.Statement.{statement}
 use Rattle.bis_fields.proofs.steps.field_in.Tie as tie
 
 abbrev invariant-loop : tie.invariant-loop
-invariant-loop block y field₀ x₀ field x = Upto 0 (λ k. get_or (get_or block (columnOfAF k y) []) (rowOfAF k y) 0) 9 x field
+invariant-loop block y field₀ x₀ field x = Upto 0 (λ k. get_or (get_or block (column_of_af k y) []) (row_of_af k y) 0) 9 x field
 
 abbrev decreases-loop : tie.decreases-loop
 decreases-loop block y field₀ x₀ field x = 9 - x
@@ -63,7 +63,7 @@ loop-again : tie.Need-loop-preserved invariant-loop decreases-loop
 loop-again c = search (upto-more, arith)
 
 returns : tie.Need-returns invariant-loop decreases-loop
-unfolding fieldIn
+unfolding field_in
 returns c = search (upto_all, arith)
 
 pub field-in-spec : {M : Type 1} → statement M

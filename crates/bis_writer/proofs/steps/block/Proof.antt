@@ -5,13 +5,13 @@ use native.Mathlib.Omega.{arith}
 use mathlib.Core.Path.{refl}
 use Rattle.laws.proofs.Fill.{Upto, upto-none, upto-more}
 use mathlib.Core.List.{[]}
-use Rattle.bis.specs.BisBlock.{codeWord}
+use Rattle.bis.specs.BisBlock.{code_word}
 use Rattle.bis_writer.proofs.Writing.{block-all}
 use Rattle.bis_writer.proofs.steps.block.Statement.{statement}
 use Rattle.bis_writer.proofs.steps.block.Tie as tie
 
 abbrev invariant-loop : tie.invariant-loop
-invariant-loop table side fields block₀ c₀ block c = Upto [] (codeWord fields side) 24 c block
+invariant-loop table side fields block₀ c₀ block c = Upto [] (code_word fields side) 24 c block
 
 abbrev decreases-loop : tie.decreases-loop
 decreases-loop table side fields block₀ c₀ block c = 24 - c

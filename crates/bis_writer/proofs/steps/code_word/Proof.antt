@@ -1,5 +1,5 @@
 -- `code_word` meets its contract, from what its steps ensure.
-use Rattle.bis.specs.BisBlock.{codeWord}
+use Rattle.bis.specs.BisBlock.{code_word}
 use borrow.Author.Rules.{rules}
 use Rattle.bis_writer.proofs.steps.code_word.Statement.{statement}
 use Rattle.bis_writer.proofs.steps.code_word.Tie as tie
@@ -17,7 +17,7 @@ joined-requires : tie.Need-joined-requires
 joined-requires c κs = search rules
 
 returns : tie.Need-returns
-unfolding codeWord
+unfolding code_word
 returns c = cc
 
 pub code-word-spec : {M : Type 1} → statement M

@@ -4,15 +4,15 @@ use Prim.Native.Nat.{◌-◌, ◌+◌, ◌*◌, ◌≤◌}
 use native.Mathlib.Omega.{arith}
 use borrow.Author.Rules.{rules}
 use Rattle.laws.proofs.Fill.{Upto, upto-none, upto_all}
-use Rattle.ldc.specs.LdcBlock.{dataByte}
-use Rattle.cluster.specs.EccCluster.{scrambledFrames}
-use Rattle.ldc_words.specs.steps.Eighth.{framesOf}
+use Rattle.ldc.specs.LdcBlock.{data_byte}
+use Rattle.cluster.specs.EccCluster.{scrambled_frames}
+use Rattle.ldc_words.specs.steps.Eighth.{frames_of}
 use Rattle.cluster_writer.proofs.Encoding.{frame-more}
 use Rattle.cluster_writer.proofs.steps.put_frames.Statement.{statement}
 use Rattle.cluster_writer.proofs.steps.put_frames.Tie as tie
 
 abbrev invariant-loop : tie.invariant-loop
-invariant-loop user stream e frames₀ f₀ frames f = (f ≤ 4) × Upto 0 (λ p. dataByte (scrambledFrames stream user) (8208 * e + p)) 8208 (2052 * f) frames
+invariant-loop user stream e frames₀ f₀ frames f = (f ≤ 4) × Upto 0 (λ p. data_byte (scrambled_frames stream user) (8208 * e + p)) 8208 (2052 * f) frames
 
 abbrev decreases-loop : tie.decreases-loop
 decreases-loop user stream e frames₀ f₀ frames f = 4 - f
@@ -80,7 +80,7 @@ same_length : tie.Need-same-length invariant-loop decreases-loop
 same_length c = search rules
 
 returns : tie.Need-returns invariant-loop decreases-loop
-unfolding framesOf
+unfolding frames_of
 returns c = upto_all (omega arith) c.before.loop.invariant.1
 
 pub put-frames-spec : {M : Type 1} → statement M

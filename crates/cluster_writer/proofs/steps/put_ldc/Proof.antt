@@ -4,14 +4,14 @@ use Prim.Native.Nat.{◌-◌, ◌*◌, ◌≤◌}
 use native.Mathlib.Omega.{arith}
 use borrow.Author.Rules.{rules}
 use lib.ListN.{length}
-use Rattle.cluster.specs.EccCluster.{scrambledFrames}
+use Rattle.cluster.specs.EccCluster.{scrambled_frames}
 use Rattle.ldc_words.specs.steps.Eighth.{LdcPut}
 use Rattle.ldc_words.proofs.Eighth.{ldc-put-none, ldc-put-more, ldc-put-end}
 use Rattle.cluster_writer.proofs.steps.put_ldc.Statement.{statement}
 use Rattle.cluster_writer.proofs.steps.put_ldc.Tie as tie
 
 abbrev invariant-loop : tie.invariant-loop
-invariant-loop table user stream work₀ frames₀ words₀ e₀ work frames words e = ((length frames ≡ 8208) × (length words ≡ 9424)) × ((e ≤ 8) × LdcPut (scrambledFrames stream user) (38 * e) work₀ work)
+invariant-loop table user stream work₀ frames₀ words₀ e₀ work frames words e = ((length frames ≡ 8208) × (length words ≡ 9424)) × ((e ≤ 8) × LdcPut (scrambled_frames stream user) (38 * e) work₀ work)
 
 abbrev decreases-loop : tie.decreases-loop
 decreases-loop table user stream work₀ frames₀ words₀ e₀ work frames words e = 8 - e
@@ -62,7 +62,7 @@ loop-again c =
       (search rules, search rules),
       (
         omega arith,
-        ldc-put-more (scrambledFrames args.stream.now args.user.now) made.put-frames.new.1.1.1.0 completed.complete-words.new.1.1.0 args.work.now head.loop.work
+        ldc-put-more (scrambled_frames args.stream.now args.user.now) made.put-frames.new.1.1.1.0 completed.complete-words.new.1.1.0 args.work.now head.loop.work
             put.put-words.new.1.1.0 head.loop.e (omega arith) made.put-frames.ensures completed.complete-words.ensures put.put-words.ensures head.loop.invariant.1.1,
       ),
     )

@@ -2,20 +2,20 @@
 use mathlib.Core.Path.{◌≡◌, refl, ap, ◌∙◌}
 use Prim.Native.Nat.{◌-◌, ◌≤◌}
 use native.Mathlib.Omega.{arith}
-use Rattle.register.specs.steps.Register.{leavesAdded}
+use Rattle.register.specs.steps.Register.{leaves_added}
 use Rattle.register.proofs.Eight.{added_more}
 use borrow.Author.Rules.{rules}
 use Rattle.code_word.proofs.steps.added.Statement.{statement}
 use Rattle.code_word.proofs.steps.added.Tie as tie
 
 abbrev invariant-loop : tie.invariant-loop
-invariant-loop table j byte eight v₀ k₀ v k = (k ≤ 8) × (v ≡ leavesAdded eight j byte k)
+invariant-loop table j byte eight v₀ k₀ v k = (k ≤ 8) × (v ≡ leaves_added eight j byte k)
 
 abbrev decreases-loop : tie.decreases-loop
 decreases-loop table j byte eight v₀ k₀ v k = 8 - k
 
 loop-holds : tie.Need-loop-init invariant-loop decreases-loop
-unfolding leavesAdded
+unfolding leaves_added
 loop-holds c = (search rules, refl)
 
 sub-entry : tie.Need-overflow-sub-entry invariant-loop decreases-loop
@@ -49,7 +49,7 @@ returns c =
     let held = c.before.loop in
     let start = c.before.before in
     let all : held.k ≡ 8 = omega arith in
-    held.invariant.1 ∙ ap (leavesAdded start.args.t2 start.args.j start.args.byte) all
+    held.invariant.1 ∙ ap (leaves_added start.args.t2 start.args.j start.args.byte) all
 
 pub added-spec : {M : Type 1} → statement M
 added-spec =

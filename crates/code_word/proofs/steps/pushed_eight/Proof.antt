@@ -2,14 +2,14 @@
 use Prim.Native.Nat.{◌+◌, ◌-◌}
 use lib.ListN.{get_or}
 use native.Mathlib.Omega.{arith}
-use Rattle.register.specs.steps.Register.{leavesAdded}
+use Rattle.register.specs.steps.Register.{leaves_added}
 use Rattle.register.proofs.Eight.{Filling, filling-none, padded-zeros, filling-more, eight-in}
 use borrow.Author.Rules.{rules}
 use Rattle.code_word.proofs.steps.pushed_eight.Statement.{statement}
 use Rattle.code_word.proofs.steps.pushed_eight.Tie as tie
 
 abbrev invariant-loop : tie.invariant-loop
-invariant-loop table message at was eight next₀ j₀ next j = Filling (λ k. leavesAdded eight k (get_or was (k + 8) 0) 8) j next
+invariant-loop table message at was eight next₀ j₀ next j = Filling (λ k. leaves_added eight k (get_or was (k + 8) 0) 8) j next
 
 abbrev decreases-loop : tie.decreases-loop
 decreases-loop table message at was eight next₀ j₀ next j = 32 - j

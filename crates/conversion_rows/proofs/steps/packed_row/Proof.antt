@@ -2,7 +2,7 @@
 use mathlib.Core.Path.{ap, ◌∙◌}
 use Prim.Native.Nat.{ℕ, ◌+◌, ◌*◌}
 use native.Mathlib.Omega.{arith}
-use Rattle.conversion.specs.steps.Rows.{packedRow}
+use Rattle.conversion.specs.steps.Rows.{packed_row}
 use Rattle.conversion.proofs.CodedRows.{code-sized}
 use borrow.Author.Rules.{rules}
 use Rattle.conversion_rows.proofs.steps.packed_row.Statement.{statement}
@@ -46,7 +46,7 @@ returns c =
     let told = c.before.before.before in
     let row = told.before in
     let r = row.table-row.result in
-    ap (λ (n : ℕ). 0x800000 * r.0 + 0x100000 * n + 0x1000 * r.1 + r.2) told.when-number.ensures.0 ∙ ap packedRow row.table-row.ensures.is
+    ap (λ (n : ℕ). 0x800000 * r.0 + 0x100000 * n + 0x1000 * r.1 + r.2) told.when-number.ensures.0 ∙ ap packed_row row.table-row.ensures.is
 
 pub packed-row-spec : {M : Type 1} → statement M
 packed-row-spec =

@@ -4,12 +4,12 @@ use borrow.Author.Rules.{rules}
 use mathlib.Core.Path.{refl}
 use Rattle.laws.proofs.Fill.{Upto, upto-none, upto-more, upto_all}
 use Rattle.modulation.specs.Modulation.{row_at}
-use Rattle.conversion.specs.steps.Rows.{coded, packedRow, packedRows}
+use Rattle.conversion.specs.steps.Rows.{coded, packed_row, packed_rows}
 use Rattle.conversion_rows.proofs.steps.packed_rows.Statement.{statement}
 use Rattle.conversion_rows.proofs.steps.packed_rows.Tie as tie
 
 abbrev invariant-loop : tie.invariant-loop
-invariant-loop rows₀ k₀ rows k = Upto 0 (λ k. packedRow (coded (row_at k))) 16 k rows
+invariant-loop rows₀ k₀ rows k = Upto 0 (λ k. packed_row (coded (row_at k))) 16 k rows
 
 abbrev decreases-loop : tie.decreases-loop
 decreases-loop rows₀ k₀ rows k = 16 - k
@@ -36,7 +36,7 @@ loop-again : tie.Need-loop-preserved invariant-loop decreases-loop
 loop-again c = upto-more (search rules) c.packed-row.ensures c.before.before.loop.invariant
 
 returns : tie.Need-returns invariant-loop decreases-loop
-unfolding packedRows
+unfolding packed_rows
 returns c = upto_all c.loop-test.false c.before.loop.invariant
 
 pub packed-rows-spec : {M : Type 1} → statement M

@@ -7,14 +7,14 @@ use borrow.Author.Rules.{rules}
 use lib.ListN.{get_or}
 use Rattle.modulation.specs.Modulation.{row_at}
 use Rattle.laws.proofs.Tabulate.{get_d_tabulate}
-use Rattle.conversion.specs.steps.Rows.{coded, packedRow, packedRows}
+use Rattle.conversion.specs.steps.Rows.{coded, packed_row, packed_rows}
 use Rattle.conversion.proofs.CodedRows.{row_sized, unpacked-size, unpacked}
 use Rattle.conversion_rows.proofs.steps.row_at.Statement.{statement}
 use Rattle.conversion_rows.proofs.steps.row_at.Tie as tie
 
-packed-at : (rows : List ℕ) (k : ℕ) → rows ≡ packedRows → k < 16 → get_or rows k 0 ≡ packedRow (coded (row_at k))
-unfolding packedRows
-packed-at rows k e h = ap (λ (l : List ℕ). get_or l k 0) e ∙ get_d_tabulate 16 (λ k. packedRow (coded (row_at k))) k 0 h
+packed-at : (rows : List ℕ) (k : ℕ) → rows ≡ packed_rows → k < 16 → get_or rows k 0 ≡ packed_row (coded (row_at k))
+unfolding packed_rows
+packed-at rows k e h = ap (λ (l : List ℕ). get_or l k 0) e ∙ get_d_tabulate 16 (λ k. packed_row (coded (row_at k))) k 0 h
 
 mul-row : tie.Need-overflow-mul-row
 mul-row c = search rules

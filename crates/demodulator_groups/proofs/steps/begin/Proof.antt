@@ -4,7 +4,7 @@ use Prim.Native.Nat.{ℕ, ◌+◌}
 use native.Mathlib.Omega.{arith}
 use borrow.Author.Rules.{rules}
 use Rattle.bits.specs.Bits.{bits_of}
-use Rattle.modulation.specs.steps.Groups.{groupsAt}
+use Rattle.modulation.specs.steps.Groups.{groups_at}
 use Rattle.automaton.specs.steps.Table.{After}
 use Rattle.demodulator_groups.proofs.Running.{more-read, still-small}
 use Rattle.demodulator_groups.proofs.steps.begin.Statement.{statement}
@@ -58,7 +58,7 @@ returns c =
     let args = flagged.before.before.args in
     let b = bits_of args.bytes.now in
     let eleven = more-read b args.at 9 2 (args.at + 27) 11 (omega arith) refl ran.run.ensures six.six.ensures.0 two.two-on.ensures in
-    subst (λ (s : ℕ). After (groupsAt b args.at 13) s c.two-on2.result) flagged.flag.ensures.0
+    subst (λ (s : ℕ). After (groups_at b args.at 13) s c.two-on2.result) flagged.flag.ensures.0
     (more-read b args.at 11 2 (args.at + 33) 13 (omega arith) refl eleven six2.six2.ensures.0 c.two-on2.ensures)
 
 pub begin-spec : {M : Type 1} → statement M

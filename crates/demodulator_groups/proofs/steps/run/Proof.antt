@@ -4,14 +4,14 @@ use Prim.Native.Nat.{ℕ, ◌+◌, ◌*◌, ◌-◌, ◌≤◌}
 use native.Mathlib.Omega.{arith}
 use borrow.Author.Rules.{rules}
 use Rattle.bits.specs.Bits.{bits_of}
-use Rattle.modulation.specs.steps.Groups.{groupsAt}
+use Rattle.modulation.specs.steps.Groups.{groups_at}
 use Rattle.automaton.specs.steps.Table.{After}
 use Rattle.demodulator_groups.proofs.Running.{none_read, more-read, still-small}
 use Rattle.demodulator_groups.proofs.steps.run.Statement.{statement}
 use Rattle.demodulator_groups.proofs.steps.run.Tie as tie
 
 abbrev invariant-loop : tie.invariant-loop
-invariant-loop made bytes at s turns x₀ k₀ x k = (k ≤ turns) × After (groupsAt (bits_of bytes) at (3 * k)) s x
+invariant-loop made bytes at s turns x₀ k₀ x k = (k ≤ turns) × After (groups_at (bits_of bytes) at (3 * k)) s x
 
 abbrev decreases-loop : tie.decreases-loop
 decreases-loop made bytes at s turns x₀ k₀ x k = turns - k
@@ -58,7 +58,7 @@ returns c =
     let turn = c.before in
     let args = turn.before.before.args in
     let all : turn.loop.k ≡ args.turns = omega (arith, turn.loop.invariant.0) in
-    subst (λ (n : ℕ). After (groupsAt (bits_of args.bytes.now) args.at (3 * n)) args.s turn.loop.x) all turn.loop.invariant.1
+    subst (λ (n : ℕ). After (groups_at (bits_of args.bytes.now) args.at (3 * n)) args.s turn.loop.x) all turn.loop.invariant.1
 
 pub run_spec : {M : Type 1} → statement M
 run_spec =

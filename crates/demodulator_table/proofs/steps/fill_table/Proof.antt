@@ -5,13 +5,13 @@ use native.Mathlib.Omega.{arith}
 use borrow.Author.Rules.{rules}
 use Rattle.laws.proofs.Fill.{Upto, upto-more, upto_all}
 use Rattle.automaton.specs.Automaton.{transitions}
-use Rattle.automaton.specs.steps.Table.{tableEntry, table}
+use Rattle.automaton.specs.steps.Table.{table_entry, table}
 use Rattle.automaton.proofs.Entries.{twos-all, twos-upto}
 use Rattle.demodulator_table.proofs.steps.fill_table.Statement.{statement}
 use Rattle.demodulator_table.proofs.steps.fill_table.Tie as tie
 
 abbrev invariant-loop : tie.invariant-loop
-invariant-loop made₀ ones k₀ made k = (ones ≡ transitions) × ((1152 ≤ k) × Upto 0 tableEntry 10368 k made)
+invariant-loop made₀ ones k₀ made k = (ones ≡ transitions) × ((1152 ≤ k) × Upto 0 table_entry 10368 k made)
 
 abbrev decreases-loop : tie.decreases-loop
 decreases-loop made₀ ones k₀ made k = 10368 - k

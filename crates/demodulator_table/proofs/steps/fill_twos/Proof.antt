@@ -3,13 +3,13 @@ use Prim.Native.Nat.{◌-◌}
 use native.Mathlib.Omega.{arith}
 use borrow.Author.Rules.{rules}
 use Rattle.laws.proofs.Fill.{Upto, upto-none, upto-more}
-use Rattle.automaton.specs.steps.Table.{tableEntry}
+use Rattle.automaton.specs.steps.Table.{table_entry}
 use Rattle.automaton.proofs.Entries.{twos-all}
 use Rattle.demodulator_table.proofs.steps.fill_twos.Statement.{statement}
 use Rattle.demodulator_table.proofs.steps.fill_twos.Tie as tie
 
 abbrev invariant-loop : tie.invariant-loop
-invariant-loop ones made₀ k₀ made k = Upto 0 tableEntry 10368 k made
+invariant-loop ones made₀ k₀ made k = Upto 0 table_entry 10368 k made
 
 abbrev decreases-loop : tie.decreases-loop
 decreases-loop ones made₀ k₀ made k = 1152 - k

@@ -4,7 +4,7 @@ use mathlib.Core.Path.{refl, ap, ◌∙◌}
 use Prim.Native.Nat.{ℕ, ◌+◌, ◌*◌, ◌%◌}
 use borrow.Author.Rules.{rules}
 use lib.ListN.{get_or}
-use Rattle.automaton.specs.steps.Table.{threeGroups}
+use Rattle.automaton.specs.steps.Table.{three_groups}
 use Rattle.automaton.proofs.Entries.{table-three, after-entry}
 use Rattle.demodulator_table.proofs.steps.three_on.Statement.{statement}
 use Rattle.demodulator_table.proofs.steps.three_on.Tie as tie
@@ -38,7 +38,7 @@ returns c =
     let args = c.before.before.args in
     let pre = c.before.before.requires in
     let e = c.wide.ensures.0 ∙ ap (λ (l : List ℕ). get_or l (1152 + 18 * args.v + args.x % 32) 0) pre.0 ∙ table-three args.v (args.x % 32) pre.1.0 pre.1.1.0 in
-    after-entry (threeGroups args.v) args.x c.wide.result 2048 refl pre.1.1.0 e
+    after-entry (three_groups args.v) args.x c.wide.result 2048 refl pre.1.1.0 e
 
 pub three-on-spec : {M : Type 1} → statement M
 three-on-spec =

@@ -4,7 +4,7 @@ use mathlib.Core.Path.{refl, ap, ◌∙◌}
 use Prim.Native.Nat.{ℕ, ◌+◌, ◌*◌, ◌%◌}
 use borrow.Author.Rules.{rules}
 use lib.ListN.{get_or}
-use Rattle.automaton.specs.steps.Table.{twoGroups}
+use Rattle.automaton.specs.steps.Table.{two_groups}
 use Rattle.automaton.proofs.Entries.{table-two, after-entry}
 use Rattle.demodulator_table.proofs.steps.two_on.Statement.{statement}
 use Rattle.demodulator_table.proofs.steps.two_on.Tie as tie
@@ -35,7 +35,7 @@ returns c =
     let args = c.before.before.args in
     let pre = c.before.before.requires in
     let e = c.wide.ensures.0 ∙ ap (λ (l : List ℕ). get_or l (18 * args.v + args.x % 32) 0) pre.0 ∙ table-two args.v (args.x % 32) pre.1.0 pre.1.1.0 in
-    after-entry (twoGroups args.v) args.x c.wide.result 512 refl pre.1.1.0 e
+    after-entry (two_groups args.v) args.x c.wide.result 512 refl pre.1.1.0 e
 
 pub two-on-spec : {M : Type 1} → statement M
 two-on-spec =

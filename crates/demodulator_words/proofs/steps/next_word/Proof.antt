@@ -2,7 +2,7 @@
 use Prim.Native.Nat.{◌+◌, ◌*◌}
 use borrow.Author.Rules.{rules}
 use Rattle.bits.specs.Bits.{bits_of}
-use Rattle.modulation.proofs.Groups.{length-groupsAt}
+use Rattle.modulation.proofs.Groups.{length-groups_at}
 use Rattle.demodulator_words.proofs.Held.{next_word}
 use Rattle.demodulator_words.proofs.steps.next_word.Statement.{statement}
 use Rattle.demodulator_words.proofs.steps.next_word.Tie as tie
@@ -26,7 +26,7 @@ returns : tie.Need-returns
 returns c =
     let start = c.before.before in
     let args = start.args in
-    next_word start.requires.1.1.1 (length-groupsAt (bits_of args.bytes.now) (args.at + 39 + 69 * args.i) 23) c.segment.ensures
+    next_word start.requires.1.1.1 (length-groups_at (bits_of args.bytes.now) (args.at + 39 + 69 * args.i) 23) c.segment.ensures
 
 pub next-word-spec : {M : Type 1} → statement M
 next-word-spec =

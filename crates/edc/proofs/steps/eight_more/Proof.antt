@@ -1,6 +1,6 @@
 -- `eight_more` meets its contract: quotient and remainder (Register).
 use mathlib.Core.Path.{◌∙◌}
-use Rattle.edc.proofs.Quotient.{folded, low_of, carried, carriedTwice}
+use Rattle.edc.proofs.Quotient.{folded, low_of, carried, carried_twice}
 use Rattle.edc.proofs.Register.{eight-taken}
 use borrow.Author.Rules.{rules}
 use Rattle.edc.proofs.steps.eight_more.Statement.{statement}
@@ -31,7 +31,7 @@ below-requires : tie.Need-below-requires
 below-requires c κs = search rules
 
 returns : tie.Need-returns
-unfolding folded low_of carried carriedTwice
+unfolding folded low_of carried carried_twice
 returns c bytes held =
     let twice = c.before in
     let once = twice.before in

@@ -2,15 +2,15 @@
 use mathlib.Core.List.{tail}
 use Prim.Native.Nat.{◌-◌}
 use borrow.Author.Rules.{rules}
-use Rattle.modulation.specs.Modulation.{row_at, fits, modulateFrom}
-use Rattle.conversion.specs.steps.Few.{fewPairs}
+use Rattle.modulation.specs.Modulation.{row_at, fits, modulate_from}
+use Rattle.conversion.specs.steps.Few.{few_pairs}
 use Rattle.conversion.proofs.Search.{Searched, searched-none, searched-more, searched-found, searched-all}
 use Rattle.conversion.proofs.Modulating.{fitting}
 use Rattle.few_pairs.proofs.steps.fitting_row.Statement.{statement}
 use Rattle.few_pairs.proofs.steps.fitting_row.Tie as tie
 
 abbrev invariant-loop : tie.invariant-loop
-invariant-loop rows count pairs before k₀ k = Searched (λ k. fits (row_at k) before (fewPairs count pairs) (modulateFrom (tail (fewPairs count pairs)))) 16 k
+invariant-loop rows count pairs before k₀ k = Searched (λ k. fits (row_at k) before (few_pairs count pairs) (modulate_from (tail (few_pairs count pairs)))) 16 k
 
 abbrev decreases-loop : tie.decreases-loop
 decreases-loop rows count pairs before k₀ k = 16 - k

@@ -1,14 +1,14 @@
 -- `standing_row` meets its contract: a search through the rows (conversion, Search). Assumes nothing.
 use Prim.Native.Nat.{◌-◌}
 use borrow.Author.Rules.{rules}
-use Rattle.modulation.specs.Modulation.{twoNumber, row_at, starts}
-use Rattle.conversion.specs.steps.Few.{fewPairs}
+use Rattle.modulation.specs.Modulation.{two_number, row_at, starts}
+use Rattle.conversion.specs.steps.Few.{few_pairs}
 use Rattle.conversion.proofs.Search.{Searched, searched-none, searched-more, searched-found, searched-all}
 use Rattle.few_pairs.proofs.steps.standing_row.Statement.{statement}
 use Rattle.few_pairs.proofs.steps.standing_row.Tie as tie
 
 abbrev invariant-loop : tie.invariant-loop
-invariant-loop rows count pairs k₀ k = Searched (λ k. starts twoNumber (row_at k).pairs (fewPairs count pairs)) 16 k
+invariant-loop rows count pairs k₀ k = Searched (λ k. starts two_number (row_at k).pairs (few_pairs count pairs)) 16 k
 
 abbrev decreases-loop : tie.decreases-loop
 decreases-loop rows count pairs k₀ k = 16 - k

@@ -1,17 +1,17 @@
 -- `Gf::product_by` meets its contract, case by case. Assumes nothing.
 use borrow.Author.Tests.{eq-eqb, ne_eqb}
-use Rattle.galois.specs.Tables.{productBy}
+use Rattle.galois.specs.Tables.{product_by}
 use Rattle.galois.proofs.Lookup.{product-low, product_high}
 use borrow.Author.Rules.{rules}
 use Rattle.field.proofs.Gf.product_by.Statement.{statement}
 use Rattle.field.proofs.Gf.product_by.Tie as tie
 
 returns : tie.Need-returns
-unfolding productBy
+unfolding product_by
 returns c = rw (eq-eqb _ 0 c.if1.true)
 
 returns-2 : tie.Need-returns-2
-unfolding productBy
+unfolding product_by
 returns-2 c = rw (ne_eqb _ 0 c.before.before.if1.false, eq-eqb _ 0 c.if2.true)
 
 log-in-requires : tie.Need-log-in-requires

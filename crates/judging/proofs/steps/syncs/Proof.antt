@@ -1,7 +1,7 @@
 -- `syncs` meets its contract: the place that was found, judged (Judging).
 use borrow.Author.Rules.{rules}
 use Rattle.answer.specs.declared.Answer.TheVariants.{Sync}
-use Rattle.judging.specs.Tests.{syncsAnswer}
+use Rattle.judging.specs.Tests.{syncs_answer}
 use Rattle.judging.proofs.Judging.{placed}
 use Rattle.judging.proofs.steps.syncs.Statement.{statement}
 use Rattle.judging.proofs.steps.syncs.Tie as tie
@@ -13,7 +13,7 @@ lowest-requires : tie.Need-lowest-requires
 lowest-requires c κs = search rules
 
 returns : tie.Need-returns
-unfolding syncsAnswer
+unfolding syncs_answer
 returns c = placed Sync 497 _ _ c.lowest.ensures c.before.first-wrong-sync.ensures
 
 pub syncs-spec : {M : Type 1} → statement M

@@ -5,7 +5,7 @@ use native.Mathlib.Omega.{arith}
 use borrow.Author.Rules.{rules}
 use lib.ListN.{get_or, take, drop}
 use Rattle.laws.proofs.Fill.{Upto, upto-none, upto_all}
-use Rattle.ldc_words.specs.steps.Eighth.{completed, completedWords}
+use Rattle.ldc_words.specs.steps.Eighth.{completed, completed_words}
 use Rattle.ldc_words.proofs.Eighth.{completed-turn}
 use Rattle.ldc_parity.proofs.steps.complete_words.Statement.{statement}
 use Rattle.ldc_parity.proofs.steps.complete_words.Tie as tie
@@ -70,7 +70,7 @@ same_length : tie.Need-same-length invariant-loop decreases-loop
 same_length c = search rules
 
 returns : tie.Need-returns invariant-loop decreases-loop
-unfolding completedWords
+unfolding completed_words
 returns c = upto_all (omega arith) c.before.loop.invariant.1
 
 pub complete-words-spec : {M : Type 1} → statement M

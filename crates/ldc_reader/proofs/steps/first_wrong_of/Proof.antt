@@ -5,13 +5,13 @@ use Prim.Native.Nat.{◌-◌, ◌+◌, ◌*◌, ◌≤◌}
 use native.Mathlib.Omega.{arith}
 use borrow.Author.Rules.{rules}
 use Rattle.laws.proofs.First.{Passed, passed_none, passed-more, first-here, first_past}
-use Rattle.ldc_words.specs.steps.Eighth.{wrongOf}
+use Rattle.ldc_words.specs.steps.Eighth.{wrong_of}
 use Rattle.ldc_words.proofs.Eighth.{word-judged}
 use Rattle.ldc_reader.proofs.steps.first_wrong_of.Statement.{statement}
 use Rattle.ldc_reader.proofs.steps.first_wrong_of.Tie as tie
 
 abbrev invariant-loop : tie.invariant-loop
-invariant-loop table words j₀ j = (j ≤ 38) × Passed (wrongOf words) j
+invariant-loop table words j₀ j = (j ≤ 38) × Passed (wrong_of words) j
 
 abbrev decreases-loop : tie.decreases-loop
 decreases-loop table words j₀ j = 38 - j

@@ -5,13 +5,13 @@ use native.Mathlib.Omega.{arith}
 use borrow.Author.Rules.{rules}
 use lib.ListN.{length}
 use Rattle.laws.proofs.First.{Passed, passed_none, first_past, first-in-part, passed-part}
-use Rattle.cluster.specs.Reading.{wrongWord, firstWrongWord}
+use Rattle.cluster.specs.Reading.{wrong_word, first_wrong_word}
 use Rattle.ldc_words.proofs.Eighth.{words-judged}
 use Rattle.ldc_reader.proofs.steps.first_wrong_word.Statement.{statement}
 use Rattle.ldc_reader.proofs.steps.first_wrong_word.Tie as tie
 
 abbrev invariant-loop : tie.invariant-loop
-invariant-loop table work words₀ e₀ words e = (length words ≡ 9424) × ((e ≤ 8) × Passed (wrongWord work) (38 * e))
+invariant-loop table work words₀ e₀ words e = (length words ≡ 9424) × ((e ≤ 8) × Passed (wrong_word work) (38 * e))
 
 abbrev decreases-loop : tie.decreases-loop
 decreases-loop table work words₀ e₀ words e = 8 - e
@@ -41,7 +41,7 @@ add-result : tie.Need-overflow-add-result invariant-loop decreases-loop
 add-result c = search rules
 
 returns : tie.Need-returns invariant-loop decreases-loop
-unfolding firstWrongWord
+unfolding first_wrong_word
 returns c =
     let judged = c.before in
     let taken = judged.before.before.before in
@@ -64,10 +64,10 @@ loop-again c =
     let args = head.before.before.before.args in
     let e = head.loop.e in
     let next : 38 * e + 38 ≡ 38 * (e + 1) = omega arith in
-    (search rules, (omega arith, subst (Passed (wrongWord args.work.now)) next (passed-part (38 * e) 38 _ head.loop.invariant.1.1 (words-judged args.work.now taken.take_words.new.1.1.1.0 e _ (omega arith) taken.take_words.ensures judged.first-wrong-of.ensures) c.if1.false)))
+    (search rules, (omega arith, subst (Passed (wrong_word args.work.now)) next (passed-part (38 * e) 38 _ head.loop.invariant.1.1 (words-judged args.work.now taken.take_words.new.1.1.1.0 e _ (omega arith) taken.take_words.ensures judged.first-wrong-of.ensures) c.if1.false)))
 
 returns-2 : tie.Need-returns-2 invariant-loop decreases-loop
-unfolding firstWrongWord
+unfolding first_wrong_word
 returns-2 c = first_past (omega arith) c.before.loop.invariant.1.1
 
 pub first-wrong-word-spec : {M : Type 1} → statement M

@@ -5,13 +5,13 @@ use borrow.Author.Rules.{rules}
 use lib.ListN.{get_or, length-set}
 use Rattle.laws.specs.Scatter.{Scattered}
 use Rattle.laws.proofs.Scatter.{scattered-none, scattered-end}
-use Rattle.cluster.specs.steps.Places.{wordIndex}
+use Rattle.cluster.specs.steps.Places.{word_index}
 use Rattle.ldc_words.proofs.Eighth.{run_inside, put-turn}
 use Rattle.ldc_words.proofs.steps.put_bytes.Statement.{statement}
 use Rattle.ldc_words.proofs.steps.put_bytes.Tie as tie
 
 abbrev invariant-loop : tie.invariant-loop
-invariant-loop words e n work₀ run i₀ work i = (i ≤ 19) × Scattered 0 (λ j. wordIndex (38 * e + j) n) (λ j. get_or words (248 * j + n) 0) work₀ (2 * i) work
+invariant-loop words e n work₀ run i₀ work i = (i ≤ 19) × Scattered 0 (λ j. word_index (38 * e + j) n) (λ j. get_or words (248 * j + n) 0) work₀ (2 * i) work
 
 abbrev decreases-loop : tie.decreases-loop
 decreases-loop words e n work₀ run i₀ work i = 19 - i

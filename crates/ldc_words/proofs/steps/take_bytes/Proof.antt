@@ -5,13 +5,13 @@ use borrow.Author.Rules.{rules}
 use lib.ListN.{get_or, length-set}
 use Rattle.laws.specs.Scatter.{Scattered}
 use Rattle.laws.proofs.Scatter.{scattered-none, scattered-end}
-use Rattle.cluster.specs.steps.Places.{wordIndex}
+use Rattle.cluster.specs.steps.Places.{word_index}
 use Rattle.ldc_words.proofs.Eighth.{run_inside, taken-turn}
 use Rattle.ldc_words.proofs.steps.take_bytes.Statement.{statement}
 use Rattle.ldc_words.proofs.steps.take_bytes.Tie as tie
 
 abbrev invariant-loop : tie.invariant-loop
-invariant-loop work e n words₀ run i₀ words i = (i ≤ 19) × Scattered 0 (λ j. 248 * j + n) (λ j. get_or work (wordIndex (38 * e + j) n) 0) words₀ (2 * i) words
+invariant-loop work e n words₀ run i₀ words i = (i ≤ 19) × Scattered 0 (λ j. 248 * j + n) (λ j. get_or work (word_index (38 * e + j) n) 0) words₀ (2 * i) words
 
 abbrev decreases-loop : tie.decreases-loop
 decreases-loop work e n words₀ run i₀ words i = 19 - i

@@ -5,7 +5,7 @@ use native.Mathlib.Omega.{arith}
 use borrow.Author.Rules.{rules}
 use lib.ListN.{get_or}
 use Rattle.laws.proofs.Fill.{Upto, upto-none, upto_all}
-use Rattle.ldc_words.specs.steps.Eighth.{informationOf}
+use Rattle.ldc_words.specs.steps.Eighth.{information_of}
 use Rattle.ldc_words.proofs.Eighth.{information-turn}
 use Rattle.ldc_words.proofs.steps.take_information.Statement.{statement}
 use Rattle.ldc_words.proofs.steps.take_information.Tie as tie
@@ -70,7 +70,7 @@ same_length : tie.Need-same-length invariant-loop decreases-loop
 same_length c = search rules
 
 returns : tie.Need-returns invariant-loop decreases-loop
-unfolding informationOf
+unfolding information_of
 returns c = upto_all (omega arith) c.before.loop.invariant.1
 
 pub take-information-spec : {M : Type 1} → statement M

@@ -1,7 +1,7 @@
 -- `entry` meets its contract (modulator, Tables). Assumes nothing.
 use mathlib.Core.Path.{◌∙◌}
 use borrow.Author.Rules.{rules}
-use Rattle.modulator.proofs.Tables.{byte-entry, last_entry}
+use Rattle.modulator.proofs.Tables.{byte-entry, last-entry}
 use Rattle.modulator_table.proofs.steps.entry.Statement.{statement}
 use Rattle.modulator_table.proofs.steps.entry.Tie as tie
 
@@ -15,7 +15,7 @@ last-entry-requires : tie.Need-last-entry-requires
 last-entry-requires c κs = search rules
 
 returns-2 : tie.Need-returns-2
-returns-2 c = c.last_entry.ensures ∙ last_entry c.before.before.args.s c.before.before.args.x (search rules)
+returns-2 c = c.last_entry.ensures ∙ last-entry c.before.before.args.s c.before.before.args.x (search rules)
 
 pub entry_spec : {M : Type 1} → statement M
 entry_spec = tie.close (tie.spec byte-entry-requires returns last-entry-requires returns-2)

@@ -3,12 +3,12 @@ use mathlib.Core.Path.{◌≡◌}
 use Prim.Native.Nat.{◌%◌, ◌/◌, ◌-◌}
 use borrow.Author.Rules.{rules}
 use Rattle.laws.proofs.Fill.{Upto, upto-none, upto-more, upto_all}
-use Rattle.modulator.specs.steps.Table.{stopTable, nibbleTable, lentTable, entry_at}
+use Rattle.modulator.specs.steps.Table.{stop_table, nibble_table, lent_table, entry_at}
 use Rattle.modulator_table.proofs.steps.fill_table.Statement.{statement}
 use Rattle.modulator_table.proofs.steps.fill_table.Tie as tie
 
 abbrev invariant-loop : tie.invariant-loop
-invariant-loop table₀ nibbles stops k₀ table k = ((nibbles ≡ nibbleTable) × (stops ≡ stopTable)) × Upto 0 (λ k. entry_at (k % 20) (k / 20)) 5440 k table
+invariant-loop table₀ nibbles stops k₀ table k = ((nibbles ≡ nibble_table) × (stops ≡ stop_table)) × Upto 0 (λ k. entry_at (k % 20) (k / 20)) 5440 k table
 
 abbrev decreases-loop : tie.decreases-loop
 decreases-loop table₀ nibbles stops k₀ table k = 5440 - k
@@ -46,7 +46,7 @@ loop-again : tie.Need-loop-preserved invariant-loop decreases-loop
 loop-again c = (c.before.before.before.before.loop.invariant.0, upto-more (search rules) c.entry.ensures c.before.before.before.before.loop.invariant.1)
 
 returns : tie.Need-returns invariant-loop decreases-loop
-unfolding lentTable
+unfolding lent_table
 returns c = upto_all c.loop-test.false c.before.loop.invariant.1
 
 pub fill-table-spec : {M : Type 1} → statement M

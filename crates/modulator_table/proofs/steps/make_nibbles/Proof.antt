@@ -3,12 +3,12 @@ use mathlib.Core.Path.{◌≡◌}
 use Prim.Native.Nat.{◌%◌, ◌/◌, ◌-◌}
 use borrow.Author.Rules.{rules}
 use Rattle.laws.proofs.Fill.{Upto, upto-none, upto-more, upto_all}
-use Rattle.modulator.specs.steps.Table.{stepTable, nibbleTable, nibbleEntry}
+use Rattle.modulator.specs.steps.Table.{step_table, nibble_table, nibble_entry}
 use Rattle.modulator_table.proofs.steps.make_nibbles.Statement.{statement}
 use Rattle.modulator_table.proofs.steps.make_nibbles.Tie as tie
 
 abbrev invariant-loop : tie.invariant-loop
-invariant-loop rows steps nibbles₀ k₀ nibbles k = (steps ≡ stepTable) × Upto 0 (λ k. nibbleEntry (k % 20) (k / 20)) 320 k nibbles
+invariant-loop rows steps nibbles₀ k₀ nibbles k = (steps ≡ step_table) × Upto 0 (λ k. nibble_entry (k % 20) (k / 20)) 320 k nibbles
 
 abbrev decreases-loop : tie.decreases-loop
 decreases-loop rows steps nibbles₀ k₀ nibbles k = 320 - k
@@ -41,7 +41,7 @@ loop-again : tie.Need-loop-preserved invariant-loop decreases-loop
 loop-again c = (c.before.before.before.loop.invariant.0, upto-more (search rules) c.nibble-entry.ensures c.before.before.before.loop.invariant.1)
 
 returns : tie.Need-returns invariant-loop decreases-loop
-unfolding nibbleTable
+unfolding nibble_table
 returns c = upto_all c.loop-test.false c.before.loop.invariant.1
 
 pub make-nibbles-spec : {M : Type 1} → statement M

@@ -2,12 +2,12 @@
 use Prim.Native.Nat.{◌%◌, ◌/◌, ◌-◌}
 use borrow.Author.Rules.{rules}
 use Rattle.laws.proofs.Fill.{Upto, upto-none, upto-more, upto_all}
-use Rattle.modulator.specs.steps.Table.{stepTable, stepEntry}
+use Rattle.modulator.specs.steps.Table.{step_table, step_entry}
 use Rattle.modulator_table.proofs.steps.make_steps.Statement.{statement}
 use Rattle.modulator_table.proofs.steps.make_steps.Tie as tie
 
 abbrev invariant-loop : tie.invariant-loop
-invariant-loop rows steps₀ k₀ steps k = Upto 0 (λ k. stepEntry (k / 4) (k % 4)) 80 k steps
+invariant-loop rows steps₀ k₀ steps k = Upto 0 (λ k. step_entry (k / 4) (k % 4)) 80 k steps
 
 abbrev decreases-loop : tie.decreases-loop
 decreases-loop rows steps₀ k₀ steps k = 80 - k
@@ -37,7 +37,7 @@ loop-again : tie.Need-loop-preserved invariant-loop decreases-loop
 loop-again c = upto-more (search rules) c.step-entry.ensures c.before.before.loop.invariant
 
 returns : tie.Need-returns invariant-loop decreases-loop
-unfolding stepTable
+unfolding step_table
 returns c = upto_all c.loop-test.false c.before.loop.invariant
 
 pub make-steps-spec : {M : Type 1} → statement M

@@ -2,12 +2,12 @@
 use Prim.Native.Nat.{◌-◌}
 use borrow.Author.Rules.{rules}
 use Rattle.laws.proofs.Fill.{Upto, upto-none, upto-more, upto_all}
-use Rattle.modulator.specs.steps.Table.{stopTable, stopEntry}
+use Rattle.modulator.specs.steps.Table.{stop_table, stop_entry}
 use Rattle.modulator_table.proofs.steps.make_stops.Statement.{statement}
 use Rattle.modulator_table.proofs.steps.make_stops.Tie as tie
 
 abbrev invariant-loop : tie.invariant-loop
-invariant-loop rows stops₀ k₀ stops k = Upto 0 stopEntry 20 k stops
+invariant-loop rows stops₀ k₀ stops k = Upto 0 stop_entry 20 k stops
 
 abbrev decreases-loop : tie.decreases-loop
 decreases-loop rows stops₀ k₀ stops k = 20 - k
@@ -37,7 +37,7 @@ loop-again : tie.Need-loop-preserved invariant-loop decreases-loop
 loop-again c = upto-more (search rules) c.stop-entry.ensures c.before.before.loop.invariant
 
 returns : tie.Need-returns invariant-loop decreases-loop
-unfolding stopTable
+unfolding stop_table
 returns c = upto_all c.loop-test.false c.before.loop.invariant
 
 pub make-stops-spec : {M : Type 1} → statement M

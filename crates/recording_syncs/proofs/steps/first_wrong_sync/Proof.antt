@@ -6,13 +6,13 @@ use native.Mathlib.Omega.{arith}
 use lib.ListN.{drop}
 use Rattle.bits.specs.Bits.{bits_of}
 use Rattle.laws.proofs.First.{Passed, passed_none, passed-more, first-here, first_past}
-use Rattle.recording.specs.Reading.{wrongSync, firstWrongSync}
+use Rattle.recording.specs.Reading.{wrong_sync, first_wrong_sync}
 use Rattle.recording_syncs.proofs.Judging.{sync-judged}
 use Rattle.recording_syncs.proofs.steps.first_wrong_sync.Statement.{statement}
 use Rattle.recording_syncs.proofs.steps.first_wrong_sync.Tie as tie
 
 abbrev invariant-loop : tie.invariant-loop
-invariant-loop image at sync₀ sync = (sync ≤ 497) × Passed (wrongSync (drop at (bits_of image))) sync
+invariant-loop image at sync₀ sync = (sync ≤ 497) × Passed (wrong_sync (drop at (bits_of image))) sync
 
 abbrev decreases-loop : tie.decreases-loop
 decreases-loop image at sync₀ sync = 497 - sync
@@ -33,7 +33,7 @@ sync-right-requires : tie.Need-sync-right-requires invariant-loop decreases-loop
 sync-right-requires c κs = search rules
 
 returns : tie.Need-returns invariant-loop decreases-loop
-unfolding firstWrongSync
+unfolding first_wrong_sync
 returns c = search (first-here, sync-judged)
 
 add-sync : tie.Need-overflow-add-sync invariant-loop decreases-loop
@@ -46,7 +46,7 @@ loop-again : tie.Need-loop-preserved invariant-loop decreases-loop
 loop-again c = (omega arith, search (passed-more, sync-judged))
 
 returns-2 : tie.Need-returns-2 invariant-loop decreases-loop
-unfolding firstWrongSync
+unfolding first_wrong_sync
 returns-2 c = let all : c.before.loop.sync ≡ 497 = omega arith in all ∙ first_past (omega arith) c.before.loop.invariant.1
 
 pub first-wrong-sync-spec : {M : Type 1} → statement M

@@ -3,14 +3,14 @@ use borrow.Author.Rules.{rules}
 use mathlib.Core.Path.{◌≡◌}
 use Prim.Native.Nat.{◌-◌, ◌≤◌}
 use native.Mathlib.Omega.{arith}
-use Rattle.modulator.specs.steps.Table.{lentTable}
+use Rattle.modulator.specs.steps.Table.{lent_table}
 use Rattle.recording_writer.specs.steps.Written.{FramesWritten}
 use Rattle.recording_writer.proofs.Writing.{frames-none, frames-more, frames-end, frames-size}
 use Rattle.recording_writer.proofs.steps.put_frames.Statement.{statement}
 use Rattle.recording_writer.proofs.steps.put_frames.Tie as tie
 
 abbrev invariant-loop : tie.invariant-loop
-invariant-loop work dc image₀ at table state₀ n₀ image state n = (table ≡ lentTable) × ((n ≤ 496) × FramesWritten state₀.hash work dc image₀ at n image state.hash)
+invariant-loop work dc image₀ at table state₀ n₀ image state n = (table ≡ lent_table) × ((n ≤ 496) × FramesWritten state₀.hash work dc image₀ at n image state.hash)
 
 abbrev decreases-loop : tie.decreases-loop
 decreases-loop work dc image₀ at table state₀ n₀ image state n = 496 - n

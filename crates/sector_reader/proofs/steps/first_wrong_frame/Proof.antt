@@ -5,13 +5,13 @@ use Prim.Native.Nat.{◌+◌, ◌*◌, ◌-◌, ◌≤◌}
 use native.Mathlib.Omega.{arith}
 use borrow.Author.Rules.{rules}
 use Rattle.laws.proofs.First.{Passed, passed_none, passed-more, first-here, first_past}
-use Rattle.ldc_words.specs.steps.Eighth.{wrongFrame}
+use Rattle.ldc_words.specs.steps.Eighth.{wrong_frame}
 use Rattle.ldc_words.proofs.Eighth.{frame-judged}
 use Rattle.sector_reader.proofs.steps.first_wrong_frame.Statement.{statement}
 use Rattle.sector_reader.proofs.steps.first_wrong_frame.Tie as tie
 
 abbrev invariant-loop : tie.invariant-loop
-invariant-loop frames stream f₀ f = (f ≤ 4) × Passed (wrongFrame stream frames) f
+invariant-loop frames stream f₀ f = (f ≤ 4) × Passed (wrong_frame stream frames) f
 
 abbrev decreases-loop : tie.decreases-loop
 decreases-loop frames stream f₀ f = 4 - f

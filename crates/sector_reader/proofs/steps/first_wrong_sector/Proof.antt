@@ -5,13 +5,13 @@ use native.Mathlib.Omega.{arith}
 use borrow.Author.Rules.{rules}
 use lib.ListN.{length}
 use Rattle.laws.proofs.First.{Passed, passed_none, first_past, first-in-part, passed-part}
-use Rattle.cluster.specs.Reading.{wrongSector, firstWrongSector}
+use Rattle.cluster.specs.Reading.{wrong_sector, first_wrong_sector}
 use Rattle.ldc_words.proofs.Eighth.{frames-judged}
 use Rattle.sector_reader.proofs.steps.first_wrong_sector.Statement.{statement}
 use Rattle.sector_reader.proofs.steps.first_wrong_sector.Tie as tie
 
 abbrev invariant-loop : tie.invariant-loop
-invariant-loop work stream frames₀ e₀ frames e = (length frames ≡ 8208) × ((e ≤ 8) × Passed (wrongSector stream work) (4 * e))
+invariant-loop work stream frames₀ e₀ frames e = (length frames ≡ 8208) × ((e ≤ 8) × Passed (wrong_sector stream work) (4 * e))
 
 abbrev decreases-loop : tie.decreases-loop
 decreases-loop work stream frames₀ e₀ frames e = 8 - e
@@ -41,7 +41,7 @@ add-result : tie.Need-overflow-add-result invariant-loop decreases-loop
 add-result c = search rules
 
 returns : tie.Need-returns invariant-loop decreases-loop
-unfolding firstWrongSector
+unfolding first_wrong_sector
 returns c =
     let judged = c.before in
     let taken = judged.before.before.before in
@@ -64,10 +64,10 @@ loop-again c =
     let args = head.before.before.before.before.args in
     let e = head.loop.e in
     let next : 4 * e + 4 ≡ 4 * (e + 1) = omega arith in
-    (search rules, (omega arith, subst (Passed (wrongSector args.stream.now args.work.now)) next (passed-part (4 * e) 4 _ head.loop.invariant.1.1 (frames-judged args.stream.now args.work.now taken.take-frames.new.1.1.0 e taken.take-frames.ensures _ judged.first-wrong-frame.ensures) c.if1.false)))
+    (search rules, (omega arith, subst (Passed (wrong_sector args.stream.now args.work.now)) next (passed-part (4 * e) 4 _ head.loop.invariant.1.1 (frames-judged args.stream.now args.work.now taken.take-frames.new.1.1.0 e taken.take-frames.ensures _ judged.first-wrong-frame.ensures) c.if1.false)))
 
 returns-2 : tie.Need-returns-2 invariant-loop decreases-loop
-unfolding firstWrongSector
+unfolding first_wrong_sector
 returns-2 c = first_past (omega arith) c.before.loop.invariant.1.1
 
 pub first-wrong-sector-spec : {M : Type 1} → statement M

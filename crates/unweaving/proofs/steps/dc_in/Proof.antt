@@ -2,13 +2,13 @@
 use Prim.Native.Nat.{◌-◌}
 use native.Mathlib.Omega.{arith}
 use borrow.Author.Rules.{rules}
-use Rattle.modulation.specs.steps.Words.{bitsIn}
-use Rattle.frame_bits.proofs.Unweaving.{dcBit, NumberTo, number-none, number_more, number-all, number-room, dc-word, dc-of-word}
+use Rattle.modulation.specs.steps.Words.{bits_in}
+use Rattle.frame_bits.proofs.Unweaving.{dc_bit, NumberTo, number-none, number_more, number-all, number-room, dc-word, dc-of-word}
 use Rattle.unweaving.proofs.steps.dc_in.Statement.{statement}
 use Rattle.unweaving.proofs.steps.dc_in.Tie as tie
 
 abbrev invariant-loop : tie.invariant-loop
-invariant-loop words dc₀ i₀ dc i = NumberTo (dcBit (bitsIn words)) 28 i dc
+invariant-loop words dc₀ i₀ dc i = NumberTo (dc_bit (bits_in words)) 28 i dc
 
 abbrev decreases-loop : tie.decreases-loop
 decreases-loop words dc₀ i₀ dc i = 28 - i

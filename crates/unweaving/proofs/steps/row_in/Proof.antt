@@ -4,14 +4,14 @@ use native.Mathlib.Omega.{arith}
 use borrow.Author.Rules.{rules}
 use lib.ListN.{get_or, length-set}
 use Rattle.laws.proofs.Fill.{Upto, upto-none}
-use Rattle.modulation.specs.steps.Words.{bitsIn}
-use Rattle.frame_bits.specs.FrameBits.{rowFrom}
+use Rattle.modulation.specs.steps.Words.{bits_in}
+use Rattle.frame_bits.specs.FrameBits.{row_from}
 use Rattle.frame_bits.proofs.Unweaving.{row-five, row-all, words-bits-bits}
 use Rattle.unweaving.proofs.steps.row_in.Statement.{statement}
 use Rattle.unweaving.proofs.steps.row_in.Tie as tie
 
 abbrev invariant-loop : tie.invariant-loop
-invariant-loop words row₀ m₀ row m = Upto 0 (λ k. get_or (rowFrom (bitsIn words)) k 0) 155 (5 * m) row
+invariant-loop words row₀ m₀ row m = Upto 0 (λ k. get_or (row_from (bits_in words)) k 0) 155 (5 * m) row
 
 abbrev decreases-loop : tie.decreases-loop
 decreases-loop words row₀ m₀ row m = 31 - m
@@ -92,7 +92,7 @@ same_length : tie.Need-same-length invariant-loop decreases-loop
 same_length c = search rules
 
 returns : tie.Need-returns invariant-loop decreases-loop
-returns c = row-all (bitsIn c.before.before.before.args.words.now) (words-bits-bits _) c.loop-test.false c.before.loop.invariant
+returns c = row-all (bits_in c.before.before.before.args.words.now) (words-bits-bits _) c.loop-test.false c.before.loop.invariant
 
 pub row-in-spec : {M : Type 1} → statement M
 row-in-spec =

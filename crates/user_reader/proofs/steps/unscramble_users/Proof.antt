@@ -6,13 +6,13 @@ use borrow.Author.Rules.{rules}
 use lib.ListN.{get_or}
 use Rattle.laws.proofs.Fill.{Upto, upto-none, upto_all}
 use Rattle.scrambling.specs.Scrambling.{scrambled}
-use Rattle.ldc_words.specs.steps.Eighth.{eighthFrame, userOf}
+use Rattle.ldc_words.specs.steps.Eighth.{eighth_frame, user_of}
 use Rattle.ldc_words.proofs.Eighth.{user-turn}
 use Rattle.user_reader.proofs.steps.unscramble_users.Statement.{statement}
 use Rattle.user_reader.proofs.steps.unscramble_users.Tie as tie
 
 abbrev invariant-loop : tie.invariant-loop
-invariant-loop frames stream user₀ f₀ user f = (f ≤ 4) × Upto 0 (λ k. get_or (scrambled stream (eighthFrame frames (k / 2048))) (k % 2048) 0) 8192 (2048 * f) user
+invariant-loop frames stream user₀ f₀ user f = (f ≤ 4) × Upto 0 (λ k. get_or (scrambled stream (eighth_frame frames (k / 2048))) (k % 2048) 0) 8192 (2048 * f) user
 
 abbrev decreases-loop : tie.decreases-loop
 decreases-loop frames stream user₀ f₀ user f = 4 - f
@@ -74,7 +74,7 @@ same_length : tie.Need-same-length invariant-loop decreases-loop
 same_length c = search rules
 
 returns : tie.Need-returns invariant-loop decreases-loop
-unfolding userOf
+unfolding user_of
 returns c = upto_all (omega arith) c.before.loop.invariant.1
 
 pub unscramble-users-spec : {M : Type 1} → statement M

@@ -5,13 +5,13 @@ use native.Mathlib.Omega.{arith}
 use borrow.Author.Rules.{rules}
 use lib.ListN.{length}
 use Rattle.laws.proofs.Fill.{Upto, upto-none, upto_all}
-use Rattle.cluster.specs.Reading.{userByteIn, userIn}
+use Rattle.cluster.specs.Reading.{user_byte_in, user_in}
 use Rattle.ldc_words.proofs.Eighth.{users-turn}
 use Rattle.user_reader.proofs.steps.user_bytes.Statement.{statement}
 use Rattle.user_reader.proofs.steps.user_bytes.Tie as tie
 
 abbrev invariant-loop : tie.invariant-loop
-invariant-loop work stream user₀ frames₀ e₀ user frames e = (length frames ≡ 8208) × ((e ≤ 8) × Upto 0 (userByteIn stream work) 65536 (8192 * e) user)
+invariant-loop work stream user₀ frames₀ e₀ user frames e = (length frames ≡ 8208) × ((e ≤ 8) × Upto 0 (user_byte_in stream work) 65536 (8192 * e) user)
 
 abbrev decreases-loop : tie.decreases-loop
 decreases-loop work stream user₀ frames₀ e₀ user frames e = 8 - e
@@ -71,7 +71,7 @@ same_length : tie.Need-same-length invariant-loop decreases-loop
 same_length c = search rules
 
 returns : tie.Need-returns invariant-loop decreases-loop
-unfolding userIn
+unfolding user_in
 returns c = upto_all (omega arith) c.before.loop.invariant.1.1
 
 pub user-bytes-spec : {M : Type 1} → statement M

@@ -1,6 +1,6 @@
 -- `Verdict::refusal` meets its contract, case by case.
 use mathlib.Core.Path.{sym, ap, ◌∙◌}
-use Rattle.verdict.specs.Verdict.{refusalIn}
+use Rattle.verdict.specs.Verdict.{refusal_in}
 use borrow.Author.Rules.{rules}
 use Rattle.verdict.proofs.Verdict.refusal.Statement.{statement}
 use Rattle.verdict.proofs.Verdict.refusal.Tie as tie
@@ -27,7 +27,7 @@ returns : tie.Need-returns
 returns c = search rules
 
 returns-2 : tie.Need-returns-2
-returns-2 c = c.number.ensures ∙ sym (ap refusalIn c.before.before.self.given.1)
+returns-2 c = c.number.ensures ∙ sym (ap refusal_in c.before.before.self.given.1)
 
 returns-3 : tie.Need-returns-3
 returns-3 c = search rules

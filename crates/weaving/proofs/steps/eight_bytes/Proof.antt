@@ -20,7 +20,7 @@ add-result : tie.Need-overflow-add-result
 add-result c = search rules
 
 returns : tie.Need-returns
-returns c = eight-bytes c.before.before.before.args.i c.before.four_bytes.ensures c.four-bytes2.ensures
+returns c = eight-bytes c.before.before.before.args.i c.before.four-bytes.ensures c.four-bytes2.ensures
 
 pub eight-bytes-spec : {M : Type 1} → statement M
 eight-bytes-spec =

@@ -1,8 +1,8 @@
--- `four_bytes` meets its contract: a byte at a time (frame_bits, Weaving). Assumes nothing.
+-- `four-bytes` meets its contract: a byte at a time (frame_bits, Weaving). Assumes nothing.
 use borrow.Author.Rules.{rules}
-use Rattle.frame_bits.proofs.Weaving.{four_bytes}
-use Rattle.weaving.proofs.steps.four_bytes.Statement.{statement}
-use Rattle.weaving.proofs.steps.four_bytes.Tie as tie
+use Rattle.frame_bits.proofs.Weaving.{four-bytes}
+use Rattle.weaving.proofs.steps.four-bytes.Statement.{statement}
+use Rattle.weaving.proofs.steps.four-bytes.Tie as tie
 
 shared-slice-read-wide : tie.Need-shared-slice-read-wide
 shared-slice-read-wide c = search rules
@@ -62,7 +62,7 @@ returns c =
     let first = second.before.before in
     let known = first.before.before in
     let start = known.before in
-    four_bytes start.args.row.now (λ k. (known.shared-slice-known.given k).fits) start.args.i start.requires first.wide.ensures.0 second.wide2.ensures.0
+    four-bytes start.args.row.now (λ k. (known.shared-slice-known.given k).fits) start.args.i start.requires first.wide.ensures.0 second.wide2.ensures.0
     third.wide3.ensures.0 c.wide4.ensures.0
 
 pub four-bytes-spec : {M : Type 1} → statement M

@@ -2,7 +2,7 @@
 use borrow.Author.Rules.{rules}
 use Prim.Native.Nat.{◌+◌, ◌*◌, ◌-◌, ◌/◌}
 use native.Mathlib.Omega.{arith}
-use Rattle.frame_bits.proofs.Weaving.{first_group, later-group}
+use Rattle.frame_bits.proofs.Weaving.{first-group, later-group}
 use Rattle.weaving.proofs.steps.group_data.Statement.{statement}
 use Rattle.weaving.proofs.steps.group_data.Tie as tie
 
@@ -10,7 +10,7 @@ four-bytes-requires : tie.Need-four-bytes-requires
 four-bytes-requires c κs = search rules
 
 returns : tie.Need-returns
-returns c = first_group c.before.before.before.args.i c.before.if1.true c.four_bytes.ensures
+returns c = first-group c.before.before.before.args.i c.before.if1.true c.four-bytes.ensures
 
 mul-end : tie.Need-overflow-mul-end
 mul-end c = search rules

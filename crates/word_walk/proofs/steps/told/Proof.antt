@@ -1,6 +1,6 @@
 -- `told` meets its contract: the code's table is the definition's (Tables). Assumes nothing.
 use Rattle.laws.specs.Tabulate.{tabulate}
-use Rattle.word_walk.proofs.Tables.{toldBy, toldTable, told_is}
+use Rattle.word_walk.proofs.Tables.{told_by, told_table, told_is}
 use borrow.Author.Rules.{rules}
 use Rattle.word_walk.proofs.steps.told.Statement.{statement}
 use Rattle.word_walk.proofs.steps.told.Tie as tie
@@ -18,7 +18,7 @@ array-read-result : tie.Need-array-read-result
 array-read-result c = search rules
 
 returns : tie.Need-returns
-unfolding toldTable toldBy tabulate
+unfolding told_table told_by tabulate
 returns c = let start = c.before in told_is start.args.waits start.args.pair start.requires.0 start.requires.1
 
 pub told-spec : {M : Type 1} → statement M

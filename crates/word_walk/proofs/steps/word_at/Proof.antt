@@ -2,7 +2,7 @@
 use mathlib.Core.Path.{◌∙◌}
 use lib.ListN.{drop}
 use Rattle.modulation.specs.Bits.{pairs}
-use Rattle.modulation.specs.steps.Words.{bitsIn}
+use Rattle.modulation.specs.steps.Words.{bits_in}
 use Rattle.word_walk.proofs.Walking.{word-plain, word-walked}
 use borrow.Author.Rules.{rules}
 use Rattle.word_walk.proofs.steps.word_at.Statement.{statement}
@@ -15,7 +15,7 @@ returns : tie.Need-returns
 returns c =
     let ends = c.before in
     let start = ends.before in
-    word-plain (drop start.args.p (pairs (bitsIn start.args.words.now))) ends.ends-plain.ensures c.if1.true
+    word-plain (drop start.args.p (pairs (bits_in start.args.words.now))) ends.ends-plain.ensures c.if1.true
 
 walk-requires : tie.Need-walk-requires
 walk-requires c κs = search rules
@@ -25,7 +25,7 @@ returns-2 c =
     let other = c.before in
     let ends = other.before in
     let start = ends.before in
-    c.walk.ensures ∙ word-walked (drop start.args.p (pairs (bitsIn start.args.words.now))) ends.ends-plain.ensures other.if1.false
+    c.walk.ensures ∙ word-walked (drop start.args.p (pairs (bits_in start.args.words.now))) ends.ends-plain.ensures other.if1.false
 
 pub word-at-spec : {M : Type 1} → statement M
 word-at-spec = tie.close (tie.spec ends-plain-requires returns walk-requires returns-2)
