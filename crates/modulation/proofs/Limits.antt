@@ -34,10 +34,17 @@ abbrev closing : FS → List Three
 closing n = m010 ∷ sync_id n
 
 next-fine : (h : Bool) → T (fine (bits (next h)) 1 6)
-next-fine h = elim h [ true ↦ tt | false ↦ tt ]
+next-fine true = tt
+next-fine false = tt
 
 closing-fine : (n : FS) → T (fine (bits (closing n)) 1 6)
-closing-fine n = elim n [ FS0 ↦ tt | FS1 ↦ tt | FS2 ↦ tt | FS3 ↦ tt | FS4 ↦ tt | FS5 ↦ tt | FS6 ↦ tt ]
+closing-fine FS0 = tt
+closing-fine FS1 = tt
+closing-fine FS2 = tt
+closing-fine FS3 = tt
+closing-fine FS4 = tt
+closing-fine FS5 = tt
+closing-fine FS6 = tt
 
 module _ (h : Bool) (n : FS) where
   abbrev one : List ℕ

@@ -62,7 +62,7 @@ next-11 b (d01 ∷ d11 ∷ ds) = either (starts_with010 (modulate false ds).grou
   where
     either : (q : Bool) → starts_with010 (modulate false ds).groups ≡ q → starts_with010 (modulate b (d11 ∷ d01 ∷ d11 ∷ ds)).groups ≡ false
     either true e = ap (λ (f : Modulated). starts_with010 f.groups) (sym (followed b ds e))
-    either false e = ap (λ (f : Modulated). starts_with010 f.groups) (sym (not-followed b ds e)) ∙ elim b [ true ↦ refl | false ↦ refl ]
+    either false e = ap (λ (f : Modulated). starts_with010 f.groups) (sym (not-followed b ds e)) ∙ elim b as (λ (k : Bool). starts_with010 (put (plain k) (modulate true ds)).groups ≡ false) [ true ↦ refl | false ↦ refl ]
 next-11 true (d10 ∷ ds) = refl
 next-11 false (d10 ∷ ds) = refl
 next-11 true (d11 ∷ ds) = refl
@@ -99,36 +99,54 @@ wait-below w1101110000 = omega arith
 one_more : (s : Wait) (b : Bool) (d : Two) (ds : List Two)
     → put (step s b d).out (modulate (step s b d).bit (waiting (step s b d).to ++ ds)) ≡ modulate b (waiting s ++ d ∷ ds)
 unfolding modulate_from
-one_more w b d ds = elim d [ d00 ↦ refl | d01 ↦ refl | d10 ↦ refl | d11 ↦ refl ]
-one_more w00 b d ds = elim d [ d00 ↦ refl | d01 ↦ refl | d10 ↦ refl | d11 ↦ refl ]
-one_more w0000 b d ds = elim d [ d00 ↦ refl | d01 ↦ refl | d10 ↦ refl | d11 ↦ refl ]
-one_more w000000 b d ds = elim d [ d00 ↦ refl | d01 ↦ refl | d10 ↦ refl | d11 ↦ refl ]
-one_more w000010 b d ds = elim d [ d00 ↦ refl | d01 ↦ refl | d10 ↦ refl | d11 ↦ refl ]
-one_more w11 true d ds = elim d [ d00 ↦ refl | d01 ↦ refl | d10 ↦ refl | d11 ↦ refl ]
-one_more w11 false d ds = elim d [ d00 ↦ refl | d01 ↦ refl | d10 ↦ refl | d11 ↦ refl ]
-one_more w1101 true d ds = elim d [ d00 ↦ refl | d01 ↦ refl | d10 ↦ refl | d11 ↦ refl ]
-one_more w1101 false d ds = elim d [ d00 ↦ refl | d01 ↦ refl | d10 ↦ refl | d11 ↦ refl ]
-one_more w110111 b d ds =
-    elim d [
-      | d00 ↦ refl
-      | d01 ↦ followed b (d01 ∷ ds) refl
-      | d10 ↦ not-followed b (d10 ∷ ds) refl
-      | d11 ↦ not-followed b (d11 ∷ ds) (next-11 false ds)
-    ]
-one_more w11011100 b d ds =
-    elim d [
-      | d00 ↦ refl
-      | d01 ↦ not-followed b (d00 ∷ d01 ∷ ds) refl
-      | d10 ↦ followed b (d00 ∷ d10 ∷ ds) refl
-      | d11 ↦ followed b (d00 ∷ d11 ∷ ds) refl
-    ]
-one_more w1101110000 b d ds =
-    elim d [
-      | d00 ↦ followed b (d00 ∷ d00 ∷ d00 ∷ ds) (next-000000 false ds)
-      | d01 ↦ followed b (d00 ∷ d00 ∷ d01 ∷ ds) refl
-      | d10 ↦ not-followed b (d00 ∷ d00 ∷ d10 ∷ ds) (next-000010 false ds)
-      | d11 ↦ not-followed b (d00 ∷ d00 ∷ d11 ∷ ds) refl
-    ]
+one_more w b d00 ds = refl
+one_more w b d01 ds = refl
+one_more w b d10 ds = refl
+one_more w b d11 ds = refl
+one_more w00 b d00 ds = refl
+one_more w00 b d01 ds = refl
+one_more w00 b d10 ds = refl
+one_more w00 b d11 ds = refl
+one_more w0000 b d00 ds = refl
+one_more w0000 b d01 ds = refl
+one_more w0000 b d10 ds = refl
+one_more w0000 b d11 ds = refl
+one_more w000000 b d00 ds = refl
+one_more w000000 b d01 ds = refl
+one_more w000000 b d10 ds = refl
+one_more w000000 b d11 ds = refl
+one_more w000010 b d00 ds = refl
+one_more w000010 b d01 ds = refl
+one_more w000010 b d10 ds = refl
+one_more w000010 b d11 ds = refl
+one_more w11 true d00 ds = refl
+one_more w11 true d01 ds = refl
+one_more w11 true d10 ds = refl
+one_more w11 true d11 ds = refl
+one_more w11 false d00 ds = refl
+one_more w11 false d01 ds = refl
+one_more w11 false d10 ds = refl
+one_more w11 false d11 ds = refl
+one_more w1101 true d00 ds = refl
+one_more w1101 true d01 ds = refl
+one_more w1101 true d10 ds = refl
+one_more w1101 true d11 ds = refl
+one_more w1101 false d00 ds = refl
+one_more w1101 false d01 ds = refl
+one_more w1101 false d10 ds = refl
+one_more w1101 false d11 ds = refl
+one_more w110111 b d00 ds = refl
+one_more w110111 b d01 ds = followed b (d01 ∷ ds) refl
+one_more w110111 b d10 ds = not-followed b (d10 ∷ ds) refl
+one_more w110111 b d11 ds = not-followed b (d11 ∷ ds) (next-11 false ds)
+one_more w11011100 b d00 ds = refl
+one_more w11011100 b d01 ds = not-followed b (d00 ∷ d01 ∷ ds) refl
+one_more w11011100 b d10 ds = followed b (d00 ∷ d10 ∷ ds) refl
+one_more w11011100 b d11 ds = followed b (d00 ∷ d11 ∷ ds) refl
+one_more w1101110000 b d00 ds = followed b (d00 ∷ d00 ∷ d00 ∷ ds) (next-000000 false ds)
+one_more w1101110000 b d01 ds = followed b (d00 ∷ d00 ∷ d01 ∷ ds) refl
+one_more w1101110000 b d10 ds = not-followed b (d00 ∷ d00 ∷ d10 ∷ ds) (next-000010 false ds)
+one_more w1101110000 b d11 ds = not-followed b (d00 ∷ d00 ∷ d11 ∷ ds) refl
 
 at-the-end : (s : Wait) (b : Bool) → stop s b ≡ modulate b (waiting s ++ [])
 unfolding modulate_from
@@ -137,11 +155,16 @@ at-the-end w00 b = refl
 at-the-end w0000 b = refl
 at-the-end w000000 b = refl
 at-the-end w000010 b = refl
-at-the-end w11 b = elim b [ true ↦ refl | false ↦ refl ]
-at-the-end w1101 b = elim b [ true ↦ refl | false ↦ refl ]
-at-the-end w110111 b = elim b [ true ↦ refl | false ↦ refl ]
-at-the-end w11011100 b = elim b [ true ↦ refl | false ↦ refl ]
-at-the-end w1101110000 b = elim b [ true ↦ refl | false ↦ refl ]
+at-the-end w11 true = refl
+at-the-end w11 false = refl
+at-the-end w1101 true = refl
+at-the-end w1101 false = refl
+at-the-end w110111 true = refl
+at-the-end w110111 false = refl
+at-the-end w11011100 true = refl
+at-the-end w11011100 false = refl
+at-the-end w1101110000 true = refl
+at-the-end w1101110000 false = refl
 
 pub machine-is : (ds : List Two) (s : Wait) (b : Bool) → machine ds s b ≡ modulate b (waiting s ++ ds)
 machine-is [] s b = at-the-end s b

@@ -92,27 +92,45 @@ found c b hash gs k =
 
 after-zero-found : {hash : Bool} {gs : List Three} → Start false hash gs → (b : Bool) → T (all 16 (found false b hash gs))
 unfolding all first row_read
-after-zero-found none b = elim b [ true ↦ tt | false ↦ tt ]
-after-zero-found s001 b = elim b [ true ↦ tt | false ↦ tt ]
-after-zero-found s010 b = elim b [ true ↦ tt | false ↦ tt ]
-after-zero-found s101 b = elim b [ true ↦ tt | false ↦ tt ]
-after-zero-found s000-100 b = elim b [ true ↦ tt | false ↦ tt ]
-after-zero-found s000-end b = elim b [ true ↦ tt | false ↦ tt ]
+after-zero-found none true = tt
+after-zero-found none false = tt
+after-zero-found s001 true = tt
+after-zero-found s001 false = tt
+after-zero-found s010 true = tt
+after-zero-found s010 false = tt
+after-zero-found s101 true = tt
+after-zero-found s101 false = tt
+after-zero-found s000-100 true = tt
+after-zero-found s000-100 false = tt
+after-zero-found s000-end true = tt
+after-zero-found s000-end false = tt
 
 after-one-found : {hash : Bool} {gs : List Three} → Start true hash gs → (b : Bool) → T (all 16 (found true b hash gs))
 unfolding all first row_read
-after-one-found none b = elim b [ true ↦ tt | false ↦ tt ]
-after-one-found s001 b = elim b [ true ↦ tt | false ↦ tt ]
-after-one-found s010 b = elim b [ true ↦ tt | false ↦ tt ]
-after-one-found s101 b = elim b [ true ↦ tt | false ↦ tt ]
-after-one-found s000-100 b = elim b [ true ↦ tt | false ↦ tt ]
-after-one-found s000-end b = elim b [ true ↦ tt | false ↦ tt ]
-after-one-found (s000-more none) b = elim b [ true ↦ tt | false ↦ tt ]
-after-one-found (s000-more s001) b = elim b [ true ↦ tt | false ↦ tt ]
-after-one-found (s000-more s010) b = elim b [ true ↦ tt | false ↦ tt ]
-after-one-found (s000-more s101) b = elim b [ true ↦ tt | false ↦ tt ]
-after-one-found (s000-more s000-100) b = elim b [ true ↦ tt | false ↦ tt ]
-after-one-found (s000-more s000-end) b = elim b [ true ↦ tt | false ↦ tt ]
+after-one-found none true = tt
+after-one-found none false = tt
+after-one-found s001 true = tt
+after-one-found s001 false = tt
+after-one-found s010 true = tt
+after-one-found s010 false = tt
+after-one-found s101 true = tt
+after-one-found s101 false = tt
+after-one-found s000-100 true = tt
+after-one-found s000-100 false = tt
+after-one-found s000-end true = tt
+after-one-found s000-end false = tt
+after-one-found (s000-more none) true = tt
+after-one-found (s000-more none) false = tt
+after-one-found (s000-more s001) true = tt
+after-one-found (s000-more s001) false = tt
+after-one-found (s000-more s010) true = tt
+after-one-found (s000-more s010) false = tt
+after-one-found (s000-more s101) true = tt
+after-one-found (s000-more s101) false = tt
+after-one-found (s000-more s000-100) true = tt
+after-one-found (s000-more s000-100) false = tt
+after-one-found (s000-more s000-end) true = tt
+after-one-found (s000-more s000-end) false = tt
 
 found-again : (c b hash : Bool) (gs : List Three) → Start c hash gs → (k : ℕ) → k < 16 → next_bit (row_at k) ≡ c → agrees (row_at k).when b gs ≡ true
     → read_back b hash gs k ≡ k

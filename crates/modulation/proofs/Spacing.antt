@@ -90,16 +90,26 @@ held s b z r = implies (met s b z r) (holds s b z r)
 
 all_held : (s : Wait) (b : Bool) → T (all₂ 7 7 (held s b))
 unfolding all all₂
-all_held w b = elim b [ true ↦ tt | false ↦ tt ]
-all_held w00 b = elim b [ true ↦ tt | false ↦ tt ]
-all_held w0000 b = elim b [ true ↦ tt | false ↦ tt ]
-all_held w000000 b = elim b [ true ↦ tt | false ↦ tt ]
-all_held w000010 b = elim b [ true ↦ tt | false ↦ tt ]
-all_held w11 b = elim b [ true ↦ tt | false ↦ tt ]
-all_held w1101 b = elim b [ true ↦ tt | false ↦ tt ]
-all_held w110111 b = elim b [ true ↦ tt | false ↦ tt ]
-all_held w11011100 b = elim b [ true ↦ tt | false ↦ tt ]
-all_held w1101110000 b = elim b [ true ↦ tt | false ↦ tt ]
+all_held w true = tt
+all_held w false = tt
+all_held w00 true = tt
+all_held w00 false = tt
+all_held w0000 true = tt
+all_held w0000 false = tt
+all_held w000000 true = tt
+all_held w000000 false = tt
+all_held w000010 true = tt
+all_held w000010 false = tt
+all_held w11 true = tt
+all_held w11 false = tt
+all_held w1101 true = tt
+all_held w1101 false = tt
+all_held w110111 true = tt
+all_held w110111 false = tt
+all_held w11011100 true = tt
+all_held w11011100 false = tt
+all_held w1101110000 true = tt
+all_held w1101110000 false = tt
 
 module _ (s : Wait) (b : Bool) (z r : ℕ) (m : T (may s b z r)) where
   all_hold : T (holds s b z r)

@@ -1,0 +1,10 @@
+-- `dc_words` meets its contract: computed.
+use mathlib.Core.Path.{refl}
+use Prim.Native.Nat.{ℕ}
+use lib.ListN.{length-replicate}
+use Rattle.laws.specs.Zeros.{zeros}
+use Rattle.buffers.proofs.dc_words.Goals as goal
+
+pub returns : goal.returns
+unfolding zeros
+returns c = (length-replicate {A = ℕ} 496 0, refl)

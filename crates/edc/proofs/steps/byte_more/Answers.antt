@@ -1,0 +1,11 @@
+-- `byte_more` meets its contract: quotient and remainder (Register).
+use native.Mathlib.Omega.{arith}
+use borrow.Author.Rules.{rules}
+use Rattle.std.proofs.lemmas.Grind.{common_steps}
+use Rattle.edc.proofs.Quotient.{folded, low_of}
+use Rattle.edc.proofs.Register.{byte-taken}
+use Rattle.edc.proofs.steps.byte_more.Goals as goal
+
+pub returns : goal.returns
+unfolding folded low_of
+returns c = search (rules, byte-taken)

@@ -1,0 +1,7 @@
+-- `image` has the length that it says.
+use Rattle.std.proofs.Common.{ℕ}
+use lib.ListN.{length-replicate}
+use Rattle.test_bytes.proofs.lent.image.Goals as goal
+
+pub returns : goal.returns
+returns c = length-replicate {A = ℕ} 119788 90

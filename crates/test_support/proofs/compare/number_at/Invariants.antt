@@ -1,0 +1,9 @@
+-- `number_at` is safe and ends.
+use Rattle.std.proofs.Common.{◌-◌, ◌≤◌}
+use Rattle.test_support.proofs.compare.number_at.Given as goal
+
+abbrev pub invariant-loop-k : goal.invariant-loop-k
+invariant-loop-k l = l.k ≤ l.count
+
+abbrev pub decreases-loop-k : goal.decreases-loop-k
+decreases-loop-k l = l.count - l.k
