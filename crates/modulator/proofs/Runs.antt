@@ -73,28 +73,48 @@ module _ {s t u : ℕ} {ds es : List Two} {v x : ℕ} (m : Moves s ds v t) (n : 
 -- ---- one pair
 
 state-lt : (a : Wait) (b : Bool) → state_number a b < 20
-state-lt w b = elim b [ true ↦ omega arith | false ↦ omega arith ]
-state-lt w00 b = elim b [ true ↦ omega arith | false ↦ omega arith ]
-state-lt w0000 b = elim b [ true ↦ omega arith | false ↦ omega arith ]
-state-lt w000000 b = elim b [ true ↦ omega arith | false ↦ omega arith ]
-state-lt w000010 b = elim b [ true ↦ omega arith | false ↦ omega arith ]
-state-lt w11 b = elim b [ true ↦ omega arith | false ↦ omega arith ]
-state-lt w1101 b = elim b [ true ↦ omega arith | false ↦ omega arith ]
-state-lt w110111 b = elim b [ true ↦ omega arith | false ↦ omega arith ]
-state-lt w11011100 b = elim b [ true ↦ omega arith | false ↦ omega arith ]
-state-lt w1101110000 b = elim b [ true ↦ omega arith | false ↦ omega arith ]
+state-lt w true = omega arith
+state-lt w false = omega arith
+state-lt w00 true = omega arith
+state-lt w00 false = omega arith
+state-lt w0000 true = omega arith
+state-lt w0000 false = omega arith
+state-lt w000000 true = omega arith
+state-lt w000000 false = omega arith
+state-lt w000010 true = omega arith
+state-lt w000010 false = omega arith
+state-lt w11 true = omega arith
+state-lt w11 false = omega arith
+state-lt w1101 true = omega arith
+state-lt w1101 false = omega arith
+state-lt w110111 true = omega arith
+state-lt w110111 false = omega arith
+state-lt w11011100 true = omega arith
+state-lt w11011100 false = omega arith
+state-lt w1101110000 true = omega arith
+state-lt w1101110000 false = omega arith
 
 state-back : (a : Wait) (b : Bool) → (wait_of (state_number a b) ≡ a) × (state_bit (state_number a b) ≡ b)
-state-back w b = elim b [ true ↦ (refl, refl) | false ↦ (refl, refl) ]
-state-back w00 b = elim b [ true ↦ (refl, refl) | false ↦ (refl, refl) ]
-state-back w0000 b = elim b [ true ↦ (refl, refl) | false ↦ (refl, refl) ]
-state-back w000000 b = elim b [ true ↦ (refl, refl) | false ↦ (refl, refl) ]
-state-back w000010 b = elim b [ true ↦ (refl, refl) | false ↦ (refl, refl) ]
-state-back w11 b = elim b [ true ↦ (refl, refl) | false ↦ (refl, refl) ]
-state-back w1101 b = elim b [ true ↦ (refl, refl) | false ↦ (refl, refl) ]
-state-back w110111 b = elim b [ true ↦ (refl, refl) | false ↦ (refl, refl) ]
-state-back w11011100 b = elim b [ true ↦ (refl, refl) | false ↦ (refl, refl) ]
-state-back w1101110000 b = elim b [ true ↦ (refl, refl) | false ↦ (refl, refl) ]
+state-back w true = (refl, refl)
+state-back w false = (refl, refl)
+state-back w00 true = (refl, refl)
+state-back w00 false = (refl, refl)
+state-back w0000 true = (refl, refl)
+state-back w0000 false = (refl, refl)
+state-back w000000 true = (refl, refl)
+state-back w000000 false = (refl, refl)
+state-back w000010 true = (refl, refl)
+state-back w000010 false = (refl, refl)
+state-back w11 true = (refl, refl)
+state-back w11 false = (refl, refl)
+state-back w1101 true = (refl, refl)
+state-back w1101 false = (refl, refl)
+state-back w110111 true = (refl, refl)
+state-back w110111 false = (refl, refl)
+state-back w11011100 true = (refl, refl)
+state-back w11011100 false = (refl, refl)
+state-back w1101110000 true = (refl, refl)
+state-back w1101110000 false = (refl, refl)
 
 from-state : (a : Wait) (b : Bool) (rest : List Two) → machine rest a b ≡ from (state_number a b) rest
 from-state a b rest = sym (ap₂ (machine rest) (state-back a b).0 (state-back a b).1)

@@ -39,7 +39,7 @@ always-row : {l : List Two} {m : ℕ} (k : ℕ) → ((b : Bool) (more : List Two
 always-row k taken size = record { row = λ b. row_at k; taken = taken; size = λ b. size }
 
 row-of-11 : {l : List Two} → ((b : Bool) (more : List Two) → row_taken b (l ++ more) ≡ row-11 b) → Fixed l 1
-row-of-11 taken = record { row = row-11; taken = taken; size = λ b. elim b [ true ↦ refl | false ↦ refl ] }
+row-of-11 taken = record { row = row-11; taken = taken; size = λ b. elim b as (λ (k : Bool). length (row-11 k).pairs ≡ 1) [ true ↦ refl | false ↦ refl ] }
 
 -- 110111 where 010 follows, and where it does not
 row-substituted : (b : Bool) (ds : List Two) → starts_with010 (modulate false ds).groups ≡ true → row_taken b (d11 ∷ d01 ∷ d11 ∷ ds) ≡ row_at 6
@@ -161,10 +161,14 @@ at-end w00 b = refl
 at-end w0000 b = refl
 at-end w000000 b = refl
 at-end w000010 b = refl
-at-end w11 b = elim b [ true ↦ refl | false ↦ refl ]
-at-end w1101 b = elim b [ true ↦ refl | false ↦ refl ]
-at-end w110111 b = elim b [ true ↦ refl | false ↦ refl ]
-at-end w11011100 b = elim b [ true ↦ refl | false ↦ refl ]
+at-end w11 true = refl
+at-end w11 false = refl
+at-end w1101 true = refl
+at-end w1101 false = refl
+at-end w110111 true = refl
+at-end w110111 false = refl
+at-end w11011100 true = refl
+at-end w11011100 false = refl
 at-end w1101110000 b = refl
 
 -- ---- pairs that leave it open
@@ -211,13 +215,13 @@ open_at w000000 n h p = opened (waiting w000000) (d00 ∷ []) (d01 ∷ []) (tell
 open_at w000010 n h p = opened (waiting w000010) (d00 ∷ []) (d01 ∷ []) (tells w000010 d00) (tells w000010 d01) refl (λ b. refl) n (omega arith)
 open_at w11 n h p =
     opened (waiting w11) (d01 ∷ d11 ∷ d01 ∷ []) (d00 ∷ d00 ∷ d00 ∷ []) (tells w110111 d01) (longer (tells w11 d00) (d00 ∷ d00 ∷ [])) refl
-    (λ b. elim b [ true ↦ refl | false ↦ refl ]) n (omega arith)
+    (λ b. elim b as (λ (b : Bool). same (bits ((tells w110111 d01).row b).groups) (bits ((longer (tells w11 d00) (d00 ∷ d00 ∷ [])).row b).groups) ≡ false) [ true ↦ refl | false ↦ refl ]) n (omega arith)
 open_at w1101 n h p =
     opened (waiting w1101) (d11 ∷ d01 ∷ []) (d00 ∷ d00 ∷ []) (tells w110111 d01) (longer (tells w1101 d00) (d00 ∷ [])) refl
-    (λ b. elim b [ true ↦ refl | false ↦ refl ]) n (omega arith)
+    (λ b. elim b as (λ (b : Bool). same (bits ((tells w110111 d01).row b).groups) (bits ((longer (tells w1101 d00) (d00 ∷ [])).row b).groups) ≡ false) [ true ↦ refl | false ↦ refl ]) n (omega arith)
 open_at w110111 n h p =
-    opened (waiting w110111) (d01 ∷ []) (d10 ∷ []) (tells w110111 d01) (tells w110111 d10) refl (λ b. elim b [ true ↦ refl | false ↦ refl ]) n (omega arith)
+    opened (waiting w110111) (d01 ∷ []) (d10 ∷ []) (tells w110111 d01) (tells w110111 d10) refl (λ b. elim b as (λ (b : Bool). same (bits ((tells w110111 d01).row b).groups) (bits ((tells w110111 d10).row b).groups) ≡ false) [ true ↦ refl | false ↦ refl ]) n (omega arith)
 open_at w11011100 n h p =
-    opened (waiting w11011100) (d10 ∷ []) (d01 ∷ []) (tells w11011100 d10) (tells w11011100 d01) refl (λ b. elim b [ true ↦ refl | false ↦ refl ]) n (omega arith)
+    opened (waiting w11011100) (d10 ∷ []) (d01 ∷ []) (tells w11011100 d10) (tells w11011100 d01) refl (λ b. elim b as (λ (b : Bool). same (bits ((tells w11011100 d10).row b).groups) (bits ((tells w11011100 d01).row b).groups) ≡ false) [ true ↦ refl | false ↦ refl ]) n (omega arith)
 open_at w1101110000 n h p =
-    opened (waiting w1101110000) (d00 ∷ []) (d10 ∷ []) (tells w1101110000 d00) (tells w1101110000 d10) refl (λ b. elim b [ true ↦ refl | false ↦ refl ]) n (omega arith)
+    opened (waiting w1101110000) (d00 ∷ []) (d10 ∷ []) (tells w1101110000 d00) (tells w1101110000 d10) refl (λ b. elim b as (λ (b : Bool). same (bits ((tells w1101110000 d00).row b).groups) (bits ((tells w1101110000 d10).row b).groups) ≡ false) [ true ↦ refl | false ↦ refl ]) n (omega arith)

@@ -9,7 +9,7 @@ use native.Mathlib.Omega.{arith}
 use borrow.Author.Tests.{lt-ltb, le-ltb}
 use lib.ListN.{length, get_or, take, drop, length-append, take-append-drop}
 use lib.Seq.{take_at, take_all, take-take, length-take-le}
-use Rattle.modulation.specs.Modulation.{Two, d00, d01, d10, d11, Row}
+use Rattle.modulation.specs.Modulation.{Two, d00, d01, d10, d11, Row, row_at}
 use Rattle.modulation.specs.Machine.{Wait, w, w00, w0000, w000000, w000010, w11, w1101, w110111, w11011100, w1101110000, waiting}
 use Rattle.modulation.specs.Bits.{bits}
 use Rattle.word_needs.specs.Needed.{row_taken, word_bits, needed}
@@ -124,7 +124,7 @@ module _ (b : Bool) where
   plain-11 ds h =
       record {
         needs = needed-only b (d11 ∷ ds) 1 (record { fixes = fix; least = (at_least [] (d11 ∷ ds) (open-front (suc (length ds)) (omega arith))).fewer });
-        size = ap (λ (r : Row). length r.pairs) (plain_end b ds h) ∙ elim b [ true ↦ refl | false ↦ refl ];
+        size = ap (λ (r : Row). length r.pairs) (plain_end b ds h) ∙ elim b as (λ (b : Bool). length (cond b (row_at 12) (row_at 13)).pairs ≡ (walked 1 1).size) [ true ↦ refl | false ↦ refl ];
       }
     where
       fix : Fixes b (d11 ∷ ds) 1

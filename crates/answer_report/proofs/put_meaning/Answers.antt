@@ -3,9 +3,10 @@ use mathlib.Core.Path.{refl}
 use Rattle.answer.specs.declared.Answer.TheVariants.{Done, WrongUser, WrongSide, WrongDc, WrongImage, WrongWork, NoMultiple, NoZone, DcWord, LastBits, Sync, Frame, BisColumn, AddressUnit, NoPsn, LdcColumn, Sector, WrongRow, WrongColumn, WrongCount, Repeated, WrongRecord, NoBench, BenchWaiting}
 use Rattle.texts.specs.Pieces.{piece}
 use Rattle.report.proofs.Words.{EachMeans, means}
+use Rattle.answer_report.proofs.put_meaning.Goals.{After-put_piece}
 use Rattle.answer_report.proofs.put_meaning.Goals as goal
 
-each : (c : tie.After-put-piece) → EachMeans _ _ _ _ _ c.put-piece.ensures
+each : (c : After-put_piece) → EachMeans _ _ _ _ _ c.put_piece.ensures
 unfolding piece
 each c Done = refl
 each c (WrongUser n) = refl
@@ -33,4 +34,4 @@ each c NoBench = refl
 each c BenchWaiting = refl
 
 pub returns : goal.returns
-returns c = means _ _ c.args.answer _ _ _ c.put_piece.ensures c.number.ensures c.place.ensures (each c)
+returns c = means _ _ c.args.answer _ _ _ c.put_piece.ensures c.number.ensures c.place.ensures (each (goal.at.returns c).After-put_piece)

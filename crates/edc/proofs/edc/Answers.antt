@@ -8,10 +8,6 @@ use Rattle.edc.specs.Edc.{edc_of}
 use Rattle.edc.proofs.Loops.{none_passed, eight-of-list, byte-of-list, bytes-passed}
 use Rattle.edc.proofs.edc.Goals as goal
 
-shared-slice-read-byte-more :
-    tie.Need-shared-slice-read-byte-more invariant-loop decreases-loop invariant-loop2 decreases-loop2
-shared-slice-read-byte-more c = search rules
-
 pub loop-k-init : goal.loop-k-init
 loop-k-init c = (omega arith, none_passed)
 

@@ -1,12 +1,15 @@
 -- `handle` meets its contract: by what the record asks for (Requests).
+use native.Mathlib.Omega.{arith}
+use borrow.Author.Rules.{rules}
+use Rattle.std.proofs.lemmas.Grind.{common_steps}
 use Rattle.order_queue.proofs.Requests.{handled-as}
 use Rattle.order_queue.proofs.handle.Goals as goal
 
 pub returns-in-Submit : goal.returns-in-Submit
-returns-in-Submit c = handled-as _ _ c.request_of-request.ensures c.request-1.given.1 c.submit.ensures
+returns-in-Submit c = search (rules, handled-as)
 
 pub returns-in-Serve : goal.returns-in-Serve
-returns-in-Serve c = handled-as _ _ c.request_of-request.ensures c.enum_told-1.given.1 c.serve.ensures
+returns-in-Serve c = search (rules, handled-as)
 
 pub returns-in-Unknown : goal.returns-in-Unknown
-returns-in-Unknown c = handled-as _ _ c.request_of-request.ensures c.enum_told-in-Unknown-1.given.1 c.quiet.ensures
+returns-in-Unknown c = search (rules, handled-as)
