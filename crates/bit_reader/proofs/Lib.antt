@@ -1,4 +1,3 @@
 -- What is shown of the image reader.
 pub mod Fields
-pub mod Lent
 pub mod Statements

@@ -2,12 +2,8 @@
 use mathlib.Core.Path.{refl}
 use native.Mathlib.Nat.{not-suc-le-zero}
 use Rattle.sheet_file.specs.File.{wrong_line}
-use Rattle.sheet_file.proofs.steps.no_entries.Statement.{statement}
-use Rattle.sheet_file.proofs.steps.no_entries.Tie as tie
+use Rattle.sheet_file.proofs.steps.no_entries.Goals as goal
 
-returns : tie.Need-returns
+pub returns : goal.returns
 unfolding wrong_line
 returns c = record { psns-room = refl; lines-room = refl; count = refl; psns = λ i h none. absurd (not-suc-le-zero none); lines = λ i h none. absurd (not-suc-le-zero none); wrong = refl }
-
-pub no-entries-spec : {M : Type 1} → statement M
-no-entries-spec = tie.close (tie.spec returns)

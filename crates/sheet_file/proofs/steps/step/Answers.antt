@@ -1,0 +1,9 @@
+-- `step` meets its contract: the line feed, and any other byte (Files).
+use Rattle.sheet_file.proofs.Files.{steps-end, steps_on}
+use Rattle.sheet_file.proofs.steps.step.Goals as goal
+
+pub returns-then-byte-eq10 : goal.returns-then-byte-eq10
+returns-then-byte-eq10 c = steps-end _ _ c.if-byte-eq10.true c.no_line.ensures c.one_more.ensures c.end_line.ensures
+
+pub returns : goal.returns
+returns c = steps_on _ _ c.if-byte-eq10.false c.add_byte.ensures
