@@ -1,5 +1,4 @@
 -- `read` meets its contract: a byte a turn (Files).
-use Prim.Native.Nat.{◌-◌}
 use Rattle.sheet_file.proofs.Files.{reads_none, reads_more, reads_all}
 use borrow.Author.Rules.{rules}
 use Rattle.sheet_file.proofs.steps.read.Goals as goal
