@@ -40,8 +40,8 @@ pub extern "C" fn bdre_write_image(
     work: &mut [u8],
 ) -> Answered
     ensures work_after { record { number = result.number; place = result.place; image = image.new; work = work.new }
-        ≡ writing (writer.outcome (record { user = user.entry.now; psn = psn; side = side.now; dc = dc.now; first = first }) image.old work.old) }
-    ensures writes_exactly { WritesExactly (record { user = user.entry.now; psn = psn; side = side.now; dc = dc.now; first = first }) image.old work.old
+        ≡ writing (writer.outcome (record { user = user.now; psn = psn; side = side.now; dc = dc.now; first = first }) image.old work.old) }
+    ensures writes_exactly { WritesExactly (record { user = user.now; psn = psn; side = side.now; dc = dc.now; first = first }) image.old work.old
         result.number image.new work.new }
 {
     export_writer::write_image(user, psn, side, dc, first, image, work)
@@ -56,10 +56,10 @@ pub extern "C" fn bdre_read_image(
     dc: &mut [u32],
     work: &mut [u8],
 ) -> ReadAnswered
-    ensures work_after { record { number = result.number; place = result.place; psn = result.psn; first = result.first; lent = record { user = user.exit.now; side = side.new; dc = dc.new; work = work.new } }
-        ≡ reading (reader.outcome image.now (record { user = user.entry.now; side = side.old; dc = dc.old; work = work.old })) }
-    ensures reads_exactly { ReadsExactly image.now (record { user = user.entry.now; side = side.old; dc = dc.old; work = work.old })
-        result.number result.psn result.first (record { user = user.exit.now; side = side.new; dc = dc.new; work = work.new }) }
+    ensures work_after { record { number = result.number; place = result.place; psn = result.psn; first = result.first; lent = record { user = user.new; side = side.new; dc = dc.new; work = work.new } }
+        ≡ reading (reader.outcome image.now (record { user = user.old; side = side.old; dc = dc.old; work = work.old })) }
+    ensures reads_exactly { ReadsExactly image.now (record { user = user.old; side = side.old; dc = dc.old; work = work.old })
+        result.number result.psn result.first (record { user = user.new; side = side.new; dc = dc.new; work = work.new }) }
 {
     export_reader::read_image(image, user, side, dc, work)
 }
@@ -78,9 +78,9 @@ pub extern "C" fn bdre_mark_image(
     work: &mut [u8],
 ) -> Marking
     ensures work_after { record { verdict = result.verdict; number = result.number; psn = result.psn; place = result.place; lent = record { user = bytes.new; side = control.new; dc = dc.new; work = work.new } }
-        ≡ marked_numbers (marked psn user.entry.now side.now image.now (record { user = bytes.old; side = control.old; dc = dc.old; work = work.old })) }
+        ≡ marked_numbers (marked psn user.now side.now image.now (record { user = bytes.old; side = control.old; dc = dc.old; work = work.old })) }
     ensures variant { RightSlices (record { user = bytes.old; side = control.old; dc = dc.old; work = work.old })
-        → (result.verdict ≡ 0) ↔ IsImageOf psn user.entry.now side.now image.now }
+        → (result.verdict ≡ 0) ↔ IsImageOf psn user.now side.now image.now }
 {
     export_marker::mark_image(psn, user, side, image, bytes, control, dc, work)
 }

@@ -22,9 +22,9 @@ pub fn mark_image(
     work: &mut [u8],
 ) -> Marking
     ensures work_after { record { verdict = result.verdict; number = result.number; psn = result.psn; place = result.place; lent = record { user = bytes.new; side = control.new; dc = dc.new; work = work.new } }
-        ≡ marked_numbers (marked psn user.entry.now side.now image.now (record { user = bytes.old; side = control.old; dc = dc.old; work = work.old })) }
+        ≡ marked_numbers (marked psn user.now side.now image.now (record { user = bytes.old; side = control.old; dc = dc.old; work = work.old })) }
     ensures variant { RightSlices (record { user = bytes.old; side = control.old; dc = dc.old; work = work.old })
-        → (result.verdict ≡ 0) ↔ IsImageOf psn user.entry.now side.now image.now }
+        → (result.verdict ≡ 0) ↔ IsImageOf psn user.now side.now image.now }
 {
     Marking::of(marker::mark(Psn(psn), user, side, image, bytes, control, dc, work))
 }

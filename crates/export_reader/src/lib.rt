@@ -16,10 +16,10 @@ pub fn read_image(
     dc: &mut [u32],
     work: &mut [u8],
 ) -> ReadAnswered
-    ensures work_after { record { number = result.number; place = result.place; psn = result.psn; first = result.first; lent = record { user = user.exit.now; side = side.new; dc = dc.new; work = work.new } }
-        ≡ reading (reader.outcome image.now (record { user = user.entry.now; side = side.old; dc = dc.old; work = work.old })) }
-    ensures reads_exactly { ReadsExactly image.now (record { user = user.entry.now; side = side.old; dc = dc.old; work = work.old })
-        result.number result.psn result.first (record { user = user.exit.now; side = side.new; dc = dc.new; work = work.new }) }
+    ensures work_after { record { number = result.number; place = result.place; psn = result.psn; first = result.first; lent = record { user = user.new; side = side.new; dc = dc.new; work = work.new } }
+        ≡ reading (reader.outcome image.now (record { user = user.old; side = side.old; dc = dc.old; work = work.old })) }
+    ensures reads_exactly { ReadsExactly image.now (record { user = user.old; side = side.old; dc = dc.old; work = work.old })
+        result.number result.psn result.first (record { user = user.new; side = side.new; dc = dc.new; work = work.new }) }
 {
     let read = reader::read_image(image, user, side, dc, work);
     let answer = read.answer;

@@ -20,8 +20,8 @@ pub fn write_image(
     work: &mut [u8],
 ) -> Answered
     ensures work_after { record { number = result.number; place = result.place; image = image.new; work = work.new }
-        ≡ writing (writer.outcome (record { user = user.entry.now; psn = psn; side = side.now; dc = dc.now; first = first }) image.old work.old) }
-    ensures writes_exactly { WritesExactly (record { user = user.entry.now; psn = psn; side = side.now; dc = dc.now; first = first }) image.old work.old
+        ≡ writing (writer.outcome (record { user = user.now; psn = psn; side = side.now; dc = dc.now; first = first }) image.old work.old) }
+    ensures writes_exactly { WritesExactly (record { user = user.now; psn = psn; side = side.now; dc = dc.now; first = first }) image.old work.old
         result.number image.new work.new }
 {
     Answered::of(writer::write_image(user, Psn(psn), side, dc, first, image, work))

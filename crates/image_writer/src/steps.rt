@@ -31,7 +31,7 @@ pub fn write(
     work: &mut [u8],
 )
     requires { RightLengths (length user.now) (length side.now) (length dc.now) (length work.old) × ((length image.old ≡ image_size) × (judged psn.0 ≡ Done)) }
-    ensures { Filled (record { user = user.entry.now; psn = psn.0; side = side.now; dc = dc.now; first = first }) image.new work.new }
+    ensures { Filled (record { user = user.now; psn = psn.0; side = side.now; dc = dc.now; first = first }) image.new work.new }
 {
     cluster_writer::steps::encode(user, psn, side, work);
     put_image(work, dc, first, image);

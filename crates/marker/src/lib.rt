@@ -24,7 +24,7 @@ fn mark_sized(
 ) -> Verdict
     requires { (length user.now ≡ user_size) × (length side.now ≡ side_size) }
     ensures { record { verdict = result; lent = record { user = bytes.new; side = control.new; dc = dc.new; work = work.new } }
-        ≡ marked_read psn.0 user.entry.now side.now (outcome image.now (record { user = bytes.old; side = control.old; dc = dc.old; work = work.old })) }
+        ≡ marked_read psn.0 user.now side.now (outcome image.now (record { user = bytes.old; side = control.old; dc = dc.old; work = work.old })) }
 {
     let read = reader::read_image(image, bytes, control, dc, work);
     let answer = read.answer;
@@ -47,9 +47,9 @@ pub fn mark(
     work: &mut [u8],
 ) -> Verdict
     ensures work_after { record { verdict = result; lent = record { user = bytes.new; side = control.new; dc = dc.new; work = work.new } }
-        ≡ marked psn.0 user.entry.now side.now image.now (record { user = bytes.old; side = control.old; dc = dc.old; work = work.old }) }
+        ≡ marked psn.0 user.now side.now image.now (record { user = bytes.old; side = control.old; dc = dc.old; work = work.old }) }
     ensures variant { RightSlices (record { user = bytes.old; side = control.old; dc = dc.old; work = work.old })
-        → (result ≡ Verdict.Pass) ↔ IsImageOf psn.0 user.entry.now side.now image.now }
+        → (result ≡ Verdict.Pass) ↔ IsImageOf psn.0 user.now side.now image.now }
 {
     let one = lengths::sized(user.len(), sizes::USER, Answer::WrongUser(0));
     let two = lengths::sized(side.len(), sizes::SIDE, Answer::WrongSide);

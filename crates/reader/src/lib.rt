@@ -48,10 +48,10 @@ pub fn read_image(
     dc: &mut [u32],
     work: &mut [u8],
 ) -> Read
-    ensures work_after { record { answer = result.answer; psn = result.psn.0; first = result.first; lent = record { user = user.exit.now; side = side.new; dc = dc.new; work = work.new } }
-        ≡ outcome image.now (record { user = user.entry.now; side = side.old; dc = dc.old; work = work.old }) }
-    ensures reads_exactly { ReadsExactly image.now (record { user = user.entry.now; side = side.old; dc = dc.old; work = work.old })
-        (number_of result.answer) result.psn.0 result.first (record { user = user.exit.now; side = side.new; dc = dc.new; work = work.new }) }
+    ensures work_after { record { answer = result.answer; psn = result.psn.0; first = result.first; lent = record { user = user.new; side = side.new; dc = dc.new; work = work.new } }
+        ≡ outcome image.now (record { user = user.old; side = side.old; dc = dc.old; work = work.old }) }
+    ensures reads_exactly { ReadsExactly image.now (record { user = user.old; side = side.old; dc = dc.old; work = work.old })
+        (number_of result.answer) result.psn.0 result.first (record { user = user.new; side = side.new; dc = dc.new; work = work.new }) }
 {
     let given = lengths::judge(user.len(), side.len(), dc.len(), image.len(), work.len());
     if given.is_done() {

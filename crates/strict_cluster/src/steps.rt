@@ -35,8 +35,8 @@ pub fn read(
     dc: &mut [u32],
 ) -> PsnAnswer
     requires { ((length work.old ≡ work_size) × (length user.old ≡ user_size)) × ((length side.old ≡ side_size) × ((length words.now ≡ frame_count) × (length dc.old ≡ frame_count))) }
-    ensures { record { answer = result.answer; psn = result.psn.0; lent = record { user = user.exit.now; side = side.new; dc = dc.new; work = work.new } }
-        ≡ cluster_outcome before work.old words.now (record { user = user.entry.now; side = side.old; dc = dc.old; work = work.old }) }
+    ensures { record { answer = result.answer; psn = result.psn.0; lent = record { user = user.new; side = side.new; dc = dc.new; work = work.new } }
+        ≡ cluster_outcome before work.old words.now (record { user = user.old; side = side.old; dc = dc.old; work = work.old }) }
 {
     let block = bis_cluster::steps::bis_block(work);
     let tested = cluster_tests::steps::test(before, work, block);

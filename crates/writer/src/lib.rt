@@ -34,8 +34,8 @@ pub fn write_image(
     work: &mut [u8],
 ) -> Answer
     ensures work_after { record { answer = result; image = image.new; work = work.new }
-        ≡ outcome (record { user = user.entry.now; psn = psn.0; side = side.now; dc = dc.now; first = first }) image.old work.old }
-    ensures writes_exactly { WritesExactly (record { user = user.entry.now; psn = psn.0; side = side.now; dc = dc.now; first = first }) image.old work.old
+        ≡ outcome (record { user = user.now; psn = psn.0; side = side.now; dc = dc.now; first = first }) image.old work.old }
+    ensures writes_exactly { WritesExactly (record { user = user.now; psn = psn.0; side = side.now; dc = dc.now; first = first }) image.old work.old
         (number_of result) image.new work.new }
 {
     let answer = judge(user.len(), psn, side.len(), dc, image.len(), work.len());

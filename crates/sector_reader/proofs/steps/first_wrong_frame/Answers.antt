@@ -1,0 +1,24 @@
+-- `first_wrong_frame` meets its contract: a search from the front.
+use mathlib.Core.Path.{◌≡◌, ◌∙◌}
+use mathlib.Core.Bool.{true, false}
+use Prim.Native.Nat.{◌+◌, ◌*◌, ◌-◌}
+use native.Mathlib.Omega.{arith}
+use Rattle.laws.proofs.First.{passed_none, passed-more, first-here, first_past}
+use Rattle.ldc_words.proofs.Eighth.{frame-judged}
+use Rattle.sector_reader.proofs.steps.first_wrong_frame.Goals as goal
+
+pub loop-f-init : goal.loop-f-init
+loop-f-init c = (omega arith, passed_none)
+
+pub loop-f-preserved : goal.loop-f-preserved
+loop-f-preserved c = let args = c.args in
+    let f = c.loop-f.f in
+    (omega arith, passed-more c.loop-f.invariant.1 (frame-judged args.stream.now args.frames.now f (2052 * f + 2052 - 2052 * f) _ true (omega arith) c.edc_right.ensures c.if-edc_right.true))
+
+pub returns-else-edc_right : goal.returns-else-edc_right
+returns-else-edc_right c = let args = c.args in
+    let f = c.loop-f.f in
+    first-here (omega arith) c.loop-f.invariant.1 (frame-judged args.stream.now args.frames.now f (2052 * f + 2052 - 2052 * f) _ false (omega arith) c.edc_right.ensures c.if-edc_right.false)
+
+pub returns : goal.returns
+returns c = let all : c.loop-f.f ≡ 4 = omega arith in all ∙ first_past (omega arith) c.loop-f.invariant.1
