@@ -2,27 +2,25 @@
 // highest first, and the frame's 155 bytes.
 #![tactic(auto)]
 
-use libc::STDIN_FILENO;
-
-// Whether a read of standard input fails.
-fn unreadable() -> bool {
-    let mut byte = [0u8; 1];
-    libc::read(STDIN_FILENO, &mut byte) < 0
-}
+use std::process::ExitCode;
 
 // One byte more than the input has, so that a longer input is noticed.
-fn main() {
-    if os::arg_count() != 1 {
-        io::write_all(1, b"usage: ahead < FRAME\n");
-        return;
+fn main(rt: HostRuntime) -> ExitCode {
+    if console::argument_count(&rt) != 1 {
+        console::print_usage(&rt, b"usage: ahead < FRAME\n");
+        return ExitCode::SUCCESS;
     }
     let mut input = [0u8; 160];
-    let n = io::read_full(STDIN_FILENO, &mut input);
-    if n < 160 && unreadable() {
-        os::fail(b"standard input");
-        return;
+    let mut stdin = rt.stdin();
+    let n = console::read_full(&mut stdin, &mut input);
+    if n < 160 {
+        if let Err(error) = console::has_more(&mut stdin) {
+            console::fail(&rt, b"standard input", error);
+            return ExitCode::SUCCESS;
+        }
     }
-    if !console::print(ahead_report::ahead(&input[..n])) {
-        os::fail(b"standard output");
+    match console::try_print(&rt, ahead_report::ahead(&input[..n])) {
+        Ok(()) => ExitCode::SUCCESS,
+        Err(error) => console::not_printed(&rt, error),
     }
 }

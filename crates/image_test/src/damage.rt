@@ -1,6 +1,8 @@
 // Damaged images. A file of records of five bytes: the offset of a byte of the image, high byte first, and its new value. FFFFFFFFh for an
 // offset ends a damaged image, and the next begins with the whole one.
 use crate::reading;
+use console::Complaints;
+use std::rt::Files;
 use test_clusters::files;
 use test_support::compare;
 
@@ -24,9 +26,9 @@ fn refuse_each(whole: &[u8], file: &[u8], image: &mut [u8]) {
 }
 
 // The records of zone1.
-pub fn records(blank: [u8; 53135]) -> [u8; 53135] {
+pub fn records(rt: &(impl Files + Complaints), blank: [u8; 53135]) -> [u8; 53135] {
     let mut file = blank;
-    files::load(b"zone1", b".damage", &mut file);
+    files::load(rt, b"zone1", b".damage", &mut file);
     file
 }
 

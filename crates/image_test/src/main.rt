@@ -5,6 +5,8 @@ mod damage;
 mod reading;
 mod writing;
 
+use console::Complaints;
+use std::rt::Files;
 use test_clusters::cut;
 use test_support::{compare, lines};
 
@@ -44,35 +46,35 @@ fn ways(psn: u32, first: bool, given: test_clusters::Cluster) {
 }
 
 // With first # ZERO, as the files have it, and with ONE.
-fn both_ways(k: usize, psn: u32) {
+fn both_ways(rt: &(impl Files + Complaints), k: usize, psn: u32) {
     let name = cut::line(b"zero\nzone0\nzone1\nzone2\nones", k);
     io::write_all(1, name);
     lines::end_line();
-    let given = test_clusters::load(name, test_clusters::marked());
+    let given = test_clusters::load(rt, name, test_clusters::marked());
     ways(psn, false, given);
     io::write_all(1, b"first # ONE\n");
     ways(psn, true, with_one(given));
 }
 
-fn files() {
-    both_ways(0, 0x0010_0000);
-    both_ways(1, 0x0108_9BE0);
-    both_ways(2, 0x02F7_6400);
-    both_ways(3, 0x0508_9BE0);
-    both_ways(4, 0x03EF_FFE0);
+fn files(rt: &(impl Files + Complaints)) {
+    both_ways(rt, 0, 0x0010_0000);
+    both_ways(rt, 1, 0x0108_9BE0);
+    both_ways(rt, 2, 0x02F7_6400);
+    both_ways(rt, 3, 0x0508_9BE0);
+    both_ways(rt, 4, 0x03EF_FFE0);
 }
 
 // The damaged images of zone1, in the order of data/zone1.damage.txt, and its image with slices that are refused. One is no damage: first_hash is the
 // image with first # ONE.
-fn images_refused() {
-    let given = test_clusters::load(b"zone1", test_clusters::marked());
+fn images_refused(rt: &(impl Files + Complaints)) {
+    let given = test_clusters::load(rt, b"zone1", test_clusters::marked());
     let image = given.image;
-    let file = damage::records([0u8; 53135]);
+    let file = damage::records(rt, [0u8; 53135]);
     damage::refuse(image, file);
 }
 
-fn image_with_one_refused() {
-    let given = with_one(test_clusters::load(b"zone1", test_clusters::marked()));
+fn image_with_one_refused(rt: &(impl Files + Complaints)) {
+    let given = with_one(test_clusters::load(rt, b"zone1", test_clusters::marked()));
     let mut image = given.image;
     damage::refuse_one(&mut image);
 }
@@ -108,10 +110,10 @@ fn inputs_refused() {
     writing::refuse_parts(0x0010_0000, 495);
 }
 
-fn main() {
-    files();
-    images_refused();
-    image_with_one_refused();
+fn main(rt: HostRuntime) {
+    files(&rt);
+    images_refused(&rt);
+    image_with_one_refused(&rt);
     round_trips();
     inputs_refused();
 }

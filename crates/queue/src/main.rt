@@ -1,19 +1,22 @@
 // queue: four benches and one marking machine. Standard input has a record a line, hexadecimal digits, two a byte; each gets a line, at once.
 #![tactic(auto)]
 
-use libc::STDIN_FILENO;
 use queue_lines::RecordsRead;
+use std::io;
+use std::io::Read;
+use std::process::ExitCode;
 
-// What was read so far, what the last read gave (0 at the end of the input, below 0 where it cannot be read), and whether all answers were printed.
+// What was read so far, how many bytes the last read gave (0 at the end of the input), and whether all answers were printed, or why not.
 #[derive(Clone, Copy)]
 struct ReadPart {
     read: RecordsRead,
-    got: isize,
-    printed: bool,
+    got: usize,
+    printed: io::Result<()>,
 }
 
 // The bytes of a part. Stops where an answer cannot be printed.
-fn answer(read: RecordsRead, bytes: &[u8], got: isize) -> ReadPart {
+fn answer(rt: &impl Print, read: RecordsRead, bytes: &[u8]) -> ReadPart {
+    let got = bytes.len();
     let mut now = read;
     let mut i = 0;
     while i < bytes.len() {
@@ -21,11 +24,12 @@ fn answer(read: RecordsRead, bytes: &[u8], got: isize) -> ReadPart {
         let next = step.read;
         let text = step.text;
         now = next;
-        if !console::print(text) {
+        let printed = console::try_print(rt, text);
+        if printed.is_err() {
             return ReadPart {
                 read: now,
                 got,
-                printed: false,
+                printed,
             };
         }
         i += 1;
@@ -33,58 +37,57 @@ fn answer(read: RecordsRead, bytes: &[u8], got: isize) -> ReadPart {
     ReadPart {
         read: now,
         got,
-        printed: true,
+        printed: Ok(()),
     }
 }
 
-fn read_once(read: RecordsRead) -> ReadPart {
-    let mut bytes = io::large_buffer();
-    let got = libc::read(STDIN_FILENO, &mut bytes);
-    let n = io::count(got, &bytes);
-    answer(read, &bytes[..n], got)
+fn read_once(rt: &impl Print, from: &mut impl Read, read: RecordsRead) -> io::Result<ReadPart> {
+    let mut bytes = [0u8; 65536];
+    let got = from.read(&mut bytes)?;
+    Ok(answer(rt, read, &bytes[..got]))
 }
 
 // Each part but the last has a byte or more, and an input has fewer than 2^63.
-fn read_all() -> ReadPart {
+fn read_all(rt: &impl Print, from: &mut impl Read) -> io::Result<ReadPart> {
     let mut read = queue_lines::steps::start();
     for _ in 0..0x8000_0000_0000_0000u64 {
-        let part = read_once(read);
-        if part.got <= 0 {
-            return part;
+        let part = read_once(rt, from, read)?;
+        if part.got == 0 {
+            return Ok(part);
         }
-        if !part.printed {
-            return part;
+        if part.printed.is_err() {
+            return Ok(part);
         }
         let next = part.read;
         read = next;
     }
-    ReadPart {
+    Ok(ReadPart {
         read,
         got: 0,
-        printed: true,
-    }
+        printed: Ok(()),
+    })
 }
 
 // A last line without a line feed is answered, too.
-fn finish(last: ReadPart) -> bool {
+fn finish(rt: &impl Print, last: ReadPart) -> io::Result<()> {
     let read = last.read;
-    if !last.printed {
-        return false;
-    }
-    console::print(queue_lines::steps::finish(read))
+    last.printed?;
+    console::try_print(rt, queue_lines::steps::finish(read))
 }
 
-fn main() {
-    if os::arg_count() != 1 {
-        io::write_all(1, b"usage: queue < RECORDS\n");
-        return;
+fn main(rt: HostRuntime) -> ExitCode {
+    if console::argument_count(&rt) != 1 {
+        console::print_usage(&rt, b"usage: queue < RECORDS\n");
+        return ExitCode::SUCCESS;
     }
-    let last = read_all();
-    if last.got < 0 {
-        os::fail(b"standard input");
-        return;
-    }
-    if !finish(last) {
-        os::fail(b"standard output");
+    match read_all(&rt, &mut rt.stdin()) {
+        Ok(last) => match finish(&rt, last) {
+            Ok(()) => ExitCode::SUCCESS,
+            Err(error) => console::not_printed(&rt, error),
+        },
+        Err(error) => {
+            console::fail(&rt, b"standard input", error);
+            ExitCode::SUCCESS
+        }
     }
 }

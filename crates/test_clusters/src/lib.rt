@@ -5,6 +5,8 @@ pub mod cut;
 pub mod files;
 pub mod marks;
 
+use console::Complaints;
+use std::rt::Files;
 use test_bytes::{draws, lent};
 use test_support::{compare, lines};
 
@@ -28,29 +30,29 @@ pub fn marked() -> Cluster {
     }
 }
 
-fn loaded_words(name: &[u8], blank: [u32; 496]) -> [u32; 496] {
+fn loaded_words(rt: &(impl Files + Complaints), name: &[u8], blank: [u32; 496]) -> [u32; 496] {
     let mut dc = blank;
     let mut bytes = [0u8; 1984];
-    files::load(name, b".dc", &mut bytes);
+    files::load(rt, name, b".dc", &mut bytes);
     notation::words_of(&bytes, &mut dc);
     dc
 }
 
 // A cluster of files.
-pub fn load(name: &[u8], blank: Cluster) -> Cluster {
+pub fn load(rt: &(impl Files + Complaints), name: &[u8], blank: Cluster) -> Cluster {
     let mut user = blank.user;
     let mut side = blank.side;
     let mut image = blank.image;
     let mut work = blank.work;
-    files::load(name, b".user", &mut user);
-    files::load(name, b".side", &mut side);
-    files::load(name, b".image", &mut image);
-    files::load(name, b".work", &mut work);
+    files::load(rt, name, b".user", &mut user);
+    files::load(rt, name, b".side", &mut side);
+    files::load(rt, name, b".image", &mut image);
+    files::load(rt, name, b".work", &mut work);
     let words = blank.dc;
     Cluster {
         user,
         side,
-        dc: loaded_words(name, words),
+        dc: loaded_words(rt, name, words),
         image,
         work,
     }

@@ -1,0 +1,9 @@
+-- `flips` is safe and ends.
+use Rattle.std.proofs.Common.{◌-◌, ◌≤◌}
+use Rattle.frame_test.proofs.flips.Given as goal
+
+abbrev pub invariant-loop-k : goal.invariant-loop-k
+invariant-loop-k l = l.k ≤ 271
+
+abbrev pub decreases-loop-k : goal.decreases-loop-k
+decreases-loop-k l = 271 - l.k

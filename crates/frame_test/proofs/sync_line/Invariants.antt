@@ -1,0 +1,9 @@
+-- `sync_line` is safe and ends.
+use Rattle.std.proofs.Common.{◌-◌, ◌≤◌}
+use Rattle.frame_test.proofs.sync_line.Given as goal
+
+abbrev pub invariant-loop-k : goal.invariant-loop-k
+invariant-loop-k l = l.k ≤ 30
+
+abbrev pub decreases-loop-k : goal.decreases-loop-k
+decreases-loop-k l = 30 - l.k
