@@ -1,11 +1,9 @@
 // The tally of document 01: how often each gap length occurs in the frame that standard input gives.
 #![tactic(auto)]
 
-use libc::STDIN_FILENO;
-
 // One byte more than the input has, so that a longer input is noticed.
-fn main() {
+fn main(rt: HostRuntime) {
     let mut input = [0u8; 162];
-    let n = io::read_full(STDIN_FILENO, &mut input);
-    console::print(tallying::tally(&input[..n]));
+    let n = console::read_full(&mut rt.stdin(), &mut input);
+    console::print(&rt, tallying::tally(&input[..n]));
 }
