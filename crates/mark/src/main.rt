@@ -3,39 +3,46 @@
 #![tactic(auto)]
 
 use address::Psn;
+use console::Complaints;
 use notation::PsnText;
+use std::rt::{Env, Files};
 
-fn load(user: &mut [u8], side: &mut [u8], image: &mut [u8]) -> bool {
-    if !console::load(2, user) {
+fn load(
+    rt: &(impl Env + Files + Complaints),
+    user: &mut [u8],
+    side: &mut [u8],
+    image: &mut [u8],
+) -> bool {
+    if !console::load(rt, 2, user) {
         return false;
     }
-    if !console::load_unless_dash(3, side) {
+    if !console::load_unless_dash(rt, 3, side) {
         return false;
     }
-    console::load(4, image)
+    console::load(rt, 4, image)
 }
 
-fn mark(psn: Psn) {
+fn mark(rt: &(impl Print + Env + Files + Complaints), psn: Psn) {
     let mut user = buffers::user_bytes();
     let mut side = buffers::side_bytes();
     let mut image = buffers::image_bytes();
-    if load(&mut user, &mut side, &mut image) {
-        console::print(marking::mark(psn, &user, &side, &image));
+    if load(rt, &mut user, &mut side, &mut image) {
+        console::print(rt, marking::mark(psn, &user, &side, &image));
     }
 }
 
-fn main() {
-    if os::arg_count() != 5 {
-        io::write_all(1, b"usage: mark PSN USER SIDE IMAGE\n");
+fn main(rt: HostRuntime) {
+    if console::argument_count(&rt) != 5 {
+        console::print_usage(&rt, b"usage: mark PSN USER SIDE IMAGE\n");
         return;
     }
-    let mut text = io::buffer();
-    let n = os::arg(1, &mut text);
+    let mut text = [0u8; 4096];
+    let n = console::argument(&rt, 1, &mut text);
     let psn = notation::psn_of(&text[..n]);
     match psn {
-        PsnText::Number(psn) => mark(psn),
+        PsnText::Number(psn) => mark(&rt, psn),
         PsnText::NoNumber => {
-            io::write_all(1, b"usage: a PSN is eight hexadecimal digits\n");
+            console::print_usage(&rt, b"usage: a PSN is eight hexadecimal digits\n");
         }
     }
 }
