@@ -22,6 +22,7 @@ fn first_other(n: usize, a: &[u8], b: &[u8]) -> usize
 }
 
 // What is given beside what was read in an accepted image: the PSN, then the user bytes, then the side data.
+#[tactic(auto, unfolding(crate::specs::Compared::compared))]
 pub fn compare(
     psn: Psn,
     user: &[u8],
