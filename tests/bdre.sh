@@ -40,7 +40,7 @@ bdre_ends 2 'usage: FIRST is 0 or 1' '' encode "$psn" user - - user 2
 begin "bdre: no toolchain"
 rm "$room/home/target/bdre.built"
 mkdir "$room/tools"
-for tool in awk dirname find head mkdir mv readlink tail; do ln -s "$(command -v "$tool")" "$room/tools/$tool"; done
+for tool in awk cp dirname find head mkdir mv readlink tail; do ln -s "$(command -v "$tool")" "$room/tools/$tool"; done
 : >"$room/say"
 lines 'bdre: the Rattle toolchain (rt) is not on the path' >"$room/complain"
 run_once "bdre tally" 1 env PATH="$room/tools" "$room/home/bdre" tally
@@ -59,13 +59,14 @@ builds() {
     rm -f "$room/asked"
     run_once "bdre tally" 1 env PATH="$room/tools" "$room/home/bdre" tally
     if [ -n "$2" ]; then
-        [ "$(cat "$room/asked")" = 'check encode decode mark sheet queue tally ahead' ] || fail "$title: rt was asked for something else"
+        [ "$(cat "$room/asked")" = "$all_built" ] || fail "$title: rt was asked for something else"
     elif [ -e "$room/asked" ]; then
         fail "$title: rt was asked for nothing new"
     fi
 }
+all_built=$(for program in encode decode mark sheet queue tally ahead; do echo "$room/home/crates/$program: run"; done)
 fake_rt() {
-    printf '#!/bin/sh\necho "$@" >>"%s"\n%s\n' "$room/asked" "$1" >"$room/tools/rt"
+    printf '#!/bin/sh\necho "$PWD: $@" >>"%s"\n%s\n' "$room/asked" "$1" >"$room/tools/rt"
 }
 lines refused >"$room/say"
 fake_rt ''

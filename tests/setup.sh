@@ -8,11 +8,15 @@ trap 'rm -rf "$room"' EXIT
 trap 'exit 1' HUP INT TERM
 cases=0
 
-# bdre with the compiled programs beside it, as it stands once they are built
+# bdre with the programs beside it, as it stands once they are built, and the programs where rt leaves them
 mkdir -p "$room/home/target" "$room/home/crates"
 cp "$root/bdre" "$room/home/bdre"
 cp "$root/crates.txt" "$room/home/crates.txt"
 cp -R "$root/target/tests/bin" "$room/home/target/bin"
+for program in encode decode mark sheet queue tally ahead; do
+    mkdir -p "$room/home/crates/$program/out"
+    cp "$root/target/tests/bin/$program" "$room/home/crates/$program/out/$program"
+done
 touch "$room/home/target/bdre.built"
 
 fail() {
