@@ -138,19 +138,6 @@ image-bits input = bits-packed (image_bits input ++ (0 ∷ 0 ∷ [])) (bits-then
     whole : length (image_bits input ++ (0 ∷ 0 ∷ [])) % 8 ≡ 0
     whole = ap (λ (n : ℕ). n % 8) (length-append (image_bits input) (0 ∷ 0 ∷ []) ∙ ap (λ (n : ℕ). n + 2) (image-size input))
 
--- two accepted inputs have equal images exactly when their five parts are equal
-pub equal-images : (a b : Input) → IsAccepted a → IsAccepted b → (image a ≡ image b) ↔ Same a b
-equal-images a b ha hb = (λ e. (images-equal a b ha hb).0 (front e), λ s. unfold image in ap (λ (l : List ℕ). packed (l ++ (0 ∷ 0 ∷ []))) ((images-equal a b ha hb).1 s))
-  where
-    taken : (input : Input) → take 958302 (bits_of (image input)) ≡ image_bits input
-    taken input =
-        ap (take 958302) (image-bits input)
-        ∙ ap (λ (n : ℕ). take n (image_bits input ++ (0 ∷ 0 ∷ []))) (sym (image-size input))
-        ∙ take-append_seam (image_bits input) (0 ∷ 0 ∷ [])
-
-    front : image a ≡ image b → image_bits a ≡ image_bits b
-    front e = sym (taken a) ∙ ap (λ (l : List ℕ). take 958302 (bits_of l)) e ∙ taken b
-
 -- ---- # of the first sync
 
 -- an input with h as its first #

@@ -7,7 +7,8 @@ use Rattle.address_sheet.specs.Sheet.{sheet_answer}
 use Rattle.address_sheet.specs.Promise.{RightSheet}
 use Rattle.address_sheet.proofs.Statements.{sheet-iff}
 use Rattle.image.specs.Image.{Input}
-use Rattle.image.proofs.Demand3.{Same, images-equal, equal-images}
+use Rattle.image.proofs.Demand3.{Same, images-equal}
+use Rattle.image.proofs.Packed.{equal-images}
 use Rattle.image.proofs.Statements.{zeros, zeros-accepted}
 use Rattle.sheet_images.specs.Images.{ClusterOf, ImagesApart}
 
