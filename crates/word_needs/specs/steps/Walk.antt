@@ -1,5 +1,5 @@
 -- A word pair by pair, as it is computed: a pair behind those that wait fixes the word, or waits too. It gives what the definition says
--- (proofs/Walk: walk-is).
+-- (proofs/Walk: walk_is).
 use Rattle.std.specs.Prelude.{Bool, false, cond, List, [], ◌∷◌, ℕ, suc, ◌+◌, ltb, length}
 use Rattle.modulation.specs.Modulation.{Two, d00, d01, d10, d11}
 use Rattle.modulation.specs.Machine.{Wait, w, w00, w0000, w000000, w000010, w11, w1101, w110111, w11011100, w1101110000, wait_number}
