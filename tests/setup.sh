@@ -67,7 +67,7 @@ compare() {
     fail "$title: $how: $3"
 }
 
-# Runs a command in a copy of the folder and compares.
+# Runs a command in a copy of the folder and compares. A wrong program may not end by itself.
 run_once() {
     how=$1
     wanted=$2
@@ -75,7 +75,7 @@ run_once() {
     rm -rf "$room/now"
     cp -R "$room/before" "$room/now"
     status=0
-    (cd "$room/now" && "$@" <"$room/input" >"$room/said" 2>"$room/complained") || status=$?
+    (cd "$room/now" && timeout -k 5 120 "$@" <"$room/input" >"$room/said" 2>"$room/complained") || status=$?
     [ "$status" -eq "$wanted" ] || fail "$title: $how: exit status $status, wanted $wanted"
     compare "$room/say" "$room/said" "another text is printed"
     compare "$room/complain" "$room/complained" "another line on standard error"

@@ -7,8 +7,7 @@ use std::process::ExitCode;
 // One byte more than the input has, so that a longer input is noticed.
 fn main(rt: HostRuntime) -> ExitCode {
     if console::argument_count(&rt) != 1 {
-        console::print_usage(&rt, b"usage: ahead < FRAME\n");
-        return ExitCode::SUCCESS;
+        return console::print_usage(&rt, b"usage: ahead < FRAME\n");
     }
     let mut input = [0u8; 160];
     let mut stdin = rt.stdin();

@@ -34,9 +34,28 @@ pub fn print(rt: &impl Print, text: Text) -> bool {
     try_print(rt, text).is_ok()
 }
 
-// How the program is called; where that cannot be printed there is no more to say.
-pub fn print_usage(rt: &impl Print, line: &[u8]) {
-    let _ = rt.write_all(line);
+// How a program ends, its standard output written or not. Where nobody reads it any more, it ends with the status that a shell gives a program which is
+// stopped for that (128 and signal 13).
+fn status(printed: io::Result<()>) -> ExitCode {
+    match printed {
+        Ok(()) => ExitCode::SUCCESS,
+        Err(error) => {
+            if error.kind() == ErrorKind::BrokenPipe {
+                return ExitCode::from(141);
+            }
+            ExitCode::SUCCESS
+        }
+    }
+}
+
+// Prints the last that a program says, and answers how it ends; why it could not be printed is not said.
+pub fn print_last(rt: &impl Print, text: Text) -> ExitCode {
+    status(try_print(rt, text))
+}
+
+// How the program is called; where that cannot be printed there is no more to say. Answers how it ends.
+pub fn print_usage(rt: &impl Print, line: &[u8]) -> ExitCode {
+    status(rt.write_all(line))
 }
 
 // ---- what is wrong is said on standard error
@@ -112,14 +131,12 @@ pub fn fail(rt: &impl Complaints, what: &[u8], error: io::Error) {
     complain(rt, b"\n");
 }
 
-// Standard output could not be written: why, and how the program ends. Where nobody reads it any more, it ends without a word, and with the status that a
-// shell gives a program which is stopped for that (128 and signal 13).
+// Standard output could not be written: why, and how the program ends. Where nobody reads it any more, it ends without a word.
 pub fn not_printed(rt: &impl Complaints, error: io::Error) -> ExitCode {
-    if error.kind() == ErrorKind::BrokenPipe {
-        return ExitCode::from(141);
+    if error.kind() != ErrorKind::BrokenPipe {
+        fail(rt, b"standard output", error);
     }
-    fail(rt, b"standard output", error);
-    ExitCode::SUCCESS
+    status(Err(error))
 }
 
 fn no_name(rt: &impl Complaints) {

@@ -2,6 +2,7 @@
 #![tactic(auto)]
 
 use console::Complaints;
+use std::process::ExitCode;
 use std::rt::{Env, Files};
 use texts::Text;
 
@@ -62,36 +63,36 @@ fn save(
     side: &[u8],
     dc: &[u8],
     text: Text,
-) {
+) -> ExitCode {
     if write_parts(rt, user, side, dc) {
         if keep_parts(rt) {
-            console::print(rt, text);
+            return console::print_last(rt, text);
         }
     }
+    ExitCode::SUCCESS
 }
 
-fn decode(rt: &(impl Print + Env + Files + Complaints), image: &[u8]) {
+fn decode(rt: &(impl Print + Env + Files + Complaints), image: &[u8]) -> ExitCode {
     let mut user = buffers::user_bytes();
     let mut side = buffers::side_bytes();
     let mut dc = buffers::dc_bytes();
     let said = decoding::decode(image, &mut user, &mut side, &mut dc);
     let text = said.text;
     if said.keep {
-        save(rt, &user, &side, &dc, text);
-    } else {
-        console::print(rt, text);
+        return save(rt, &user, &side, &dc, text);
     }
+    console::print_last(rt, text)
 }
 
-fn main(rt: HostRuntime) {
+fn main(rt: HostRuntime) -> ExitCode {
     if console::argument_count(&rt) != 5 {
-        console::print_usage(&rt, b"usage: decode IMAGE USER SIDE DC\n");
-        return;
+        return console::print_usage(&rt, b"usage: decode IMAGE USER SIDE DC\n");
     }
     let mut image = buffers::image_bytes();
     if names_apart(&rt) {
         if console::load(&rt, 1, &mut image) {
-            decode(&rt, &image);
+            return decode(&rt, &image);
         }
     }
+    ExitCode::SUCCESS
 }

@@ -5,6 +5,7 @@
 use address::Psn;
 use console::Complaints;
 use notation::{FirstText, PsnText};
+use std::process::ExitCode;
 use std::rt::{Env, Files};
 use texts::Text;
 
@@ -36,12 +37,13 @@ fn load(
 }
 
 // The image gets its name only when all of it is written; then the answer is said.
-fn save(rt: &(impl Print + Env + Files + Complaints), image: &[u8], text: Text) {
+fn save(rt: &(impl Print + Env + Files + Complaints), image: &[u8], text: Text) -> ExitCode {
     if console::write_part(rt, 5, image) {
         if console::keep_part(rt, 5) {
-            console::print(rt, text);
+            return console::print_last(rt, text);
         }
     }
+    ExitCode::SUCCESS
 }
 
 fn write(
@@ -51,65 +53,60 @@ fn write(
     side: &[u8],
     dc: &[u8],
     first: bool,
-) {
+) -> ExitCode {
     let mut image = buffers::image_bytes();
     let said = encoding::encode(psn, user, side, dc, first, &mut image);
     let text = said.text;
     if said.keep {
-        save(rt, &image, text);
-    } else {
-        console::print(rt, text);
+        return save(rt, &image, text);
     }
+    console::print_last(rt, text)
 }
 
-fn encode(rt: &(impl Print + Env + Files + Complaints), psn: Psn, first: bool) {
+fn encode(rt: &(impl Print + Env + Files + Complaints), psn: Psn, first: bool) -> ExitCode {
     let mut user = buffers::user_bytes();
     let mut side = buffers::side_bytes();
     let mut dc = buffers::dc_bytes();
     if load(rt, &mut user, &mut side, &mut dc) {
-        write(rt, psn, &user, &side, &dc, first);
+        return write(rt, psn, &user, &side, &dc, first);
     }
+    ExitCode::SUCCESS
 }
 
-fn run(rt: &(impl Print + Env + Files + Complaints), first: bool) {
+fn run(rt: &(impl Print + Env + Files + Complaints), first: bool) -> ExitCode {
     let mut text = [0u8; 4096];
     let n = console::argument(rt, 1, &mut text);
     let psn = notation::psn_of(&text[..n]);
     match psn {
         PsnText::Number(psn) => {
             if names_apart(rt) {
-                encode(rt, psn, first);
+                return encode(rt, psn, first);
             }
+            ExitCode::SUCCESS
         }
         PsnText::NoNumber => {
-            console::print_usage(rt, b"usage: a PSN is eight hexadecimal digits\n");
+            console::print_usage(rt, b"usage: a PSN is eight hexadecimal digits\n")
         }
     }
 }
 
-fn run_with_first(rt: &(impl Print + Env + Files + Complaints)) {
+fn run_with_first(rt: &(impl Print + Env + Files + Complaints)) -> ExitCode {
     let mut text = [0u8; 4096];
     let n = console::argument(rt, 6, &mut text);
     let first = notation::first_of(&text[..n]);
     match first {
-        FirstText::Hash(first) => {
-            run(rt, first);
-        }
-        FirstText::NoHash => {
-            console::print_usage(rt, b"usage: FIRST is 0 or 1\n");
-        }
+        FirstText::Hash(first) => run(rt, first),
+        FirstText::NoHash => console::print_usage(rt, b"usage: FIRST is 0 or 1\n"),
     }
 }
 
-fn main(rt: HostRuntime) {
+fn main(rt: HostRuntime) -> ExitCode {
     let count = console::argument_count(&rt);
     if count == 6 {
-        run(&rt, false);
-        return;
+        return run(&rt, false);
     }
     if count == 7 {
-        run_with_first(&rt);
-        return;
+        return run_with_first(&rt);
     }
-    console::print_usage(&rt, b"usage: encode PSN USER SIDE DC IMAGE [FIRST]\n");
+    console::print_usage(&rt, b"usage: encode PSN USER SIDE DC IMAGE [FIRST]\n")
 }

@@ -5,6 +5,7 @@
 use address::Psn;
 use console::Complaints;
 use notation::PsnText;
+use std::process::ExitCode;
 use std::rt::{Env, Files};
 
 fn load(
@@ -22,19 +23,19 @@ fn load(
     console::load(rt, 4, image)
 }
 
-fn mark(rt: &(impl Print + Env + Files + Complaints), psn: Psn) {
+fn mark(rt: &(impl Print + Env + Files + Complaints), psn: Psn) -> ExitCode {
     let mut user = buffers::user_bytes();
     let mut side = buffers::side_bytes();
     let mut image = buffers::image_bytes();
     if load(rt, &mut user, &mut side, &mut image) {
-        console::print(rt, marking::mark(psn, &user, &side, &image));
+        return console::print_last(rt, marking::mark(psn, &user, &side, &image));
     }
+    ExitCode::SUCCESS
 }
 
-fn main(rt: HostRuntime) {
+fn main(rt: HostRuntime) -> ExitCode {
     if console::argument_count(&rt) != 5 {
-        console::print_usage(&rt, b"usage: mark PSN USER SIDE IMAGE\n");
-        return;
+        return console::print_usage(&rt, b"usage: mark PSN USER SIDE IMAGE\n");
     }
     let mut text = [0u8; 4096];
     let n = console::argument(&rt, 1, &mut text);
@@ -42,7 +43,7 @@ fn main(rt: HostRuntime) {
     match psn {
         PsnText::Number(psn) => mark(&rt, psn),
         PsnText::NoNumber => {
-            console::print_usage(&rt, b"usage: a PSN is eight hexadecimal digits\n");
+            console::print_usage(&rt, b"usage: a PSN is eight hexadecimal digits\n")
         }
     }
 }

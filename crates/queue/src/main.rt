@@ -77,8 +77,7 @@ fn finish(rt: &impl Print, last: ReadPart) -> io::Result<()> {
 
 fn main(rt: HostRuntime) -> ExitCode {
     if console::argument_count(&rt) != 1 {
-        console::print_usage(&rt, b"usage: queue < RECORDS\n");
-        return ExitCode::SUCCESS;
+        return console::print_usage(&rt, b"usage: queue < RECORDS\n");
     }
     match read_all(&rt, &mut rt.stdin()) {
         Ok(last) => match finish(&rt, last) {

@@ -5,6 +5,7 @@ use console::Complaints;
 use sheet_file::SheetFile;
 use std::io;
 use std::io::Read;
+use std::process::ExitCode;
 use std::rt::Files;
 
 // What was read so far, and how many bytes the last read gave: 0 at the end of the file.
@@ -47,31 +48,34 @@ fn no_psn(rt: &impl Complaints, path: &[u8], line: usize) {
     console::complain(rt, b": not eight hexadecimal digits\n");
 }
 
-fn say(rt: &(impl Print + Complaints), path: &[u8], file: SheetFile) {
+fn say(rt: &(impl Print + Complaints), path: &[u8], file: SheetFile) -> ExitCode {
     let said = sheet_report::steps::said(file);
     let text = said.text;
     if said.wrong != 0 {
         no_psn(rt, path, said.wrong);
-    } else {
-        console::print(rt, text);
+        return ExitCode::SUCCESS;
     }
+    console::print_last(rt, text)
 }
 
-fn judge(rt: &(impl Print + Files + Complaints), path: &[u8]) {
+fn judge(rt: &(impl Print + Files + Complaints), path: &[u8]) -> ExitCode {
     match read_file(rt, path) {
         Ok(file) => say(rt, path, file),
-        Err(error) => console::fail(rt, path, error),
+        Err(error) => {
+            console::fail(rt, path, error);
+            ExitCode::SUCCESS
+        }
     }
 }
 
-fn main(rt: HostRuntime) {
+fn main(rt: HostRuntime) -> ExitCode {
     if console::argument_count(&rt) != 2 {
-        console::print_usage(&rt, b"usage: sheet FILE\n");
-        return;
+        return console::print_usage(&rt, b"usage: sheet FILE\n");
     }
     let mut name = [0u8; 4096];
     let n = console::file_name(&rt, 1, &mut name);
     if n != 0 {
-        judge(&rt, &name[..n]);
+        return judge(&rt, &name[..n]);
     }
+    ExitCode::SUCCESS
 }
