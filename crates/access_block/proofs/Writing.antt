@@ -1,10 +1,9 @@
--- The steps by which the code writes address fields and an access block. Assumes nothing.
+-- A byte of an access block, and an address field. Assumes nothing.
 use mathlib.Core.Path.{◌≡◌, ap, ◌∙◌}
 use mathlib.Core.List.{List, []}
-use Prim.Native.Nat.{ℕ, ◌+◌, ◌-◌, ◌<◌, ◌≤◌}
+use Prim.Native.Nat.{ℕ, ◌+◌, ◌<◌, ◌≤◌}
 use borrow.Author.Tests.{lt-ltb, le-ltb}
-use lib.ListN.{get_or, set}
-use Rattle.laws.proofs.Fill.{Upto, upto-more}
+use lib.ListN.{get_or}
 use Rattle.address.specs.declared.AunAnswer.{AunAnswer}
 use Rattle.answer.specs.declared.Answer.TheVariants.{Done}
 use Rattle.address.specs.Judged.{judged}
@@ -26,9 +25,7 @@ in-control-data fields side row C h = rw (le-ltb row 6 h)
 -- ---- an address field
 
 -- field is made of the AUN that is answered of the PSN and address unit y
-pub fields-more : (psn : ℕ) (side : List ℕ) {y : ℕ} {field : List ℕ} {fields : List (List ℕ)} {unit : AunAnswer} → y < 16 → judged psn ≡ Done
-    → unit ≡ psn_to_aun psn y → field ≡ address_field unit.aun.0 (get_or side y 0) → Upto [] (field_of psn side) 16 y fields
-    → Upto [] (field_of psn side) 16 (y + 1) (set fields y field)
+pub field-made : (psn : ℕ) (side : List ℕ) {y : ℕ} {field : List ℕ} {unit : AunAnswer} → y < 16 → judged psn ≡ Done → unit ≡ psn_to_aun psn y
+    → field ≡ address_field unit.aun.0 (get_or side y 0) → field ≡ field_of psn side y
 unfolding field_of
-fields-more psn side {y} h accepted e f upto =
-    upto-more h (f ∙ ap (λ (a : ℕ). address_field a (get_or side y 0)) (aun-answered psn y h accepted e)) upto
+field-made psn side {y} h accepted e f = f ∙ ap (λ (a : ℕ). address_field a (get_or side y 0)) (aun-answered psn y h accepted e)

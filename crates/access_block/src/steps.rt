@@ -2,13 +2,22 @@
 ghost use Rattle.std.specs.Prelude.{◌≡◌, ◌+◌, ◌<◌, length};
 ghost use Rattle.answer.specs.declared.Answer.TheVariants.{Done};
 ghost use Rattle.address.specs.Judged.{judged};
-ghost use Rattle.bis.specs.AccessBlock.{address_fields, access_byte};
+ghost use Rattle.bis.specs.AccessBlock.{field_of, address_fields, access_byte};
 ghost use Rattle.bis.specs.BisBlock.{access_column};
 ghost use Rattle.sizes.specs.Sizes.{side_size};
 
 use address::Psn;
 use address_field::address_field;
 use bis::Fields;
+use std::array;
+
+// The address field of unit y.
+fn field_of(psn: Psn, side: &[u8], y: usize) -> [u8; 9]
+    requires { ((length side.now ≡ side_size) × (judged psn.0 ≡ Done)) × (y < 16) }
+    ensures { result ≡ field_of psn.0 side.now y }
+{
+    address_field(psn.aun(y as u32).aun, side[y])
+}
 
 // The sixteen address fields of a cluster.
 pub fn address_fields(psn: Psn, side: &[u8]) -> Fields
@@ -16,11 +25,8 @@ pub fn address_fields(psn: Psn, side: &[u8]) -> Fields
     ensures { result ≡ address_fields psn.0 side.now }
 {
     let mut fields = [[0u8; 9]; 16];
-    let mut y: usize = 0;
-    while y < 16 {
-        let unit = psn.aun(y as u32);
-        fields[y] = address_field(unit.aun, side[y]);
-        y += 1;
+    for (y, field) in fields.iter_mut().enumerate() {
+        *field = field_of(psn, side, y);
     }
     fields
 }
@@ -43,11 +49,5 @@ pub fn access_column(fields: &Fields, side: &[u8], c: usize) -> [u8; 30]
     requires { (length side.now ≡ side_size) × (c < 24) }
     ensures { result ≡ access_column fields.now side.now c }
 {
-    let mut column = [0u8; 30];
-    let mut row: usize = 0;
-    while row < 30 {
-        column[row] = access_byte(fields, side, row, c);
-        row += 1;
-    }
-    column
+    array::from_fn(|row| access_byte(fields, side, row, c))
 }

@@ -21,8 +21,8 @@ fn reordered(high: u8) -> u8
 fn information(aun: Aun, flag: u8) -> [u8; 5]
     ensures { result ≡ information aun.0 flag }
 {
-    let four = word_bytes(aun.0);
-    [reordered(four[0]), four[1], four[2], four[3], flag]
+    let [high, b, c, low] = word_bytes(aun.0);
+    [reordered(high), b, c, low, flag]
 }
 
 fn primary_field(aun: Aun, flag: u8) -> [u8; 9]

@@ -1,26 +1,10 @@
 // The inversion of an address field, for the crates of this repository.
-ghost use Rattle.std.specs.Prelude.{◌≡◌, ◌-◌};
+ghost use Rattle.std.specs.Prelude.{◌≡◌};
 ghost use Rattle.bis.specs.AddressField.{partly_inverted};
-
-fn inverted(byte: u8) -> u8
-    ensures { result ≡ 255 - byte }
-{
-    255 - byte
-}
 
 // Bytes 2, 3, 5 and 6 inverted; it undoes itself.
 pub fn partly_inverted(f: [u8; 9]) -> [u8; 9]
     ensures { result ≡ partly_inverted f }
 {
-    [
-        f[0],
-        f[1],
-        inverted(f[2]),
-        inverted(f[3]),
-        f[4],
-        inverted(f[5]),
-        inverted(f[6]),
-        f[7],
-        f[8],
-    ]
+    [f[0], f[1], !f[2], !f[3], f[4], !f[5], !f[6], f[7], f[8]]
 }

@@ -1,11 +1,12 @@
 -- The table's entries, by tests over states and groups; several groups read at once. Assumes nothing.
-use mathlib.Core.Bool.{Bool, true, false}
+use mathlib.Core.Bool.{Bool, true, false, cond}
 use mathlib.Core.List.{List, [], ◌∷◌, ◌++◌}
 use mathlib.Core.Path.{◌≡◌, refl, sym, ap, ap₂, subst, ◌∙◌}
 use Prim.Native.Nat.{ℕ, ◌+◌, ◌*◌, ◌-◌, ◌/◌, ◌%◌, ◌^◌, ◌<◌, ◌≤◌}
 use native.Mathlib.Nat.{add-mul, mul_assoc, mul_comm, pow-suc, mul-le-mul_left, mul-le-mul_right, pow-le-pow_right}
 use native.Mathlib.Omega.{arith}
 use borrow.Author.Tests.{lt-ltb, le-ltb}
+use mir.Val.{bool_byte as from_bool}
 use lib.Dec.{T, eqb, eqb→eq, ltb, ltb→lt, leb, leb→le}
 use lib.ListN.{length, get_or}
 use Rattle.laws.proofs.Finite.{both, both_left, both_right, all, all-at, all₂, all₂-at}
@@ -167,6 +168,11 @@ state-small s (g ∷ gs) h = state-small (next s (three_number g)) gs (entry-sta
 pub start_small : (before : Bool) → start before < 18
 start_small true = omega arith
 start_small false = omega arith
+
+-- std's number of a Boolean, as the definitions have it
+pub from-bool : (b : Bool) → from_bool b ≡ cond b 1 0
+from-bool true = refl
+from-bool false = refl
 
 -- x with the groups read whose entry is e
 pub after-entry : (gs : List Three) (x e : ℕ) (w : ℕ) → w ≡ 32 * 4 ^ length gs → x % 32 < 18 → e ≡ read_from (x % 32) gs → After gs x (x / 32 * w + e)

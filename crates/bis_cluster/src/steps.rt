@@ -6,6 +6,7 @@ ghost use Rattle.bis_cluster.specs.steps.Written.{BisPut};
 ghost use Rattle.sizes.specs.Sizes.{work_size, frame_count};
 
 use bis::Block;
+use std::array;
 
 // A byte of the BIS cluster, out of the BIS block.
 fn bis_byte(block: &Block, row: usize, column: usize) -> u8
@@ -24,12 +25,10 @@ pub fn put_bis(work: &mut [u8], block: &Block)
     requires { length work.old ≡ work_size }
     ensures { BisPut work.old block.now work.new }
 {
-    let mut m = 0;
-    while m < 1488 {
-        let row = m / 3;
-        let column = m % 3;
-        work[sizes::ROW * row + 39 * column + 38] = bis_byte(block, row, column);
-        m += 1;
+    for row in 0..sizes::FRAMES {
+        for column in 0..3usize {
+            work[sizes::ROW * row + 39 * column + 38] = bis_byte(block, row, column);
+        }
     }
 }
 
@@ -44,30 +43,12 @@ fn bis_index(n: usize, c: usize) -> usize
     sizes::ROW * row + 39 * ((c + in_unit) % 3) + 38
 }
 
-fn zero_column() -> [u8; 62]
-    ensures { length result ≡ 62 }
-{
-    [0u8; 62]
-}
-
 // BIS code word c.
 fn bis_column(work: &[u8], c: usize) -> [u8; 62]
     requires { (length work.now ≡ work_size) × (c < 24) }
     ensures { result ≡ column_in work.now c }
 {
-    let mut column = zero_column();
-    let mut n = 0;
-    while n < 62 {
-        column[n] = work[bis_index(n, c)];
-        n += 1;
-    }
-    column
-}
-
-fn zero_block() -> Block
-    ensures { length result ≡ 24 }
-{
-    [[0u8; 62]; 24]
+    array::from_fn(|n| work[bis_index(n, c)])
 }
 
 // The BIS block of a cluster.
@@ -75,11 +56,9 @@ pub fn bis_block(work: &[u8]) -> Block
     requires { length work.now ≡ work_size }
     ensures { result ≡ bis_in work.now }
 {
-    let mut block = zero_block();
-    let mut c = 0;
-    while c < 24 {
-        block[c] = bis_column(work, c);
-        c += 1;
+    let mut block = [[0u8; 62]; 24];
+    for (c, column) in block.iter_mut().enumerate() {
+        *column = bis_column(work, c);
     }
     block
 }

@@ -1,5 +1,5 @@
 // The test by lent remainders.
-ghost use Rattle.std.specs.Prelude.{◌≡◌};
+ghost use Rattle.std.specs.Prelude.{◌≡◌, ◌<◌, SomeIff};
 ghost use Rattle.column.specs.Column.{has_roots};
 ghost use Rattle.remainders.specs.steps.Remainders.{AreRemainders};
 ghost use Rattle.bis.specs.Reading.{first_wrong_column};
@@ -15,17 +15,10 @@ fn is_code_word(table: &Remainders, column: &[u8; 62]) -> bool
     code_word::steps::is_code_word(table, column)
 }
 
-// The lowest BIS column, 0 to 23, without its 32 roots, or 24, by the lent remainders.
-pub fn first_wrong_column_by(table: &Remainders, block: Block) -> usize
+// The lowest BIS column, 0 to 23, without its 32 roots, by the lent remainders.
+pub fn first_wrong_column_by(table: &Remainders, block: Block) -> Option<usize>
     requires { AreRemainders table.now }
-    ensures { result ≡ first_wrong_column block }
+    ensures { SomeIff result (first_wrong_column block < 24) (first_wrong_column block) }
 {
-    let mut column: usize = 0;
-    while column < 24 {
-        if !is_code_word(table, &block[column]) {
-            return column;
-        }
-        column += 1;
-    }
-    24
+    block.iter().position(|column| !is_code_word(table, column))
 }

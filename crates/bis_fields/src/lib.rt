@@ -3,22 +3,22 @@
 
 pub mod steps;
 
-ghost use Rattle.std.specs.Prelude.{◌≡◌};
-ghost use Rattle.bis.specs.Reading.{first_wrong_field};
+ghost use Rattle.std.specs.Prelude.{◌≡◌, ◌<◌, SomeIff};
+ghost use Rattle.bis.specs.Reading.{wrong_field, first_wrong_field};
 
 use bis::Block;
 
-// The lowest address unit, 0 to 15, whose primary address field is without its 4 roots, or 16.
-pub fn first_wrong_field(block: Block) -> usize
-    ensures { result ≡ first_wrong_field block }
+// Whether the primary address field of a unit is without its 4 roots.
+fn is_wrong(block: &Block, unit: usize) -> bool
+    requires { unit < 16 }
+    ensures { result ≡ wrong_field block.now unit }
 {
-    let mut unit: usize = 0;
-    while unit < 16 {
-        let primary = steps::primary_in(&block, unit);
-        if !roots::has_roots(&primary, 4) {
-            return unit;
-        }
-        unit += 1;
-    }
-    16
+    !roots::has_roots(&steps::primary_in(block, unit), 4)
+}
+
+// The lowest address unit, 0 to 15, whose primary address field is without its 4 roots.
+pub fn first_wrong_field(block: Block) -> Option<usize>
+    ensures { SomeIff result (first_wrong_field block < 16) (first_wrong_field block) }
+{
+    (0..16).find(|&unit| is_wrong(&block, unit))
 }

@@ -4,21 +4,18 @@ ghost use Rattle.bis.specs.Reading.{field_in, primary_in};
 
 use address_field::steps::partly_inverted;
 use bis::Block;
+use std::array;
 
 // Address field y as it stands in the block.
 fn field_in(block: &Block, y: usize) -> [u8; 9]
     requires { y < 16 }
     ensures { result ≡ field_in block.now y }
 {
-    let mut field = [0u8; 9];
-    let mut x: usize = 0;
-    while x < 9 {
+    array::from_fn(|x| {
         let row = 2 * (x / 3) + y / 8;
         let c = 3 * ((x / 3 + 16 - y) % 8) + (x - x / 3) % 3;
-        field[x] = block[c][row];
-        x += 1;
-    }
-    field
+        block[c][row]
+    })
 }
 
 // The same with the inversion undone.

@@ -2,10 +2,12 @@
 use mathlib.Core.Path.{◌≡◌, refl, sym, ap, ap₂, ◌∙◌}
 use mathlib.Core.Bool.{Bool, true, false, cond, not}
 use mathlib.Core.List.{List}
-use Prim.Native.Nat.{ℕ, ◌<◌, ◌≤◌}
-use borrow.Author.Tests.{lt-ltb, le-ltb, eq-eqb, ne_eqb}
-use lib.Dec.{ltb}
+use Prim.Native.Nat.{ℕ, ◌<◌}
+use borrow.Author.Tests.{lt-ltb, le-ltb}
+use native.Mathlib.Omega.{arith}
+use lib.Dec.{eqb, ltb}
 use lib.ListN.{get_or}
+use Rattle.std.specs.Prelude.{Option, Some, None, is_some, SomeIff}
 use Rattle.big_endian.specs.Words.{word_of}
 use Rattle.answer.specs.declared.Answer.TheVariants.{Done}
 use Rattle.answer.specs.Answer.{is_done}
@@ -13,7 +15,7 @@ use Rattle.answer.proofs.Tests.{done-is}
 use Rattle.address.specs.declared.AunAnswer.{AunAnswer}
 use Rattle.address.specs.declared.PsnAnswer.{PsnAnswer}
 use Rattle.address.specs.Judged.{judged}
-use Rattle.address.specs.Conversions.{aun_of, psn_to_aun, aun_to_psn}
+use Rattle.address.specs.Conversions.{psn_to_aun, aun_to_psn}
 use Rattle.address.proofs.Accepted.{aun-answered, answered-accepted}
 use Rattle.bis.specs.AddressField.{restored, aun_in}
 use Rattle.bis.specs.Reading.{primary_in, aun_at, other_unit, first_other_unit, found_if, psn_in}
@@ -26,14 +28,10 @@ aun-read block y {primary} read first e =
     e ∙ ap (λ (h : ℕ). word_of h (get_or primary 1 0) (get_or primary 2 0) (get_or primary 3 0)) first ∙ ap aun_in read
 
 -- a is the AUN that is read, and unit what is answered of the PSN
-module _ (block : List (List ℕ)) (psn y : ℕ) {a : ℕ} {unit : AunAnswer} (read : a ≡ aun_at block y) (h : y < 16) (accepted : judged psn ≡ Done) (answered : unit ≡ psn_to_aun psn y) where
-  pub unit-differs : (a ≡ unit.aun.0 → ⊥) → other_unit block psn y ≡ true
-  unfolding other_unit
-  unit-differs differ = ap not (ne_eqb (aun_at block y) (aun_of psn y) (λ e. differ (read ∙ e ∙ sym (aun-answered psn y h accepted answered))))
-
-  pub unit-agrees : a ≡ unit.aun.0 → other_unit block psn y ≡ false
-  unfolding other_unit
-  unit-agrees e = ap not (eq-eqb (aun_at block y) (aun_of psn y) (sym read ∙ e ∙ aun-answered psn y h accepted answered))
+pub unit-judged : (block : List (List ℕ)) (psn y : ℕ) {a : ℕ} {unit : AunAnswer} → a ≡ aun_at block y → y < 16 → judged psn ≡ Done → unit ≡ psn_to_aun psn y
+    → not (eqb a unit.aun.0) ≡ other_unit block psn y
+unfolding other_unit
+unit-judged block psn y read h accepted answered = ap₂ (λ (m n : ℕ). not (eqb m n)) read (aun-answered psn y h accepted answered)
 
 -- ---- the PSN
 
@@ -51,9 +49,13 @@ module _ (block : List (List ℕ)) {a : ℕ} {answer : PsnAnswer} {d : Bool} (re
   pub psn-accepted : d ≡ true → judged answer.psn.0 ≡ Done
   psn-accepted e = answered-accepted a answered (done-is answer.answer (sym hd ∙ e))
 
-  module _ {u : ℕ} (e : d ≡ true) (other : u ≡ first_other_unit block answer.psn.0) where
-    pub psn-differs : u < 16 → NotFound ≡ psn_in block
-    psn-differs h = found-by true true e (ap (λ (v : ℕ). ltb v 16) (sym other) ∙ lt-ltb u 16 h)
+  module _ (e : d ≡ true) where
+    pub psn-differs : (other : Option ℕ) → SomeIff other (first_other_unit block answer.psn.0 < 16) (first_other_unit block answer.psn.0) → is_some other ≡ true
+        → NotFound ≡ psn_in block
+    psn-differs (Some u) found some = found-by true true e (lt-ltb (first_other_unit block answer.psn.0) 16 found.0)
+    psn-differs None found some = absurd cc
 
-    pub psn-agrees : 16 ≤ u → Found answer.psn ≡ psn_in block
-    psn-agrees h = found-by true false e (ap (λ (v : ℕ). ltb v 16) (sym other) ∙ le-ltb u 16 h)
+    pub psn-agrees : (other : Option ℕ) → SomeIff other (first_other_unit block answer.psn.0 < 16) (first_other_unit block answer.psn.0) → is_some other ≡ false
+        → Found answer.psn ≡ psn_in block
+    psn-agrees (Some u) found none = absurd cc
+    psn-agrees None found none = found-by true false e (le-ltb (first_other_unit block answer.psn.0) 16 (omega (arith, found)))

@@ -6,7 +6,7 @@ ghost use Rattle.std.specs.Prelude.{◌<◌};
 use address::{Aun, Psn};
 use bis::{Block, PsnFound};
 use test_bytes::{draws, hash, lent};
-use test_support::{compare, lines};
+use test_support::lines;
 
 // The side data of the input with this seed: the bytes after 1 + 65,536 steps.
 fn side_of(seed: u64) -> [u8; 592] {
@@ -20,8 +20,8 @@ fn side_of(seed: u64) -> [u8; 592] {
 // The access block, column after column.
 fn access_hash(block: Block) -> u64 {
     let mut h = hash::NONE;
-    for k in 0..720usize {
-        h = hash::more(h, block[k / 30][k % 30]);
+    for column in &block {
+        h = hash::behind(h, &column[..30]);
     }
     h
 }
@@ -39,8 +39,10 @@ fn place(n: usize, c: usize) -> usize
 
 fn cluster_hash(block: Block) -> u64 {
     let mut cluster = [0u8; 1488];
-    for k in 0..1488usize {
-        cluster[place(k % 62, k / 62)] = block[k / 62][k % 62];
+    for (c, column) in block.iter().enumerate() {
+        for (n, &byte) in column.iter().enumerate() {
+            cluster[place(n, c)] = byte;
+        }
     }
     hash::of(&cluster)
 }
@@ -63,9 +65,9 @@ fn side_line(block: Block) {
 }
 
 fn print_reading(block: Block) {
-    let column = bis_columns::first_wrong_column(block);
+    let column = bis_columns::first_wrong_column(block).unwrap_or(24);
     lines::number_line(b"first wrong column: ", column as u64);
-    let unit = bis_fields::first_wrong_field(block);
+    let unit = bis_fields::first_wrong_field(block).unwrap_or(16);
     lines::number_line(b"first wrong address field: ", unit as u64);
     psn_line(bis_psn::psn_in(block));
     side_line(block);
@@ -107,14 +109,14 @@ fn with_byte(column: [u8; 62], n: usize, byte: u8) -> [u8; 62] {
 
 fn with_parity(column: [u8; 62], parity: [u8; 32]) -> [u8; 62] {
     let mut out = column;
-    compare::copy(&parity, &mut out, 30);
+    out[30..].copy_from_slice(&parity);
     out
 }
 
 // The column with the parity of its first 30 bytes.
 fn recoded(column: [u8; 62]) -> [u8; 62] {
     let mut parity = [0u8; 32];
-    column_parity::write_parity(compare::part(&column, 0, 30), &mut parity);
+    column_parity::write_parity(&column[..30], &mut parity);
     with_parity(column, parity)
 }
 
@@ -122,12 +124,10 @@ fn recoded(column: [u8; 62]) -> [u8; 62] {
 fn with_field(block: Block, y: usize, field: [u8; 9]) -> Block {
     let unit = y % 16;
     let mut out = block;
-    let mut x = 0;
-    while x < 9 {
+    for (x, &byte) in field.iter().enumerate() {
         let row = 2 * (x / 3) + unit / 8;
         let c = 3 * ((x / 3 + 16 - unit) % 8) + (x - x / 3) % 3;
-        out[c] = recoded(with_byte(out[c], row, field[x]));
-        x += 1;
+        out[c] = recoded(with_byte(out[c], row, byte));
     }
     out
 }
@@ -140,11 +140,9 @@ fn with_aun(block: Block, y: usize, aun: u32) -> Block {
 // The block with the AUNs of a PSN.
 fn with_auns(block: Block, psn: u32) -> Block {
     let mut out = block;
-    let mut unit = 0u32;
-    while unit < 16 {
+    for unit in 0..16u32 {
         let next = with_aun(out, unit as usize, psn / 32 * 32 + 2 * unit);
         out = next;
-        unit += 1;
     }
     out
 }

@@ -1,2 +1,2 @@
--- A BIS block, put together.
+-- A code word of the BIS block, put together.
 pub mod Writing

@@ -1,5 +1,5 @@
 // The code words, and the block of them.
-ghost use Rattle.std.specs.Prelude.{◌≡◌, ◌++◌, ◌+◌, ◌<◌, length, get_or};
+ghost use Rattle.std.specs.Prelude.{◌≡◌, ◌++◌, ◌<◌, length};
 ghost use Rattle.answer.specs.declared.Answer.TheVariants.{Done};
 ghost use Rattle.address.specs.Judged.{judged};
 ghost use Rattle.remainders.specs.steps.Remainders.{AreRemainders};
@@ -11,27 +11,12 @@ use address::Psn;
 use bis::{Block, Fields};
 use remainders::Remainders;
 
-// Byte n of a code word.
-fn byte_of(information: &[u8], parity: &[u8], n: usize) -> u8
-    requires { n < length information.now + length parity.now }
-    ensures { result ≡ get_or (information.now ++ parity.now) n 0 }
-{
-    let first = information.len();
-    if n < first {
-        return information[n];
-    }
-    parity[n - first]
-}
-
 fn joined(information: [u8; 30], parity: [u8; 32]) -> [u8; 62]
     ensures { result ≡ information ++ parity }
 {
     let mut column = [0u8; 62];
-    let mut n: usize = 0;
-    while n < 62 {
-        column[n] = byte_of(&information, &parity, n);
-        n += 1;
-    }
+    column[..30].copy_from_slice(&information);
+    column[30..].copy_from_slice(&parity);
     column
 }
 
@@ -53,10 +38,8 @@ pub fn block(table: &Remainders, psn: Psn, side: &[u8]) -> Block
 {
     let fields = address_fields(psn, side);
     let mut block = [[0u8; 62]; 24];
-    let mut c: usize = 0;
-    while c < 24 {
-        block[c] = code_word(table, &fields, side, c);
-        c += 1;
+    for (c, column) in block.iter_mut().enumerate() {
+        *column = code_word(table, &fields, side, c);
     }
     block
 }

@@ -15,14 +15,12 @@ fn put_frames(user: &[u8], stream: &[u8], e: usize, frames: &mut [u8])
     requires { (length user.now ≡ user_size) × ((length frames.old ≡ 8208) × (e < 8)) }
     ensures { frames.new ≡ frames_of (scrambled_frames stream.now user.now) e }
 {
-    let mut f = 0;
-    while f < 4 {
+    for f in 0..4usize {
         let from = 8192 * e + 2048 * f;
         let end = from + 2048;
         let to = 2052 * f;
         let past = to + 2052;
         sector::data_frame(&user[from..end], stream, &mut frames[to..past]);
-        f += 1;
     }
 }
 
@@ -33,12 +31,10 @@ fn put_ldc(table: &Remainders, user: &[u8], stream: &[u8], work: &mut [u8])
 {
     let mut frames = ldc_words::steps::no_frames();
     let mut words = ldc_words::steps::no_words();
-    let mut e = 0;
-    while e < 8 {
+    for e in 0..8usize {
         put_frames(user, stream, e, &mut frames);
         ldc_parity::steps::complete_words(table, &frames, &mut words);
         ldc_words::steps::put_words(&words, e, work);
-        e += 1;
     }
 }
 

@@ -2,12 +2,12 @@
 ghost use Rattle.std.specs.Prelude.{◌≡◌, ◌+◌, ◌<◌, ◌≤◌, length, get_or, take, drop};
 ghost use Rattle.laws.specs.Bytes.{Bytes};
 ghost use Rattle.laws.specs.Tabulate.{tabulate};
-ghost use Rattle.column.specs.Column.{remainder, parity, has_roots, EndsIn};
+ghost use Rattle.column.specs.Column.{remainder, parity, has_roots};
 ghost use Rattle.register.specs.steps.Register.{divisor, leaves, Padded, front, leaves_added};
 ghost use Rattle.remainders.specs.steps.Remainders.{AreRemainders};
 
 use register::Register;
-use register::steps::{plus, pushed_byte, wide, zeros};
+use register::steps::{plus, pushed_byte, zeros};
 use remainders::Remainders;
 
 fn entry(table: &Remainders, k: usize, b: usize, j: usize) -> u8
@@ -23,10 +23,8 @@ fn fronts(was: &Register, message: &[u8], at: usize) -> [usize; 8]
     ensures { (result ≡ tabulate 8 (front was.now message.now at)) × Bytes result }
 {
     let mut eight = [0usize; 8];
-    let mut k = 0;
-    while k < 8 {
-        eight[k] = wide(plus(message[at + k], was[k]));
-        k += 1;
+    for k in 0..8 {
+        eight[k] = usize::from(plus(message[at + k], was[k]));
     }
     eight
 }
@@ -37,10 +35,8 @@ fn added(table: &Remainders, eight: [usize; 8], j: usize, byte: u8) -> u8
     ensures { result ≡ leaves_added eight j byte 8 }
 {
     let mut v = byte;
-    let mut k = 0;
-    while k < 8 {
+    for k in 0..8 {
         v = plus(v, entry(table, k, eight[7 - k], j));
-        k += 1;
     }
     v
 }
@@ -52,10 +48,8 @@ fn pushed_eight(table: &Remainders, was: Register, message: &[u8], at: usize) ->
 {
     let eight = fronts(&was, message, at);
     let mut next = zeros();
-    let mut j = 0;
-    while j < 32 {
+    for j in 0..32 {
         next[j] = added(table, eight, j, was[j + 8]);
-        j += 1;
     }
     next
 }
@@ -66,16 +60,14 @@ fn divided(table: &Remainders, message: &[u8]) -> Register
     ensures { Padded result × (take 32 result ≡ parity 32 message.now) }
 {
     let mut register = zeros();
-    let mut i = 0;
-    while 8 <= message.len() - i {
-        let next = pushed_eight(table, register, message, i);
+    let eights = message.len() / 8;
+    for k in 0..eights {
+        let next = pushed_eight(table, register, message, 8 * k);
         register = next;
-        i += 8;
     }
-    while i < message.len() {
-        let next = pushed_byte(table, register, message[i]);
+    for &byte in &message[8 * eights..] {
+        let next = pushed_byte(table, register, byte);
         register = next;
-        i += 1;
     }
     register
 }
@@ -86,26 +78,7 @@ pub fn parity_32_by(table: &Remainders, message: &[u8], out: &mut [u8; 32])
     ensures { out.new ≡ parity 32 message.now }
 {
     let register = divided(table, message);
-    let mut j = 0;
-    while j < 32 {
-        out[j] = register[j];
-        j += 1;
-    }
-}
-
-// Whether the bytes behind the first n are the ones given.
-fn ends_in(column: &[u8], n: usize, parity: &[u8; 32]) -> bool
-    requires { (length parity.now ≡ 32) × (length column.now ≡ n + 32) }
-    ensures { EndsIn column.now n parity.now result }
-{
-    let mut j = 0;
-    while j < 32 {
-        if column[n + j] != parity[j] {
-            return false;
-        }
-        j += 1;
-    }
-    true
+    out.copy_from_slice(&register[..32]);
 }
 
 // Whether a column, LDC's, BIS's or another, has its 32 roots: whether its last 32 bytes are the parity of those before.
@@ -114,7 +87,7 @@ pub fn is_code_word(table: &Remainders, column: &[u8]) -> bool
     ensures { result ≡ has_roots 32 column.now }
 {
     let n = column.len() - 32;
-    let mut parity = parity::steps::no_parity();
+    let mut parity = [0u8; 32];
     parity_32_by(table, &column[..n], &mut parity);
-    ends_in(column, n, &parity)
+    column.ends_with(&parity)
 }

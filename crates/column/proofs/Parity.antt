@@ -2,12 +2,14 @@
 use mathlib.Core.Path.{◌≡◌, refl, sym, ap, ap₂, subst, ◌∙◌, subst⁻¹}
 use mathlib.Core.Bool.{Bool, true, false, false≢true}
 use mathlib.Core.List.{List, ◌++◌}
-use Prim.Native.Nat.{ℕ, ◌+◌, ◌<◌, ◌≤◌}
-use native.Mathlib.Nat.{not-suc-le-zero}
+use Prim.Native.Nat.{ℕ, ◌+◌, ◌-◌, ◌≤◌}
 use native.Mathlib.Omega.{arith}
-use borrow.Author.Count.{below_more}
-use lib.ListN.{length, get_or, take, drop, length-drop, take-append-drop}
-use lib.Seq.{get_or-drop, ext_get_or}
+use lib.Dec.{eqb}
+use lib.ListN.{length, take, drop, length-drop, take-append-drop}
+use Rattle.std.specs.Bool.{Decides}
+use Rattle.std.specs.List.{ends_with}
+use Rattle.std.proofs.lemmas.Bool.Decides.{Decides-eqb}
+use Rattle.std.proofs.lemmas.Slice.Eq.{slice_eq-Decides}
 use Rattle.laws.specs.Bytes.{Bytes}
 use Rattle.laws.specs.Combined.{combined}
 use Rattle.laws.specs.Tabulate.{tabulate}
@@ -103,27 +105,18 @@ ends-test r n column few bytes size {p} e {answer} ends = by answer (has_roots r
     by false true ends t = absurd (ends.other refl (test-parity r few n column bytes size t ∙ sym e))
     by false false ends t = refl
 
--- ---- in a loop
+-- ---- as the code has it
 
--- the first j bytes behind the first n are p's
-pub record Agreeing (column : List ℕ) (n : ℕ) (p : List ℕ) (j : ℕ) : Type 0 where
-  pub within : j ≤ length p
-  pub agree : (k : ℕ) → k < j → get_or column (n + k) 0 ≡ get_or p k 0
+-- what `ends_with` answers
+pub ends-in : {column p : List ℕ} {n : ℕ} {answer : Bool} → length column ≡ n + length p → answer ≡ ends_with eqb column p → EndsIn column n p answer
+ends-in {column} {p} {n} {answer} size e =
+    record {
+      same = λ t. sym (decides.0 t ∙ sym place);
+      other = λ f same. false≢true (sym f ∙ decides.1 (sym same ∙ place));
+    }
+  where
+    place : drop n column ≡ drop (length column - length p) column
+    place = ap (λ (k : ℕ). drop k column) (omega arith)
 
-module _ {column : List ℕ} {n : ℕ} {p : List ℕ} where
-  pub agreeing-none : Agreeing column n p 0
-  agreeing-none = record { within = omega arith; agree = λ k h. absurd (not-suc-le-zero h) }
-
-  pub agreeing-more : {j : ℕ} → Agreeing column n p j → j < length p → get_or column (n + j) 0 ≡ get_or p j 0 → Agreeing column n p (j + 1)
-  agreeing-more {j} a h e = record { within = omega arith; agree = below_more (λ k. get_or column (n + k) 0 ≡ get_or p k 0) j a.agree e }
-
-  pub ends-not : (j : ℕ) → (get_or column (n + j) 0 ≡ get_or p j 0 → ⊥) → EndsIn column n p false
-  ends-not j other =
-      record { same = λ e. absurd (false≢true e); other = λ e same. other (sym (get_or-drop n column j 0) ∙ ap (λ (l : List ℕ). get_or l j 0) same) }
-
-  pub ends-all : {j : ℕ} → Agreeing column n p j → length p ≤ j → length column ≡ n + length p → EndsIn column n p true
-  ends-all {j} a h size =
-      record {
-        same = λ e. ext_get_or 0 (drop n column) p (omega (arith, length-drop n column)) (λ k below. get_or-drop n column k 0 ∙ a.agree k (omega (arith, length-drop n column)));
-        other = λ e same. false≢true (sym e);
-      }
+    decides : Decides answer (p ≡ drop (length column - length p) column)
+    decides = slice_eq-Decides Decides-eqb p (drop (length column - length p) column) answer e

@@ -33,7 +33,7 @@ fn parity_of(message: &[u8]) -> [u8; 32]
 {
     let mut table = remainders::steps::no_remainders();
     remainders::steps::fill_remainders(&mut table);
-    let mut made = parity::steps::no_parity();
+    let mut made = [0u8; 32];
     code_word::steps::parity_32_by(&table, message, &mut made);
     made
 }
@@ -44,7 +44,7 @@ fn put_parity(message: &[u8], parity: &mut [u8])
     ensures { parity.new ≡ column.parity 32 message.now }
 {
     let made = parity_of(message);
-    slices::steps::copy_bytes(&made, parity);
+    parity.copy_from_slice(&made);
 }
 
 // Writes the 32 parity bytes of a column's data. 0, or 22 for no data, for more than 223 bytes of it, or for a parity slice that is not 32

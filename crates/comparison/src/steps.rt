@@ -1,24 +1,22 @@
 // The first byte that differs, and the verdict.
-ghost use Rattle.std.specs.Prelude.{◌≡◌, ◌≤◌, length};
+ghost use Rattle.std.specs.Prelude.{◌≡◌, ◌<◌, ◌≤◌, length, SomeIff};
 ghost use Rattle.comparison.specs.Compared.{first_other, compared};
 ghost use Rattle.sizes.specs.Sizes.{side_size, user_size};
 
 use address::Psn;
 use verdict::Verdict;
 
-// The first of n bytes that differs, or n.
-fn first_other(n: usize, a: &[u8], b: &[u8]) -> usize
+// The first of n bytes that differs.
+fn first_other(n: usize, a: &[u8], b: &[u8]) -> Option<usize>
     requires { (n ≤ length a.now) × (n ≤ length b.now) }
-    ensures { result ≡ first_other n a.now b.now }
+    ensures { SomeIff result (first_other n a.now b.now < n) (first_other n a.now b.now) }
 {
-    let mut k = 0;
-    while k < n {
+    for k in 0..n {
         if a[k] != b[k] {
-            return k;
+            return Some(k);
         }
-        k += 1;
     }
-    k
+    None
 }
 
 // What is given beside what was read in an accepted image: the PSN, then the user bytes, then the side data.
@@ -37,12 +35,10 @@ pub fn compare(
     if found.0 != psn.0 {
         return Verdict::OtherPsn(found);
     }
-    let u = first_other(sizes::USER, user, bytes);
-    if u < sizes::USER {
+    if let Some(u) = first_other(sizes::USER, user, bytes) {
         return Verdict::OtherUser(u);
     }
-    let s = first_other(sizes::SIDE, side, control);
-    if s < sizes::SIDE {
+    if let Some(s) = first_other(sizes::SIDE, side, control) {
         return Verdict::OtherSide(s);
     }
     Verdict::Pass

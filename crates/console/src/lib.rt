@@ -1,7 +1,7 @@
 // What the programs share: arguments, whole files, and texts printed.
 #![tactic(auto)]
 
-ghost use Rattle.std.specs.Prelude.{◌≤◌, length};
+ghost use Rattle.std.specs.Prelude.{◌≤◌, length, IfSome};
 ghost use Rattle.io.specs.Counts.{IsPrefixLen};
 
 use std::env::FillError;
@@ -14,19 +14,17 @@ use texts::Text;
 
 // ---- what is printed
 
-// The first size of the bytes. A text has no more than fit (proofs/Words of `report`, `sheet_report`, `queue_report` and `ahead_report`; `tallying`, proofs/Table).
-fn write(rt: &impl Print, bytes: &[u8], size: usize) -> io::Result<()> {
-    if size <= bytes.len() {
-        return rt.write_all(&bytes[..size]);
-    }
-    Err(io::Error::from(ErrorKind::InvalidInput))
+// Its bytes. A text has no more than fit (proofs/Words of `report`, `sheet_report`, `queue_report` and `ahead_report`; `tallying`, proofs/Table).
+fn bytes_of(text: &Text) -> Option<&[u8]> {
+    text.bytes.get(..text.size)
 }
 
 // Prints all of it, or says why it could not.
 pub fn try_print(rt: &impl Print, text: Text) -> io::Result<()> {
-    let size = text.size;
-    let bytes = text.bytes;
-    write(rt, &bytes, size)
+    match bytes_of(&text) {
+        Some(bytes) => rt.write_all(bytes),
+        None => Err(io::Error::from(ErrorKind::InvalidInput)),
+    }
 }
 
 // Whether all of it could be printed.
@@ -38,13 +36,8 @@ pub fn print(rt: &impl Print, text: Text) -> bool {
 // stopped for that (128 and signal 13).
 fn status(printed: io::Result<()>) -> ExitCode {
     match printed {
-        Ok(()) => ExitCode::SUCCESS,
-        Err(error) => {
-            if error.kind() == ErrorKind::BrokenPipe {
-                return ExitCode::from(141);
-            }
-            ExitCode::SUCCESS
-        }
+        Err(error) if error.kind() == ErrorKind::BrokenPipe => ExitCode::from(141),
+        _ => ExitCode::SUCCESS,
     }
 }
 
@@ -77,10 +70,8 @@ pub fn complain(rt: &impl Complaints, bytes: &[u8]) {
 }
 
 fn complain_text(rt: &impl Complaints, text: Text) {
-    let size = text.size;
-    let bytes = text.bytes;
-    if size <= bytes.len() {
-        complain(rt, &bytes[..size]);
+    if let Some(bytes) = bytes_of(&text) {
+        complain(rt, bytes);
     }
 }
 
@@ -116,10 +107,8 @@ fn without_number(words: &[u8]) -> &[u8] {
 }
 
 fn complain_said(rt: &impl Complaints, text: Text) {
-    let size = text.size;
-    let bytes = text.bytes;
-    if size <= bytes.len() {
-        complain(rt, without_number(&bytes[..size]));
+    if let Some(bytes) = bytes_of(&text) {
+        complain(rt, without_number(bytes));
     }
 }
 
@@ -156,10 +145,7 @@ fn wrong_length(rt: &impl Complaints, path: &[u8], wanted: usize) {
 pub fn argument(rt: &impl Env, i: usize, bytes: &mut [u8]) -> usize
     ensures { IsPrefixLen result bytes.new }
 {
-    match rt.arg(i, bytes) {
-        Ok(n) => n,
-        Err(_) => 0,
-    }
+    rt.arg(i, bytes).unwrap_or(0)
 }
 
 // An empty one counts, and so does one of any length.
@@ -177,15 +163,16 @@ pub fn argument_count(rt: &impl Env) -> usize {
     usize::MAX
 }
 
-// Argument i, a file's name, at the start of name; 0 where there is none.
-pub fn file_name(rt: &(impl Env + Complaints), i: usize, name: &mut [u8]) -> usize
-    ensures { IsPrefixLen result name.new }
+// Argument i, a file's name, at the start of name; where there is none, that is said.
+pub fn file_name(rt: &(impl Env + Complaints), i: usize, name: &mut [u8]) -> Option<usize>
+    ensures { IfSome result (λ n. IsPrefixLen n name.new) }
 {
     let n = argument(rt, i, name);
     if n == 0 {
         no_name(rt);
+        return None;
     }
-    n
+    Some(n)
 }
 
 fn is_dash(rt: &impl Env, i: usize) -> bool {
@@ -202,10 +189,7 @@ fn same_argument(rt: &impl Env, i: usize, j: usize) -> bool {
     let mut other = [0u8; 4096];
     let m = argument(rt, i, &mut name);
     let n = argument(rt, j, &mut other);
-    if m == 0 {
-        return false;
-    }
-    names::same_name(&name[..m], &other[..n])
+    m != 0 && names::same_name(&name[..m], &other[..n])
 }
 
 fn complain_of(rt: &(impl Env + Complaints), i: usize, text: &[u8]) {
@@ -226,10 +210,7 @@ pub fn not_over(rt: &(impl Env + Complaints), i: usize, j: usize) -> bool {
 
 // The same, but `-` is no file that is read.
 pub fn not_over_unless_dash(rt: &(impl Env + Complaints), i: usize, j: usize) -> bool {
-    if is_dash(rt, i) {
-        return true;
-    }
-    not_over(rt, i, j)
+    is_dash(rt, i) || not_over(rt, i, j)
 }
 
 // Whether argument i is the name under which argument j is written before it is whole.
@@ -238,21 +219,14 @@ fn is_part_of(rt: &impl Env, i: usize, j: usize) -> bool {
     let mut other = [0u8; 4096];
     let m = argument(rt, i, &mut name);
     let n = argument(rt, j, &mut other);
-    let k = names::add_part(&mut other, n);
-    if k == 0 {
-        return false;
+    match names::add_part(&mut other, n) {
+        Some(k) => names::same_name(&name[..m], &other[..k]),
+        None => false,
     }
-    names::same_name(&name[..m], &other[..k])
 }
 
 fn clash(rt: &impl Env, i: usize, j: usize) -> bool {
-    if same_argument(rt, i, j) {
-        return true;
-    }
-    if is_part_of(rt, i, j) {
-        return true;
-    }
-    is_part_of(rt, j, i)
+    same_argument(rt, i, j) || is_part_of(rt, i, j) || is_part_of(rt, j, i)
 }
 
 // Whether arguments i and j, which are both to be written, are two names, and neither is the other's NAME.part.
@@ -268,10 +242,10 @@ pub fn not_twice(rt: &(impl Env + Complaints), i: usize, j: usize) -> bool {
 
 // A path, which the library takes as text.
 fn path_text(path: &[u8]) -> io::Result<&str> {
-    match std::str::from_utf8(path) {
-        Ok(text) => Ok(text),
-        Err(_) => Err(io::Error::new(ErrorKind::InvalidFilename, "the name is no UTF-8 text")),
-    }
+    std::str::from_utf8(path).map_err(|_| io::Error::new(
+        ErrorKind::InvalidFilename,
+        "the name is no UTF-8 text",
+    ))
 }
 
 // Opens the file for reading.
@@ -286,9 +260,8 @@ pub fn read_full(from: &mut impl Read, bytes: &mut [u8]) -> usize
     let mut done = 0;
     while done < bytes.len() {
         match from.read(&mut bytes[done..]) {
-            Ok(0) => break,
+            Ok(0) | Err(_) => break,
             Ok(n) => done += n,
-            Err(_) => break,
         }
     }
     done
@@ -304,13 +277,11 @@ pub fn has_more(from: &mut impl Read) -> io::Result<bool> {
 fn fill(rt: &impl Complaints, path: &[u8], file: &mut impl Read, bytes: &mut [u8]) -> bool {
     let got = read_full(file, bytes);
     match has_more(file) {
-        Ok(more) => {
-            if got != bytes.len() || more {
-                wrong_length(rt, path, bytes.len());
-                return false;
-            }
-            true
+        Ok(more) if got != bytes.len() || more => {
+            wrong_length(rt, path, bytes.len());
+            false
         }
+        Ok(_) => true,
         Err(error) => {
             fail(rt, path, error);
             false
@@ -331,19 +302,15 @@ fn load_path(rt: &(impl Files + Complaints), path: &[u8], bytes: &mut [u8]) -> b
 // Fills bytes from the file that argument i names.
 pub fn load(rt: &(impl Env + Files + Complaints), i: usize, bytes: &mut [u8]) -> bool {
     let mut name = [0u8; 4096];
-    let n = file_name(rt, i, &mut name);
-    if n == 0 {
+    let Some(n) = file_name(rt, i, &mut name) else {
         return false;
-    }
+    };
     load_path(rt, &name[..n], bytes)
 }
 
 // The same, but `-` leaves the bytes as they are.
 pub fn load_unless_dash(rt: &(impl Env + Files + Complaints), i: usize, bytes: &mut [u8]) -> bool {
-    if is_dash(rt, i) {
-        return true;
-    }
-    load(rt, i, bytes)
+    is_dash(rt, i) || load(rt, i, bytes)
 }
 
 // ---- a result is written to NAME.part, and gets its name when it is whole
@@ -389,23 +356,24 @@ fn write_new(rt: &(impl Files + Complaints), path: &[u8], bytes: &[u8]) -> bool 
 // Writes bytes to NAME.part, NAME being argument i.
 pub fn write_part(rt: &(impl Env + Files + Complaints), i: usize, bytes: &[u8]) -> bool {
     let mut name = [0u8; 4096];
-    let n = file_name(rt, i, &mut name);
-    if n == 0 {
+    let Some(n) = file_name(rt, i, &mut name) else {
         return false;
-    }
-    let m = names::add_part(&mut name, n);
-    if m == 0 {
+    };
+    let Some(m) = names::add_part(&mut name, n) else {
         no_name(rt);
         return false;
-    }
+    };
     write_new(rt, &name[..m], bytes)
 }
 
 pub fn remove_part(rt: &(impl Env + Files + Complaints), i: usize) {
     let mut name = [0u8; 4096];
-    let n = file_name(rt, i, &mut name);
-    let m = names::add_part(&mut name, n);
-    remove(rt, &name[..m]);
+    let Some(n) = file_name(rt, i, &mut name) else {
+        return;
+    };
+    if let Some(m) = names::add_part(&mut name, n) {
+        remove(rt, &name[..m]);
+    }
 }
 
 fn rename_path(rt: &impl Files, from: &[u8], to: &[u8]) -> io::Result<()> {
@@ -414,7 +382,9 @@ fn rename_path(rt: &impl Files, from: &[u8], to: &[u8]) -> io::Result<()> {
 
 fn rename(rt: &(impl Env + Files + Complaints), part: &[u8], i: usize) -> bool {
     let mut name = [0u8; 4096];
-    let n = file_name(rt, i, &mut name);
+    let Some(n) = file_name(rt, i, &mut name) else {
+        return false;
+    };
     match rename_path(rt, part, &name[..n]) {
         Ok(()) => true,
         Err(error) => {
@@ -428,7 +398,11 @@ fn rename(rt: &(impl Env + Files + Complaints), part: &[u8], i: usize) -> bool {
 // Gives NAME.part its name; where it cannot, it is removed.
 pub fn keep_part(rt: &(impl Env + Files + Complaints), i: usize) -> bool {
     let mut name = [0u8; 4096];
-    let n = file_name(rt, i, &mut name);
-    let m = names::add_part(&mut name, n);
-    rename(rt, &name[..m], i)
+    let Some(n) = file_name(rt, i, &mut name) else {
+        return false;
+    };
+    match names::add_part(&mut name, n) {
+        Some(m) => rename(rt, &name[..m], i),
+        None => false,
+    }
 }

@@ -88,16 +88,16 @@ test-if : {s : Bool} (len left x y : ℕ) → s ≡ (leb len left && eqb x y) �
 test-if len left x y e l = sym (e ∙ ap (λ (b : Bool). b && eqb x y) (le-leb len left l))
 
 module _ {k : ℕ} {r : CodeRow} (row : IsRow k r) (n p : ℕ) where
-  pub stands-not : n < r.0 → false ≡ starts two_number (row_at k).pairs (few_pairs n p)
+  pub stands-not : n < r.pairs → false ≡ starts two_number (row_at k).pairs (few_pairs n p)
   stands-not l =
       let len = length (row_at k).pairs in
       test-not len (length (few_pairs n p)) (number (data_bits (take len (few_pairs n p)))) (number (data_bits (row_at k).pairs))
       (pairs_start (row_at k).pairs (few_pairs n p)) (omega (arith, (code-sized row).pairs-are, few-size n p))
 
-  pub stands-if : p < 2 ^ (2 * n) → r.0 ≤ n → eqb (p / 2 ^ (2 * (n - r.0))) r.1 ≡ starts two_number (row_at k).pairs (few_pairs n p)
+  pub stands-if : p < 2 ^ (2 * n) → r.pairs ≤ n → eqb (p / 2 ^ (2 * (n - r.pairs))) r.data_bits ≡ starts two_number (row_at k).pairs (few_pairs n p)
   stands-if small l =
       let len = length (row_at k).pairs in
-      ap (λ (s : CodeRow). eqb (p / 2 ^ (2 * (n - s.0))) s.1) row.is
+      ap (λ (s : CodeRow). eqb (p / 2 ^ (2 * (n - s.pairs))) s.data_bits) row.is
       ∙ ap (λ (x : ℕ). eqb x (number (data_bits (row_at k).pairs))) (few-front n p small len)
       ∙ test-if len (length (few_pairs n p)) (number (data_bits (take len (few_pairs n p)))) (number (data_bits (row_at k).pairs))
       (pairs_start (row_at k).pairs (few_pairs n p)) (omega (arith, (code-sized row).pairs-are, few-size n p))

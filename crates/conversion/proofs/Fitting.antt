@@ -37,22 +37,22 @@ module _ (n p : ℕ) (before : Bool) where
     abbrev allowed_for : When → Bool
     allowed_for w = allowed (row_at k) w before ds (modulate_from (tail ds))
 
-    pub allowed-if : {w : CodeWhen} {y : Bool} → r.3 ≡ w → y ≡ allowed_for (when_of w) → y ≡ allowed_for (row_at k).when
+    pub allowed-if : {w : CodeWhen} {y : Bool} → r.when ≡ w → y ≡ allowed_for (when_of w) → y ≡ allowed_for (row_at k).when
     allowed-if q a = a ∙ ap allowed_for (ap when_of (sym q) ∙ sym (code-when row))
 
-    pub allowed-before-010 : {rest : ℕ} {y : Bool} → p < 2 ^ (2 * n) → rest ≡ p % 2 ^ (2 * (n - r.0))
-        → y ≡ starts_with010 (modulate false (few_pairs (n - r.0) rest)).groups → y ≡ allowed_for before-010
+    pub allowed-before-010 : {rest : ℕ} {y : Bool} → p < 2 ^ (2 * n) → rest ≡ p % 2 ^ (2 * (n - r.pairs))
+        → y ≡ starts_with010 (modulate false (few_pairs (n - r.pairs) rest)).groups → y ≡ allowed_for before-010
     allowed-before-010 {rest} small er q =
         let len = length (row_at k).pairs in
         q
-        ∙ ap (λ (l : List Two). starts_with010 (modulate false l).groups) (ap (few_pairs (n - r.0)) er ∙ few-rest n p small r.0)
+        ∙ ap (λ (l : List Two). starts_with010 (modulate false l).groups) (ap (few_pairs (n - r.pairs)) er ∙ few-rest n p small r.pairs)
         ∙ ap (λ (m : ℕ). starts_with010 (modulate false (drop m ds)).groups) (code-sized row).pairs-are
         ∙ next-010 false (drop len ds)
         ∙ sym (next-010 (next_bit (row_at k)) (drop len ds))
         ∙ ap (λ (f : Modulated). starts_with010 f.groups)
         (sym (skip (tail ds) (len - 1) (next_bit (row_at k)) ∙ ap (modulate (next_bit (row_at k))) (behind-word ds len (omega (arith, code-sized row)))))
 
-    pub allowed-at-end : eqb r.0 n ≡ allowed_for at-end
+    pub allowed-at-end : eqb r.pairs n ≡ allowed_for at-end
     allowed-at-end = ap (λ (m : ℕ). eqb m n) (code-sized row).pairs-are ∙ ap (eqb (length (row_at k).pairs)) (sym (few-size n p))
 
   -- ---- the row

@@ -8,6 +8,7 @@ use native.Mathlib.Omega.{arith}
 use lib.ListN.{length, drop, length-append}
 use lib.Seq.{drop-append_seam}
 use lib.Pow.{pow-add, pow_pos, pow_mono}
+use Rattle.std.specs.Prelude.{Option, Some, None, SomeIff, IsSomeAnd}
 use Rattle.laws.proofs.First.{first-at}
 use Rattle.bits.specs.Bits.{number}
 use Rattle.bits.proofs.Number.{number_lt}
@@ -56,10 +57,13 @@ word-found b (d ∷ ds) k h e = subst (WordAt b (d ∷ ds)) (sym (e ∙ first-is
               ∙ ap (λ (r : Row). in_front r (modulate (next_bit r) (drop (length r.pairs) (d ∷ ds)))) (sym f.first.is);
         }
 
-pub fitting : {before : Bool} {n p k : ℕ} → 0 < n → k ≡ fitting_row before (few_pairs n p) → Fitting before n p k
-fitting {before} {n} {p} {k} h e =
-    let f = word-found before (few_pairs n p) k (omega (arith, few-size n p)) e in
-    record { first-is = e; below = f.below; within = omega (arith, f.within, few-size n p) }
+-- of pairs some row fits
+pub fitting : (before : Bool) (n p : ℕ) (r : Option ℕ) → 0 < n → SomeIff r (fitting_row before (few_pairs n p) < 16) (fitting_row before (few_pairs n p))
+    → IsSomeAnd r (Fitting before n p)
+fitting before n p None h none = absurd (none (word-found before (few_pairs n p) _ (omega (arith, few-size n p)) refl).below)
+fitting before n p (Some k) h found =
+    let f = word-found before (few_pairs n p) k (omega (arith, few-size n p)) found.1 in
+    record { first-is = found.1; below = f.below; within = omega (arith, f.within, few-size n p) }
 
 -- the first word and what follows it
 word-step : {b b' : Bool} {n p k len : ℕ} → 0 < n → p < 2 ^ (2 * n) → Fitting b n p k → Sized k len → b' ≡ next_bit (row_at k)

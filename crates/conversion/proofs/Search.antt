@@ -1,27 +1,17 @@
 -- A search through rows for the first that passes a test. Assumes nothing.
 use mathlib.Core.Bool.{Bool, true, false}
-use mathlib.Core.Path.{◌≡◌, sym, subst, ◌∙◌}
-use Prim.Native.Nat.{ℕ, ◌+◌, ◌<◌, ◌≤◌}
+use mathlib.Core.Path.{◌≡◌, sym}
+use Prim.Native.Nat.{ℕ, ◌<◌, ◌≤◌}
 use native.Mathlib.Omega.{arith}
+use Rattle.std.specs.Prelude.{Option, Some, None, MatchOption, SomeIff}
 use Rattle.laws.specs.First.{first}
-use Rattle.laws.proofs.First.{Passed, passed_none, passed-more, first-at, first-none}
+use Rattle.laws.proofs.First.{first-at, first-none}
 
--- of the rows passed, up to k, none passes the test
-pub record Searched (p : ℕ → Bool) (n k : ℕ) : Type 0 where
-  pub within : k ≤ n
-  pub passed : Passed p k
-
-module _ {p : ℕ → Bool} {n k : ℕ} where
-  pub searched-more : Searched p n k → k < n → {x : Bool} → x ≡ p k → x ≡ false → Searched p n (k + 1)
-  searched-more s h e f = record { within = omega arith; passed = passed-more s.passed (sym e ∙ f) }
-
-  pub searched-found : Searched p n k → k < n → {x : Bool} → x ≡ p k → x ≡ true → k ≡ first n p
-  searched-found s h e t = sym (first-at n p k h s.passed (sym e ∙ t))
-
-  pub searched-all : Searched p n k → n ≤ k → k ≡ first n p
-  searched-all s h =
-      let same : k ≡ n = omega (arith, s.within) in
-      same ∙ sym (first-none n p (subst (Passed p) same s.passed))
-
-pub searched-none : {p : ℕ → Bool} {n : ℕ} → Searched p n 0
-searched-none = record { within = omega arith; passed = passed_none }
+-- what `find` answers, over the numbers below n
+pub first-found : (n : ℕ) (p : ℕ → Bool) (r : Option ℕ)
+    → MatchOption r ((k : ℕ) → 0 ≤ k → k < n → p k ≡ false) (λ i. (0 ≤ i) × (i < n) × (p i ≡ true) × ((k : ℕ) → 0 ≤ k → k < i → p k ≡ false))
+    → SomeIff r (first n p < n) (first n p)
+first-found n p None h = λ below. omega (arith, first-none n p (record { fails = λ k l. h k (omega arith) l }))
+first-found n p (Some i) h =
+    let same : first n p ≡ i = first-at n p i h.1 (record { fails = λ k l. h.3 k (omega arith) l }) h.2 in
+    (omega (arith, same, h.1), sym same)

@@ -14,10 +14,12 @@ pub enum When {
 
 // A row of Figure 38: how many pairs it has, its data bits, its modulation bits, and when it may be taken.
 #[derive(Clone, Copy)]
-pub struct Row(pub usize, pub u8, pub u16, pub When);
-
-// The rows, a number each. Reading a constant copies it, so the rows are packed once and lent.
-pub type PackedRows = [u32; 16];
+pub struct Row {
+    pub pairs: usize,
+    pub data_bits: u8,
+    pub modulation_bits: u16,
+    pub when: When,
+}
 
 // What a few pairs give: their modulation bits as a number, and whether a terminating row ended them.
 #[derive(Clone, Copy)]

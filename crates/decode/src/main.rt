@@ -8,22 +8,12 @@ use texts::Text;
 
 // The image is none of the files that are written, and these are three.
 fn names_apart(rt: &(impl Env + Complaints)) -> bool {
-    if !console::not_over(rt, 1, 2) {
-        return false;
-    }
-    if !console::not_over(rt, 1, 3) {
-        return false;
-    }
-    if !console::not_over(rt, 1, 4) {
-        return false;
-    }
-    if !console::not_twice(rt, 2, 3) {
-        return false;
-    }
-    if !console::not_twice(rt, 2, 4) {
-        return false;
-    }
-    console::not_twice(rt, 3, 4)
+    console::not_over(rt, 1, 2)
+        && console::not_over(rt, 1, 3)
+        && console::not_over(rt, 1, 4)
+        && console::not_twice(rt, 2, 3)
+        && console::not_twice(rt, 2, 4)
+        && console::not_twice(rt, 3, 4)
 }
 
 // The three files in part, or none.
@@ -64,35 +54,33 @@ fn save(
     dc: &[u8],
     text: Text,
 ) -> ExitCode {
-    if write_parts(rt, user, side, dc) {
-        if keep_parts(rt) {
-            return console::print_last(rt, text);
-        }
+    if write_parts(rt, user, side, dc) && keep_parts(rt) {
+        console::print_last(rt, text)
+    } else {
+        ExitCode::SUCCESS
     }
-    ExitCode::SUCCESS
 }
 
 fn decode(rt: &(impl Print + Env + Files + Complaints), image: &[u8]) -> ExitCode {
-    let mut user = buffers::user_bytes();
-    let mut side = buffers::side_bytes();
-    let mut dc = buffers::dc_bytes();
+    let mut user: [u8; sizes::USER] = buffers::zeros();
+    let mut side: [u8; sizes::SIDE] = buffers::zeros();
+    let mut dc: [u8; sizes::DC] = buffers::zeros();
     let said = decoding::decode(image, &mut user, &mut side, &mut dc);
-    let text = said.text;
     if said.keep {
-        return save(rt, &user, &side, &dc, text);
+        save(rt, &user, &side, &dc, said.text)
+    } else {
+        console::print_last(rt, said.text)
     }
-    console::print_last(rt, text)
 }
 
 fn main(rt: HostRuntime) -> ExitCode {
     if console::argument_count(&rt) != 5 {
         return console::print_usage(&rt, b"usage: decode IMAGE USER SIDE DC\n");
     }
-    let mut image = buffers::image_bytes();
-    if names_apart(&rt) {
-        if console::load(&rt, 1, &mut image) {
-            return decode(&rt, &image);
-        }
+    let mut image: [u8; sizes::IMAGE] = buffers::zeros();
+    if names_apart(&rt) && console::load(&rt, 1, &mut image) {
+        decode(&rt, &image)
+    } else {
+        ExitCode::SUCCESS
     }
-    ExitCode::SUCCESS
 }

@@ -36,7 +36,7 @@ fn decode_words(
     ensures { record { keep = result.keep; text = result.text; user = user.new; side = side.new; dc = dc.new }
         ≡ decoded_words image.now user.old side.old words.old dc.old }
 {
-    let mut work = buffers::work_bytes();
+    let mut work: [u8; sizes::WORK] = buffers::zeros();
     let read = reader::read_image(image, user, side, words, &mut work);
     let answer = read.answer;
     let psn = read.psn;

@@ -1,13 +1,16 @@
 -- A frame's words, one a turn, and the answer. Assumes nothing.
-use mathlib.Core.Bool.{Bool, true, false, false≢true}
+use mathlib.Core.Bool.{Bool}
 use mathlib.Core.List.{List, ◌++◌}
-use mathlib.Core.Path.{◌≡◌, sym, ap, ap₂, subst, ◌∙◌}
-use Prim.Native.Nat.{ℕ, ◌+◌, ◌*◌, ◌/◌, ◌%◌, ◌^◌, ◌<◌, ◌≤◌}
-use native.Mathlib.Decide.{ℕ_discrete}
+use mathlib.Core.Path.{◌≡◌, refl, sym, ap, ap₂, subst, ◌∙◌}
+use Prim.Native.Nat.{ℕ, ◌+◌, ◌*◌, ◌/◌, ◌%◌, ◌^◌, ◌<◌}
+use native.Mathlib.Decide.{ℕ_discrete, dec_lt}
 use native.Mathlib.Omega.{arith}
 use lib.Dec.{eqb}
-use lib.ListN.{length, get_or, set, take, drop, length-set}
+use borrow.Author.Tests.{eq-eqb, eqb-true}
+use lib.ListN.{length, get_or, set, take, drop, replicate, length-set, get_or-eq_default}
 use lib.Seq.{get_or-set_same, get_or-set_other}
+use Rattle.std.specs.Prelude.{Option, Some, None, IfSome, SomeIff}
+use Rattle.std.proofs.lemmas.List.{get_or-replicate}
 use Rattle.bits.specs.Bits.{bits_of}
 use Rattle.bits.proofs.Bits.{length-bits as length-bits_of, bits-bits}
 use Rattle.modulation.specs.Modulation.{Two, Three, Modulated, modulate}
@@ -18,7 +21,7 @@ use Rattle.modulation.specs.steps.Groups.{Inside, groups_at, frame_at}
 use Rattle.modulation.proofs.Groups.{length-groups_at, bits-groups_at}
 use Rattle.automaton.specs.Automaton.{start, ending, state_after, number_after, accepts, number_read}
 use Rattle.automaton.specs.steps.Table.{After}
-use Rattle.demodulator_words.specs.steps.Held.{Held, NextWord, LastWord}
+use Rattle.demodulator_words.specs.steps.Held.{Held, NextWord}
 use Rattle.modulation.specs.steps.Words.{bits_in, Words, WordsRead}
 use Rattle.automaton.proofs.Complete.{after-append, complete}
 use Rattle.automaton.proofs.Sound.{sound}
@@ -30,16 +33,25 @@ use Rattle.demodulator.proofs.Words.{joined, joined-none, joined-more, words-bit
 
 -- the first i words are done, and x is what is held of the next
 pub record Reading (b : List ℕ) (at : ℕ) (before : Bool) (ws : List ℕ) (x i : ℕ) : Type 0 where
-  pub within : i ≤ 27
   pub words : Words ws
   pub held : Held x
   pub state : x % 32 ≡ state_after (start before) (groups_at b at (13 + 23 * i))
   pub number : joined ws i * 70368744177664 + x / 32 ≡ number_after (start before) 0 (groups_at b at (13 + 23 * i))
 
+pub no-words : Words (replicate 29 0)
+no-words =
+    record {
+      size = refl;
+      below = λ i.
+          elim (dec_lt i 29) [
+            | yes h ↦ rw (get_or-replicate {A = ℕ} 29 i 0 0 h) (omega arith)
+            | no h ↦ rw (get_or-eq_default {A = ℕ} (replicate 29 0) 0 {n = i} (omega arith)) (omega arith)
+          ];
+    }
+
 pub reading-none : (b : List ℕ) (at : ℕ) (before : Bool) {x : ℕ} {ws : List ℕ} → Words ws → After (groups_at b at 13) (start before) x → Reading b at before ws x 0
 reading-none b at before {x} {ws} words a =
     record {
-      within = omega arith;
       words = words;
       held = let bound : x / 32 < 32 * 4 ^ 13 = read-bound 13 small (omega (arith, length-groups_at b at 13)) a in held_first small a (omega (arith, bound));
       state = read-state small a;
@@ -52,7 +64,7 @@ reading-none b at before {x} {ws} words a =
     none : (n : ℕ) → 0 * 70368744177664 + n ≡ n
     none n = omega arith
 
-words-set : (ws : List ℕ) (i v : ℕ) → i < 29 → Words ws → v < 70368744177664 → Words (set ws i v)
+pub words-set : (ws : List ℕ) (i v : ℕ) → i < 29 → Words ws → v < 70368744177664 → Words (set ws i v)
 words-set ws i v inside words h = record { size = length-set ws i v ∙ words.size; below = below }
   where
     below : (k : ℕ) → get_or (set ws i v) k 0 < 70368744177664
@@ -99,7 +111,6 @@ module _ (b : List ℕ) (at : ℕ) {before : Bool} {x i word held : ℕ} {ws : L
   pub reading-more : i < 27 → Reading b at before (set ws i word) held (i + 1)
   reading-more h =
       record {
-        within = omega arith;
         words = words-set ws i word (omega arith) r.words next.below;
         held = next.holds;
         state = next.state ∙ ap (λ (t : ℕ). state_after t gs) r.state ∙ sym (after-append s front gs) ∙ ap (state_after s) together;
@@ -131,48 +142,47 @@ module _ {bytes : List ℕ} {at : ℕ} (before hash : Bool) (inside : Inside byt
   gives-frame ds g =
       λ i. record { groups = bits-injective (modulate before ds).groups frame.groups (g.same_bits ∙ sym bits_are) i; terminated = g.same_end i }
 
-  module _ {x word i : ℕ} {found : Bool} {ws : List ℕ} (r : Reading (bits_of bytes) at before ws x i) (past : 27 ≤ i) (end : LastWord x hash word found) where
-    abbrev after : List ℕ
-    after = set ws 27 word
-
+  module _ {x i : ℕ} {ws : List ℕ} (r : Reading (bits_of bytes) at before ws x i) (done : i ≡ 27) where
     abbrev whole : List Three
     whole = groups_at (bits_of bytes) at 634
 
     all_read : 13 + 23 * i ≡ 634
-    all_read = omega (arith, r.within)
+    all_read = omega arith
 
     state-is : x % 32 ≡ state_after (start before) whole
     state-is = r.state ∙ ap (λ (n : ℕ). state_after (start before) (groups_at (bits_of bytes) at n)) all_read
 
-    words_are : Words after
-    words_are = words-set ws 27 word (omega arith) r.words end.below
+    accepted : accepts (start before) whole hash ≡ eqb (ending (x % 32) hash % 2) 0
+    accepted = ap (λ (t : ℕ). eqb (ending t hash % 2) 0) (sym state-is)
 
-    all-joined : joined after 28 ≡ number_read (start before) 0 whole hash
+    abbrev last : ℕ
+    last = x / 32 + ending (x % 32) hash / 2
+
+    all-joined : joined (set ws 27 last) 28 ≡ number_read (start before) 0 whole hash
     all-joined =
-        let last : i ≡ 27 = omega (arith, r.within) in
-        joined-more ws 27 word (omega (arith, r.words.size))
-        ∙ ap₂ (λ (k n : ℕ). joined ws k * 70368744177664 + n) (sym last) end.number
+        joined-more ws 27 last (omega (arith, r.words.size))
+        ∙ ap (λ (k : ℕ). joined ws k * 70368744177664 + last) (sym done)
         ∙ flat (joined ws i * 70368744177664) (x / 32) (ending (x % 32) hash / 2)
         ∙ ap₂ (λ (n t : ℕ). n + ending t hash / 2) (r.number ∙ ap (λ (n : ℕ). number_after (start before) 0 (groups_at (bits_of bytes) at n)) all_read) state-is
       where
         flat : (j p q : ℕ) → j + (p + q) ≡ j + p + q
         flat j p q = omega arith
 
-    answer-is : found ≡ accepts (start before) whole hash
-    answer-is = end.answer ∙ ap (λ (t : ℕ). eqb (ending t hash % 2) 0) state-is
-
-    pub reading-all : WordsRead before there hash found after
-    reading-all = record { words = words_are; found = yes-found; none = none }
+    pub reading-all : {answer : Option (List ℕ)} → SomeIff answer (ending (x % 32) hash % 2 ≡ 0) (set ws 27 last) → IfSome answer Words → WordsRead before there hash answer
+    reading-all {answer = Some after} found fit = record { words = fit; found = gives; none = tt }
       where
-        yes-found : found ≡ true → Gives before (pairs (bits_in after)) there hash
-        yes-found accepted =
-            let s = sound before whole hash (sym answer-is ∙ accepted) in
+        gives : Gives before (pairs (bits_in after)) there hash
+        gives =
+            let s = sound before whole hash (accepted ∙ eq-eqb (ending (x % 32) hash % 2) 0 found.0) in
             let long : length s.ds ≡ 634 =
             sym (size before s.ds) ∙ ap (λ (f : Modulated). length f.groups) s.gives ∙ length-groups_at (bits_of bytes) at 634 in
-            let back : s.ds ≡ pairs (bits_in after) = sym (pairs-data_bits s.ds) ∙ ap pairs (words-bits after s.ds words_are.below long (s.number ∙ sym all-joined)) in
+            let same : joined after 28 ≡ number_read (start before) 0 whole hash = ap (λ (l : List ℕ). joined l 28) found.1 ∙ all-joined in
+            let back : s.ds ≡ pairs (bits_in after) = sym (pairs-data_bits s.ds) ∙ ap pairs (words-bits after s.ds fit.below long (s.number ∙ sym same)) in
             subst (λ (ds : List Two). Gives before ds there hash) back (gives-there s.ds s.gives)
-
-        none : found ≡ false → (ds : List Two) → Gives before ds there hash → ⊥
-        none refused ds g =
-            false≢true
-            (sym refused ∙ answer-is ∙ ap (λ (f : Modulated). accepts (start before) f.groups f.terminated) (sym (gives-frame ds g)) ∙ complete before ds)
+    reading-all {answer = None} refused fit = record { words = tt; found = tt; none = none }
+      where
+        none : (ds : List Two) → Gives before ds there hash → ⊥
+        none ds g =
+            refused
+            (eqb-true (ending (x % 32) hash % 2) 0
+            (sym accepted ∙ ap (λ (f : Modulated). accepts (start before) f.groups f.terminated) (sym (gives-frame ds g)) ∙ complete before ds))

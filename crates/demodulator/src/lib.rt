@@ -3,9 +3,9 @@
 
 pub mod steps;
 
-// Which of two frames were found.
+// The words of two frames.
 #[derive(Clone, Copy)]
-pub struct Found {
-    pub first: bool,
-    pub second: bool,
+pub struct TwoWords {
+    pub first: Option<[u64; 29]>,
+    pub second: Option<[u64; 29]>,
 }

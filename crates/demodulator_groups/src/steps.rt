@@ -6,7 +6,7 @@ ghost use Rattle.automaton.specs.Automaton.{start};
 ghost use Rattle.automaton.specs.steps.Table.{two_groups, three_groups, table, After};
 
 use automaton::Table;
-use demodulator_table::steps::{flag, three_on, two_on};
+use demodulator_table::steps::{three_on, two_on};
 
 // The two groups at bit `at`.
 fn six(bytes: &[u8], at: usize) -> usize
@@ -30,10 +30,8 @@ fn run(made: &Table, bytes: &[u8], at: usize, s: u64, turns: usize) -> u64
     ensures { After (groups_at (bits_of bytes.now) at (3 * turns)) s result }
 {
     let mut x = s;
-    let mut k = 0;
-    while k < turns {
+    for k in 0..turns {
         x = three_on(made, x, nine(bytes, at + 9 * k));
-        k += 1;
     }
     x
 }
@@ -52,7 +50,7 @@ pub fn begin(made: &Table, bytes: &[u8], at: usize, before: bool) -> u64
     requires { (made.now ≡ table) × Inside bytes.now at 13 }
     ensures { After (groups_at (bits_of bytes.now) at 13) (start before) result }
 {
-    let x = run(made, bytes, at, flag(before), 3);
+    let x = run(made, bytes, at, u64::from(before), 3);
     let y = two_on(made, x, six(bytes, at + 27));
     two_on(made, y, six(bytes, at + 33))
 }

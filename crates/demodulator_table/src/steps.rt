@@ -1,5 +1,5 @@
 // The table, entry by entry, and its steps.
-ghost use Rattle.std.specs.Prelude.{cond, ◌≡◌, ◌%◌, ◌<◌, ◌≤◌, length};
+ghost use Rattle.std.specs.Prelude.{◌≡◌, ◌%◌, ◌<◌, ◌≤◌, length};
 ghost use Rattle.automaton.specs.Automaton.{transitions, ending};
 ghost use Rattle.automaton.specs.steps.Table.{two_groups, three_groups, more, table_entry, table, Twos, After};
 
@@ -37,10 +37,8 @@ fn fill_twos(ones: &[u16; 144], made: &mut Table)
     requires { (ones.now ≡ transitions) × (length made.old ≡ 10368) }
     ensures { Twos made.new }
 {
-    let mut k = 0;
-    while k < 1152 {
+    for k in 0..1152usize {
         made[k] = two_at(ones, k);
-        k += 1;
     }
 }
 
@@ -51,25 +49,9 @@ pub fn fill_table(made: &mut Table)
 {
     let ones = automaton_tables::steps::transitions();
     fill_twos(&ones, made);
-    let mut k = 1152;
-    while k < 10368 {
-        let entry = three_at(&ones, made, k);
-        made[k] = entry;
-        k += 1;
+    for k in 1152..10368usize {
+        made[k] = three_at(&ones, made, k);
     }
-}
-
-// Room for the table, for its caller to hold.
-pub fn no_table() -> Table
-    ensures { length result ≡ 10368 }
-{
-    [0u16; 10368]
-}
-
-fn wide(a: u16) -> u64
-    ensures { (result ≡ a) × (result < 65536) }
-{
-    a as u64
 }
 
 // Three groups v more.
@@ -77,7 +59,7 @@ pub fn three_on(made: &Table, x: u64, v: usize) -> u64
     requires { (made.now ≡ table) × ((v < 512) × ((x % 32 < 18) × (x < 9007199254740992))) }
     ensures { After (three_groups v) x result }
 {
-    x / 32 * 2048 + wide(made[1152 + 18 * v + (x % 32) as usize])
+    x / 32 * 2048 + u64::from(made[1152 + 18 * v + (x % 32) as usize])
 }
 
 // Two groups v more.
@@ -85,14 +67,7 @@ pub fn two_on(made: &Table, x: u64, v: usize) -> u64
     requires { (made.now ≡ table) × ((v < 64) × ((x % 32 < 18) × (x < 9007199254740992))) }
     ensures { After (two_groups v) x result }
 {
-    x / 32 * 512 + wide(made[18 * v + (x % 32) as usize])
-}
-
-// 1 for true.
-pub fn flag(b: bool) -> u64
-    ensures { (result ≡ cond b 1 0) × (result < 2) }
-{
-    if b { 1 } else { 0 }
+    x / 32 * 512 + u64::from(made[18 * v + (x % 32) as usize])
 }
 
 // What the frame's end adds in state s.
@@ -101,5 +76,5 @@ pub fn ending(s: u64, hash: bool) -> u64
     ensures { (result ≡ ending s hash) × (result < 65536) }
 {
     let ends = automaton_tables::steps::ends();
-    wide(ends[(2 * s + flag(hash)) as usize])
+    u64::from(ends[(2 * s + u64::from(hash)) as usize])
 }

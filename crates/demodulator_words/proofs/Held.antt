@@ -1,13 +1,15 @@
 -- What is held between two words: its pending bits are zeros, and what later groups add to them does not carry out of the word.
 -- Assumes nothing.
 use mathlib.Core.List.{List, [], ◌∷◌}
-use mathlib.Core.Bool.{Bool, true, false}
-use mathlib.Core.Path.{◌≡◌, sym, ap, ap₂, subst, ◌∙◌}
-use Prim.Native.Nat.{ℕ, ◌+◌, ◌*◌, ◌-◌, ◌/◌, ◌%◌, ◌^◌, ◌<◌, ◌≤◌}
+use mathlib.Core.Bool.{Bool, true, false, true≢false}
+use mathlib.Core.Path.{◌≡◌, refl, sym, ap, ap₂, subst, ◌∙◌}
+use Prim.Native.Nat.{ℕ, ◌+◌, ◌*◌, ◌/◌, ◌%◌, ◌^◌, ◌<◌, ◌≤◌}
 use native.Mathlib.Omega.{arith}
-use borrow.Author.Tests.{eq-eqb}
+use borrow.Author.Tests.{eq-eqb, eqb-true}
 use lib.Dec.{T, eqb, eqb→eq, leb, leb→le, ltb, ltb→lt}
 use lib.ListN.{length}
+use Rattle.std.specs.Prelude.{Option, Some, None}
+use Rattle.std.specs.Bool.{then_some}
 use Rattle.laws.proofs.Finite.{all, all-at, all₂, all₂-at, all₃, all₃-at}
 use Rattle.modulation.specs.Modulation.{Three, three_number}
 use Rattle.laws.proofs.Booleans.{implies, given}
@@ -117,13 +119,19 @@ next_word {gs} {x} {y} h long a =
     flat p y = omega arith
 
 -- the end gives the last one
-pub last_word : {x e : ℕ} {hash : Bool} → Held x → e ≡ ending (x % 32) hash → LastWord x hash (x / 32 + e / 2) (eqb (e % 2) 0)
-last_word {x} {e} {hash} h is =
-    record {
-      number = ap (λ (n : ℕ). x / 32 + n / 2) is;
-      answer = ap (λ (n : ℕ). eqb (n % 2) 0) is;
-      below = omega (arith, room, aligned-room (x % 32) (x / 32) h.state (omega (arith, h.below)) h.pending);
-    }
+pub last_word : {x e : ℕ} {hash : Bool} {answer : Option ℕ} → Held x → e ≡ ending (x % 32) hash → answer ≡ then_some (eqb (e % 2) 0) (x / 32 + e / 2) → LastWord x hash answer
+last_word {x} {e} {hash} {answer} h is given = by (eqb (e % 2) 0) refl
   where
     room : e / 2 < limit (x % 32)
     room = subst (λ (n : ℕ). n / 2 < limit (x % 32)) (sym is) (ending-room (x % 32) hash h.state)
+
+    by : (b : Bool) → eqb (e % 2) 0 ≡ b → LastWord x hash answer
+    by true t =
+        let some : answer ≡ Some (x / 32 + e / 2) = given ∙ rw t in
+        rw some (record {
+          word = (omega (arith, is, eqb-true (e % 2) 0 t), ap (λ (n : ℕ). x / 32 + n / 2) is);
+          below = omega (arith, room, aligned-room (x % 32) (x / 32) h.state (omega (arith, h.below)) h.pending);
+        })
+    by false f =
+        let none : answer ≡ None = given ∙ rw f in
+        rw none (record { word = λ even. true≢false (sym (eq-eqb (e % 2) 0 (omega (arith, is, even))) ∙ f); below = tt })

@@ -9,10 +9,3 @@ pub struct Next {
     pub word: u64,
     pub held: u64,
 }
-
-// The frame's last word, and whether a frame may end so.
-#[derive(Clone, Copy)]
-pub struct Last {
-    pub word: u64,
-    pub found: bool,
-}

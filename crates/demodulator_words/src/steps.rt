@@ -5,7 +5,7 @@ ghost use Rattle.modulation.specs.steps.Groups.{Inside, groups_at};
 ghost use Rattle.automaton.specs.steps.Table.{table};
 ghost use Rattle.demodulator_words.specs.steps.Held.{Held, NextWord, LastWord};
 
-use crate::{Last, Next};
+use crate::Next;
 use automaton::Table;
 use demodulator_groups::steps::segment;
 use demodulator_table::steps::ending;
@@ -25,14 +25,11 @@ pub fn next_word(made: &Table, bytes: &[u8], at: usize, i: usize, x: u64) -> Nex
     }
 }
 
-// What is held, with what the frame's end adds.
-pub fn last_word(x: u64, hash: bool) -> Last
+// The frame's last word, if a frame may end so: what is held, with what the end adds.
+pub fn last_word(x: u64, hash: bool) -> Option<u64>
     requires { Held x }
-    ensures { LastWord x hash result.word result.found }
+    ensures { LastWord x hash result }
 {
     let end = ending(x % 32, hash);
-    Last {
-        word: x / 32 + end / 2,
-        found: end % 2 == 0,
-    }
+    (end % 2 == 0).then_some(x / 32 + end / 2)
 }

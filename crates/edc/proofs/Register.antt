@@ -15,7 +15,8 @@ use Rattle.big_endian.proofs.Words.{number-of-eight}
 use Rattle.edc.specs.Edc.{edc_of}
 use Rattle.edc.proofs.Division.{Leaves, leaves-self, leaves-add, leaves-one, leaves-multiple, multiple-leaves, multiple-scaled}
 use Rattle.edc.proofs.Detection.{edc-leaves, edc-lt}
-use Rattle.edc.proofs.Quotient.{folded, folded-xor, folded_low, unsummed, sums_raised, raised-sums, low_of, high_of, low-leaves, high_small, carried, carried_twice, quotient_by_g, quotient-high}
+use Rattle.bit_sums.proofs.Folded.{folded, folded-xor, folded_low, unsummed}
+use Rattle.edc.proofs.Quotient.{sums_raised, raised-sums, low_of, high_of, low-leaves, high_small, carried, carried_twice, quotient_by_g, quotient-high}
 
 -- the bytes l and their code, k bits higher, are a multiple of G(x)
 over : (l : List ℕ) (k : ℕ) → Leaves (bit_xor (number (bits_of l) * 2 ^ 32) (edc_of l) * 2 ^ k) 0

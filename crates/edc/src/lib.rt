@@ -17,8 +17,8 @@ pub fn edc(bytes: &[u8]) -> u32
     for k in 0..eights {
         register = steps::eight_more(register, double_word_at(bytes, 8 * k));
     }
-    for k in 8 * eights..bytes.len() {
-        register = steps::byte_more(register, bytes[k]);
+    for &byte in &bytes[8 * eights..] {
+        register = steps::byte_more(register, byte);
     }
     register
 }

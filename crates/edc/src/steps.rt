@@ -4,7 +4,7 @@ ghost use Rattle.std.specs.Int.Bits.{bit_xor};
 ghost use Rattle.big_endian.specs.Words.{eight_bytes};
 ghost use Rattle.edc.specs.Edc.{edc_of};
 
-use big_endian::steps::wide;
+use bit_sums::steps::sums;
 
 // The register before the first byte.
 pub const FIRST: u32 = 0;
@@ -14,18 +14,6 @@ fn low(v: u64) -> u32
     ensures { result ≡ v % 2 ^ 32 }
 {
     (v % 0x1_0000_0000) as u32
-}
-
-// The number that, with itself one bit lower, has the exclusive or w: its bit i is the sum of bits i and above of w.
-fn sums(w: u64) -> u64
-    ensures { bit_xor result (result / 2) ≡ w }
-{
-    let a = w ^ (w >> 1);
-    let b = a ^ (a >> 2);
-    let c = b ^ (b >> 4);
-    let d = c ^ (c >> 8);
-    let e = d ^ (d >> 16);
-    e ^ (e >> 32)
 }
 
 // The sum of all bits of w, in each of 32 bits: so the sums go on where 32 zeros follow w.
@@ -47,7 +35,7 @@ fn below(q: u32) -> u32
 pub fn eight_more(register: u32, eight: u64) -> u32
     ensures { (bytes : List ℕ) → register ≡ edc_of bytes → result ≡ edc_of (bytes ++ eight_bytes eight) }
 {
-    let v = wide(register) * 0x1_0000_0000 ^ eight;
+    let v = u64::from(register) * 0x1_0000_0000 ^ eight;
     let s = low(sums(eight)) ^ sum_below(register);
     // G(x) is x^31 (x + 1) + (x^4 + 1). Sums divide by x + 1; x^4 + 1 brings v in 28 and 30 bits lower, and these again 56, 57, 60 and 61.
     let q = s ^ low((v >> 28) ^ (v >> 30)) ^ low(((v >> 56) ^ (v >> 60)) ^ ((v >> 57) ^ (v >> 61)));
@@ -58,6 +46,6 @@ pub fn eight_more(register: u32, eight: u64) -> u32
 pub fn byte_more(register: u32, byte: u8) -> u32
     ensures { (bytes : List ℕ) → register ≡ edc_of bytes → result ≡ edc_of (bytes ++ (byte ∷ [])) }
 {
-    let q = low(sums(wide(register >> 24) ^ byte as u64));
+    let q = low(sums(u64::from(register >> 24) ^ u64::from(byte)));
     below(q) ^ (register << 8)
 }

@@ -4,20 +4,15 @@
 
 use address::Psn;
 use console::Complaints;
-use notation::{FirstText, PsnText};
 use std::process::ExitCode;
 use std::rt::{Env, Files};
 use texts::Text;
 
 // IMAGE is none of the files that are read.
 fn names_apart(rt: &(impl Env + Complaints)) -> bool {
-    if !console::not_over(rt, 2, 5) {
-        return false;
-    }
-    if !console::not_over_unless_dash(rt, 3, 5) {
-        return false;
-    }
-    console::not_over_unless_dash(rt, 4, 5)
+    console::not_over(rt, 2, 5)
+        && console::not_over_unless_dash(rt, 3, 5)
+        && console::not_over_unless_dash(rt, 4, 5)
 }
 
 // The user bytes, the side data and the bytes of the dc words.
@@ -27,23 +22,18 @@ fn load(
     side: &mut [u8],
     dc: &mut [u8],
 ) -> bool {
-    if !console::load(rt, 2, user) {
-        return false;
-    }
-    if !console::load_unless_dash(rt, 3, side) {
-        return false;
-    }
-    console::load_unless_dash(rt, 4, dc)
+    console::load(rt, 2, user)
+        && console::load_unless_dash(rt, 3, side)
+        && console::load_unless_dash(rt, 4, dc)
 }
 
 // The image gets its name only when all of it is written; then the answer is said.
 fn save(rt: &(impl Print + Env + Files + Complaints), image: &[u8], text: Text) -> ExitCode {
-    if console::write_part(rt, 5, image) {
-        if console::keep_part(rt, 5) {
-            return console::print_last(rt, text);
-        }
+    if console::write_part(rt, 5, image) && console::keep_part(rt, 5) {
+        console::print_last(rt, text)
+    } else {
+        ExitCode::SUCCESS
     }
-    ExitCode::SUCCESS
 }
 
 fn write(
@@ -54,59 +44,49 @@ fn write(
     dc: &[u8],
     first: bool,
 ) -> ExitCode {
-    let mut image = buffers::image_bytes();
+    let mut image: [u8; sizes::IMAGE] = buffers::zeros();
     let said = encoding::encode(psn, user, side, dc, first, &mut image);
-    let text = said.text;
     if said.keep {
-        return save(rt, &image, text);
+        save(rt, &image, said.text)
+    } else {
+        console::print_last(rt, said.text)
     }
-    console::print_last(rt, text)
 }
 
 fn encode(rt: &(impl Print + Env + Files + Complaints), psn: Psn, first: bool) -> ExitCode {
-    let mut user = buffers::user_bytes();
-    let mut side = buffers::side_bytes();
-    let mut dc = buffers::dc_bytes();
+    let mut user: [u8; sizes::USER] = buffers::zeros();
+    let mut side: [u8; sizes::SIDE] = buffers::zeros();
+    let mut dc: [u8; sizes::DC] = buffers::zeros();
     if load(rt, &mut user, &mut side, &mut dc) {
-        return write(rt, psn, &user, &side, &dc, first);
+        write(rt, psn, &user, &side, &dc, first)
+    } else {
+        ExitCode::SUCCESS
     }
-    ExitCode::SUCCESS
 }
 
 fn run(rt: &(impl Print + Env + Files + Complaints), first: bool) -> ExitCode {
     let mut text = [0u8; 4096];
     let n = console::argument(rt, 1, &mut text);
-    let psn = notation::psn_of(&text[..n]);
-    match psn {
-        PsnText::Number(psn) => {
-            if names_apart(rt) {
-                return encode(rt, psn, first);
-            }
-            ExitCode::SUCCESS
-        }
-        PsnText::NoNumber => {
-            console::print_usage(rt, b"usage: a PSN is eight hexadecimal digits\n")
-        }
+    match notation::psn_of(&text[..n]) {
+        Some(psn) if names_apart(rt) => encode(rt, psn, first),
+        Some(_) => ExitCode::SUCCESS,
+        None => console::print_usage(rt, b"usage: a PSN is eight hexadecimal digits\n"),
     }
 }
 
 fn run_with_first(rt: &(impl Print + Env + Files + Complaints)) -> ExitCode {
     let mut text = [0u8; 4096];
     let n = console::argument(rt, 6, &mut text);
-    let first = notation::first_of(&text[..n]);
-    match first {
-        FirstText::Hash(first) => run(rt, first),
-        FirstText::NoHash => console::print_usage(rt, b"usage: FIRST is 0 or 1\n"),
+    match notation::first_of(&text[..n]) {
+        Some(first) => run(rt, first),
+        None => console::print_usage(rt, b"usage: FIRST is 0 or 1\n"),
     }
 }
 
 fn main(rt: HostRuntime) -> ExitCode {
-    let count = console::argument_count(&rt);
-    if count == 6 {
-        return run(&rt, false);
+    match console::argument_count(&rt) {
+        6 => run(&rt, false),
+        7 => run_with_first(&rt),
+        _ => console::print_usage(&rt, b"usage: encode PSN USER SIDE DC IMAGE [FIRST]\n"),
     }
-    if count == 7 {
-        return run_with_first(&rt);
-    }
-    console::print_usage(&rt, b"usage: encode PSN USER SIDE DC IMAGE [FIRST]\n")
 }

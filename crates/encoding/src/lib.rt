@@ -19,7 +19,7 @@ fn encode_words(
     ensures { record { keep = result.keep; text = result.text; image = image.new }
         ≡ encoded_words psn.0 user.now side.now words.now first image.old }
 {
-    let mut work = buffers::work_bytes();
+    let mut work: [u8; sizes::WORK] = buffers::zeros();
     let answer = writer::write_image(user, psn, side, words, first, image, &mut work);
     Said {
         keep: answer.is_done(),

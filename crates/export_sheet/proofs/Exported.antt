@@ -4,7 +4,6 @@ use mathlib.Core.List.{List}
 use mathlib.Core.Logic.{◌↔◌}
 use Prim.Native.Nat.{ℕ}
 use lib.ListN.{length}
-use Rattle.laws.proofs.Fill.{Upto}
 use Rattle.laws.proofs.Tabulate.{get_d_tabulate}
 use Rattle.answer.specs.declared.Answer.{Answer}
 use Rattle.answer.specs.Answer.{number_of}
@@ -16,10 +15,6 @@ use Rattle.address_sheet.proofs.Statements.{sheet-iff, same-sheet}
 use Rattle.answer_numbers.specs.declared.Answered.{Answered}
 use Rattle.answer_numbers.specs.Numbers.{answered}
 use Rattle.export_sheet.specs.Exported.{given_psn, given_psns}
-
--- in a loop: the first i numbers are PSNs
-abbrev pub NumbersTaken : List ℕ → ℕ → List Psn → Type 0
-NumbersTaken given i psns = Upto (record { 0 = 0 }) (λ k. record { 0 = given_psn given k }) 64 i psns
 
 -- the sheet of the PSNs is that of the numbers
 as-numbers : (given : List ℕ) → sheet_answer (length given) (entry_psn (given_psns given)) ≡ sheet_answer (length given) (given_psn given)

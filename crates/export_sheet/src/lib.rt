@@ -9,28 +9,20 @@ ghost use Rattle.export_sheet.specs.Exported.{given_psn, given_psns};
 
 use address::Psn;
 use answer_numbers::Answered;
+use std::array;
 
 // Number i, 0 where there is none.
 fn number_at(given: &[u32], i: usize) -> u32
     ensures { result ≡ given_psn given.now i }
 {
-    if i < given.len() {
-        return given[i];
-    }
-    0
+    given.get(i).copied().unwrap_or(0)
 }
 
 // The first 64 numbers as PSNs.
 fn psns_of(given: &[u32]) -> [Psn; address_sheet::SHEET]
     ensures { result ≡ given_psns given.now }
 {
-    let mut psns = [Psn(0); address_sheet::SHEET];
-    let mut i = 0;
-    while i < address_sheet::SHEET {
-        psns[i] = Psn(number_at(given, i));
-        i += 1;
-    }
-    psns
+    array::from_fn(|i| Psn(number_at(given, i)))
 }
 
 // Judges a sheet of PSNs.

@@ -1,11 +1,10 @@
 // `count` pairs are given as the number of their bits.
-ghost use Rattle.std.specs.Prelude.{false, ◌≡◌, ◌*◌, ◌%◌, ◌^◌, ◌<◌, ◌≤◌, length};
+ghost use Rattle.std.specs.Prelude.{false, ◌≡◌, ◌*◌, ◌%◌, ◌^◌, ◌<◌, ◌≤◌, length, SomeIff};
 ghost use mathlib.Core.List.{tail};
 ghost use Rattle.modulation.specs.Modulation.{two_number, row_at, starts, starts_with010, allowed, fits, modulate_from, modulate};
-ghost use Rattle.conversion.specs.steps.Rows.{packed_rows};
 ghost use Rattle.conversion.specs.steps.Few.{few_pairs, standing_row, Fitting, BitsGiven};
 
-use conversion::{Few, PackedRows, When};
+use conversion::{Few, When};
 
 // The last `count` pairs.
 fn last_pairs(count: usize, pairs: u32) -> u32
@@ -16,92 +15,71 @@ fn last_pairs(count: usize, pairs: u32) -> u32
 }
 
 // Whether the pairs of row k stand first.
-fn pairs_stand(rows: &PackedRows, k: usize, count: usize, pairs: u32) -> bool
-    requires { ((rows.now ≡ packed_rows) × (k < 16)) × ((count ≤ 6) × (pairs < 2 ^ (2 * count))) }
+fn pairs_stand(k: usize, count: usize, pairs: u32) -> bool
+    requires { (k < 16) × ((count ≤ 6) × (pairs < 2 ^ (2 * count))) }
     ensures { result ≡ starts two_number (row_at k).pairs (few_pairs count pairs) }
 {
-    let r = conversion_rows::steps::row_at(rows, k);
-    if count < r.0 {
+    let r = conversion_rows::steps::row_at(k);
+    if count < r.pairs {
         return false;
     }
-    pairs >> (2 * (count - r.0)) == r.1 as u32
+    pairs >> (2 * (count - r.pairs)) == r.data_bits as u32
 }
 
-// The first row whose pairs stand first, or 16.
-fn standing_row(rows: &PackedRows, count: usize, pairs: u32) -> usize
-    requires { (rows.now ≡ packed_rows) × ((count ≤ 6) × (pairs < 2 ^ (2 * count))) }
-    ensures { result ≡ standing_row (few_pairs count pairs) }
+// The first row whose pairs stand first.
+fn standing_row(count: usize, pairs: u32) -> Option<usize>
+    requires { (count ≤ 6) × (pairs < 2 ^ (2 * count)) }
+    ensures { SomeIff result (standing_row (few_pairs count pairs) < 16) (standing_row (few_pairs count pairs)) }
 {
-    let mut k = 0;
-    while k < 16 {
-        if pairs_stand(rows, k, count, pairs) {
-            return k;
-        }
-        k += 1;
-    }
-    k
+    (0..16).find(|&k| pairs_stand(k, count, pairs))
 }
 
 // Whether the modulation bits of the pairs start with 010. Conditions do not change that: the first row that stands there decides it.
-fn starts_with_010(rows: &PackedRows, count: usize, pairs: u32) -> bool
-    requires { (rows.now ≡ packed_rows) × ((count ≤ 6) × (pairs < 2 ^ (2 * count))) }
+fn starts_with_010(count: usize, pairs: u32) -> bool
+    requires { (count ≤ 6) × (pairs < 2 ^ (2 * count)) }
     ensures { result ≡ starts_with010 (modulate false (few_pairs count pairs)).groups }
 {
-    let k = standing_row(rows, count, pairs);
-    if k < 16 {
-        conversion_rows::steps::leads_010(rows, k)
-    } else {
-        false
+    match standing_row(count, pairs) {
+        Some(k) => conversion_rows::steps::leads_010(k),
+        None => false,
     }
 }
 
 // Whether the condition of row k, whose pairs stand first, holds after the bit before.
-fn allowed_at(rows: &PackedRows, k: usize, count: usize, pairs: u32, before: bool) -> bool
-    requires { ((rows.now ≡ packed_rows) × (k < 16)) × ((count ≤ 6) × ((pairs < 2 ^ (2 * count)) × (length (row_at k).pairs ≤ count))) }
+fn allowed_at(k: usize, count: usize, pairs: u32, before: bool) -> bool
+    requires { (k < 16) × ((count ≤ 6) × ((pairs < 2 ^ (2 * count)) × (length (row_at k).pairs ≤ count))) }
     ensures { result ≡ allowed (row_at k) (row_at k).when before (few_pairs count pairs) (modulate_from (tail (few_pairs count pairs))) }
 {
-    let r = conversion_rows::steps::row_at(rows, k);
-    let len = r.0;
-    let when = r.3;
-    match when {
+    let r = conversion_rows::steps::row_at(k);
+    let len = r.pairs;
+    match r.when {
         When::Always => true,
         When::AfterOne => before,
         When::AfterZero => !before,
-        When::Before010 => starts_with_010(rows, count - len, last_pairs(count - len, pairs)),
+        When::Before010 => starts_with_010(count - len, last_pairs(count - len, pairs)),
         When::AtEnd => len == count,
     }
 }
 
 // Whether row k fits, after the bit before.
-fn fits_at(rows: &PackedRows, k: usize, count: usize, pairs: u32, before: bool) -> bool
-    requires { ((rows.now ≡ packed_rows) × (k < 16)) × ((count ≤ 6) × (pairs < 2 ^ (2 * count))) }
+fn fits_at(k: usize, count: usize, pairs: u32, before: bool) -> bool
+    requires { (k < 16) × ((count ≤ 6) × (pairs < 2 ^ (2 * count))) }
     ensures { result ≡ fits (row_at k) before (few_pairs count pairs) (modulate_from (tail (few_pairs count pairs))) }
 {
-    if pairs_stand(rows, k, count, pairs) {
-        allowed_at(rows, k, count, pairs, before)
-    } else {
-        false
-    }
+    pairs_stand(k, count, pairs) && allowed_at(k, count, pairs, before)
 }
 
 // The row of the first word, after the bit before: the first that fits.
-fn fitting_row(rows: &PackedRows, count: usize, pairs: u32, before: bool) -> usize
-    requires { (rows.now ≡ packed_rows) × (((0 < count) × (count ≤ 6)) × (pairs < 2 ^ (2 * count))) }
+fn fitting_row(count: usize, pairs: u32, before: bool) -> usize
+    requires { ((0 < count) × (count ≤ 6)) × (pairs < 2 ^ (2 * count)) }
     ensures { Fitting before count pairs result }
 {
-    let mut k = 0;
-    while k < 16 {
-        if fits_at(rows, k, count, pairs, before) {
-            return k;
-        }
-        k += 1;
-    }
-    k
+    (0..16).find(|&k| fits_at(k, count, pairs, before)).unwrap()
 }
 
 // At most six pairs modulated after the bit before, as if the frame ended there.
-pub fn modulate(rows: &PackedRows, count: usize, pairs: u32, before: bool) -> Few
-    requires { (rows.now ≡ packed_rows) × ((count ≤ 6) × (pairs < 2 ^ (2 * count))) }
+pub fn modulate(count: usize, pairs: u32, before: bool) -> Few
+    requires { (count ≤ 6) × (pairs < 2 ^ (2 * count)) }
     ensures { BitsGiven (modulate before (few_pairs count pairs)) result.value result.terminated }
 {
     let mut value = 0;
@@ -110,11 +88,11 @@ pub fn modulate(rows: &PackedRows, count: usize, pairs: u32, before: bool) -> Fe
     let mut left = count;
     let mut rest = pairs;
     while 0 < left {
-        let k = fitting_row(rows, left, rest, bit);
-        value = conversion_rows::steps::followed(rows, value, k);
-        terminated |= conversion_rows::steps::is_terminating(rows, k);
-        bit = conversion_rows::steps::ends_in_one(rows, k);
-        left -= conversion_rows::steps::row_len(rows, k);
+        let k = fitting_row(left, rest, bit);
+        value = conversion_rows::steps::followed(value, k);
+        terminated |= conversion_rows::steps::is_terminating(k);
+        bit = conversion_rows::steps::ends_in_one(k);
+        left -= conversion_rows::steps::row_len(k);
         rest = last_pairs(left, rest);
     }
     Few { value, terminated }

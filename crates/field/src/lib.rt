@@ -11,20 +11,12 @@ use field_tables::{logs, powers};
 #[derive(Clone, Copy)]
 pub struct Gf(pub u8);
 
-// A byte as an index or a part of one.
-fn wide(a: u8) -> usize
-    ensures { (result ≡ a) × (result < 256) }
-{
-    a as usize
-}
-
 // The logarithm of a, in a table of logarithms. Zero has none, and its entry is not read.
 fn log_in(logs: &[u8; 256], a: u8) -> usize
     requires { 0 < a }
     ensures { (result ≡ get_or logs.now a 0) × (result < 256) }
 {
-    let i = a as usize;
-    wide(logs[i])
+    usize::from(logs[usize::from(a)])
 }
 
 impl Gf {

@@ -17,14 +17,12 @@ fn shift_and_add(a: u8, b: u8) -> u8 {
     let mut term = a;
     let mut bits = b;
     let mut total = 0u8;
-    let mut i = 0u8;
-    while i < 8 {
+    for _ in 0..8 {
         if bits % 2 == 1 {
-            total = total ^ term;
+            total ^= term;
         }
         term = double(term);
-        bits = bits / 2;
-        i += 1;
+        bits /= 2;
     }
     total
 }
@@ -32,15 +30,12 @@ fn shift_and_add(a: u8, b: u8) -> u8 {
 // How many of the 65,536 products differ.
 fn products_differing() -> u64 {
     let mut count: u64 = 0;
-    let mut n: u64 = 0;
-    while n < 65536 {
-        let a = (n / 256 % 256) as u8;
-        let b = (n % 256) as u8;
-        let p = Gf(a).product(Gf(b));
-        if p.0 != shift_and_add(a, b) {
-            count += 1;
+    for a in 0..=255u8 {
+        for b in 0..=255u8 {
+            if Gf(a).product(Gf(b)).0 != shift_and_add(a, b) {
+                count = count.saturating_add(1);
+            }
         }
-        n += 1;
     }
     count
 }
@@ -48,14 +43,10 @@ fn products_differing() -> u64 {
 // How many elements other than 0 do not give 1 with their inverse.
 fn inverses_wrong() -> u64 {
     let mut count: u64 = 0;
-    let mut n: u64 = 1;
-    while n < 256 {
-        let a = (n % 256) as u8;
-        let i = Gf(a).inverse();
-        if shift_and_add(a, i.0) != 1 {
-            count += 1;
+    for a in 1..=255u8 {
+        if shift_and_add(a, Gf(a).inverse().0) != 1 {
+            count = count.saturating_add(1);
         }
-        n += 1;
     }
     count
 }
@@ -63,13 +54,11 @@ fn inverses_wrong() -> u64 {
 // All products as the digits of one number to the base 31, modulo 2^32.
 fn digest() -> u64 {
     let mut d: u64 = 0;
-    let mut n: u64 = 0;
-    while n < 65536 {
-        let a = (n / 256 % 256) as u8;
-        let b = (n % 256) as u8;
-        let p = Gf(a).product(Gf(b));
-        d = (d % 0x1_0000_0000 * 31 + p.0 as u64) % 0x1_0000_0000;
-        n += 1;
+    for a in 0..=255u8 {
+        for b in 0..=255u8 {
+            let p = Gf(a).product(Gf(b));
+            d = (d % 0x1_0000_0000 * 31 + u64::from(p.0)) % 0x1_0000_0000;
+        }
     }
     d
 }

@@ -12,7 +12,7 @@ fn pair(text: &[u8], a: usize, b: usize) {
 
 // Figure 23: d k,F; Figure 31: UC j,S.
 pub fn input_cell(bis: bool, row: usize, column: usize) {
-    let found = clusters::found(bis, row, column);
+    let found = clusters::found(bis, row, column).unwrap_or(66256);
     if found < 65680 {
         pair(b"d", found % 2052, found / 2052);
     } else {
@@ -28,25 +28,20 @@ fn word_with(at: usize) -> usize {
     compare::flip(&mut work, at, 1);
     let mut table = remainders::steps::no_remainders();
     remainders::steps::fill_remainders(&mut table);
-    ldc_reader::steps::first_wrong_word(&table, &work)
+    ldc_reader::steps::first_wrong_word(&table, &work).unwrap_or(304)
 }
 
-// The byte of a code word that stands in a row and a column of the LDC cluster, or 248.
-fn byte_of(word: usize, row: usize, column: usize) -> usize {
-    for n in 0..248usize {
+// The byte of a code word that stands in a row and a column of the LDC cluster.
+fn byte_of(word: usize, row: usize, column: usize) -> Option<usize> {
+    (0..248).find(|&n| {
         let place = ldc::steps::locate(word % 304, n);
-        if place.row == row {
-            if place.column == column {
-                return n;
-            }
-        }
-    }
-    248
+        place.row == row && place.column == column
+    })
 }
 
 pub fn ldc_cell(row: usize, column: usize) {
     let word = word_with(clusters::ldc_index(row, column));
-    let byte = byte_of(word, row, column);
+    let byte = byte_of(word, row, column).unwrap_or(248);
     if byte < 216 {
         pair(b"e", byte, word);
     } else {
@@ -56,37 +51,32 @@ pub fn ldc_cell(row: usize, column: usize) {
 
 // ---- Figures 34 and 35: N,C
 
-// The first byte of a block that is not zero, as 62 C + N, or 1,488.
-fn first_in(block: bis::Block) -> usize {
-    for k in 0..1488usize {
-        if block[k / 62][k % 62] != 0 {
-            return k;
-        }
-    }
-    1488
+// The first byte of a block that is not zero, as 62 C + N.
+fn first_in(block: bis::Block) -> Option<usize> {
+    (0..1488).find(|&k| block[k / 62][k % 62] != 0)
 }
 
 // The byte of the BIS block that stands at a place of the cluster.
-fn bis_byte(at: usize) -> usize {
+fn bis_byte(at: usize) -> Option<usize> {
     let mut work = clusters::no_work();
     compare::flip(&mut work, at, 1);
     first_in(clusters::block_in(work))
 }
 
 // The same in a row and a column of the BIS cluster.
-fn bis_byte_in(row: usize, column: usize) -> usize {
+fn bis_byte_in(row: usize, column: usize) -> Option<usize> {
     bis_byte(155 * (row % 496) + 39 * (column % 3) + 38)
 }
 
 pub fn bis_cell(row: usize, column: usize) {
-    let k = bis_byte_in(row, column);
+    let k = bis_byte_in(row, column).unwrap_or(1488);
     pair(b"", k % 62, k / 62);
 }
 
 // ---- Figures 31 and 36: AF x,y
 
-// The only place of a byte in an address field, or 9.
-fn place_in(field: [u8; 9], byte: u8) -> usize {
+// The only place of a byte in an address field.
+fn place_in(field: [u8; 9], byte: u8) -> Option<usize> {
     let mut marks = [0u64; 9];
     clusters::add(&mut marks, 0, &field);
     clusters::only(&marks, hash::more(0, byte))
@@ -99,7 +89,7 @@ fn with_change(column: [u8; 62], n: usize) -> [u8; 62] {
 }
 
 // The address field that is wrong where byte n of column c is changed.
-fn wrong_field(block: bis::Block, n: usize, c: usize) -> usize {
+fn wrong_field(block: bis::Block, n: usize, c: usize) -> Option<usize> {
     let mut out = block;
     out[c % 24] = with_change(out[c % 24], n);
     bis_fields::first_wrong_field(out)
@@ -108,20 +98,19 @@ fn wrong_field(block: bis::Block, n: usize, c: usize) -> usize {
 // The address field in which byte n of column c stands, and its place there. In the cluster drawn by 7 the nine bytes of each field differ.
 pub fn address_cell(n: usize, c: usize) {
     let block = clusters::block_in(clusters::drawn(7));
-    let unit = wrong_field(block, n, c);
+    let unit = wrong_field(block, n, c).unwrap_or(16);
     let side = clusters::side(7);
     let aun = Psn(clusters::PSN).aun((unit % 16) as u32);
     let field = address_field::address_field(aun.aun, side[unit % 592]);
-    pair(b"AF", place_in(field, block[c % 24][n % 62]), unit);
+    let place = place_in(field, block[c % 24][n % 62]).unwrap_or(9);
+    pair(b"AF", place, unit);
 }
 
 // The same in a row and a column of the BIS cluster.
 pub fn unit_cell(row: usize, column: usize) {
-    let k = bis_byte_in(row, column);
-    if k < 1488 {
-        address_cell(k % 62, k / 62);
-    } else {
-        lines::number(b"no BIS byte ", k as u64);
+    match bis_byte_in(row, column) {
+        Some(k) => address_cell(k % 62, k / 62),
+        None => lines::number(b"no BIS byte ", 1488),
     }
 }
 
@@ -129,19 +118,16 @@ pub fn unit_cell(row: usize, column: usize) {
 
 // Where columns of the other kind start, or the row ends.
 fn kind_end(from: usize) -> usize {
-    let bis = bis_byte(from) < 1488;
-    for c in from..155usize {
-        if (bis_byte(c) < 1488) != bis {
-            return c;
-        }
-    }
-    155
+    let bis = bis_byte(from).is_some();
+    (from..155)
+        .find(|&c| bis_byte(c).is_some() != bis)
+        .unwrap_or(155)
 }
 
 // Whether the columns from this one on are of the LDC or the BIS cluster, and how many of one kind follow one another.
 pub fn columns(from: usize) {
     let count = std::num::wrapping_sub_usize(kind_end(from), from) as u64;
-    if bis_byte(from) < 1488 {
+    if bis_byte(from).is_some() {
         lines::number(b"BIS ", count);
     } else {
         lines::number(b"LDC ", count);

@@ -60,34 +60,23 @@ pub fn drawn(seed: u64) -> [u8; 76880]
 
 // ---- the bytes that a drawn cluster is made of: the scrambled data frames, one behind the other, then the side data
 
-// A byte hashed behind those of the clusters before.
-fn add_byte(marks: &mut [u64], at: usize, byte: u8) {
-    if at < marks.len() {
-        marks[at] = hash::more(marks[at], byte);
-    }
-}
-
-// The same of bytes from `at` on.
+// Bytes from `at` on, each hashed behind those of the clusters before.
 pub fn add(marks: &mut [u64], at: usize, bytes: &[u8]) {
-    for k in 0..bytes.len() {
-        add_byte(marks, std::num::wrapping_add_usize(at, k), bytes[k]);
+    for (mark, &byte) in marks.iter_mut().skip(at).zip(bytes) {
+        *mark = hash::more(*mark, byte);
     }
 }
 
-fn add_frame(marks: &mut [u64], f: usize, user: &[u8]) {
+fn add_frame(marks: &mut [u64], f: usize, sector: &[u8]) {
     let stream = scrambling::scrambling(Psn(PSN));
     let mut frame = [0u8; 2052];
-    sector::data_frame(
-        compare::part(user, 2048 * (f % 32), 2048 * (f % 32) + 2048),
-        &stream,
-        &mut frame,
-    );
+    sector::data_frame(sector, &stream, &mut frame);
     add(marks, 2052 * (f % 32), &frame);
 }
 
 fn add_frames(marks: &mut [u64], user: &[u8]) {
-    for f in 0..32usize {
-        add_frame(marks, f, user);
+    for (f, sector) in user.chunks_exact(2048).enumerate() {
+        add_frame(marks, f, sector);
     }
 }
 
@@ -98,18 +87,13 @@ fn add_inputs(marks: &mut [u64], seed: u64) {
     add(marks, 65664, &side);
 }
 
-// The only place of a mark, or the length.
-pub fn only(marks: &[u64], mark: u64) -> usize {
-    let mut found = marks.len();
-    for k in 0..marks.len() {
-        if marks[k] == mark {
-            if found < marks.len() {
-                return marks.len();
-            }
-            found = k;
-        }
+// The only place of a mark.
+pub fn only(marks: &[u64], mark: u64) -> Option<usize> {
+    let first = marks.iter().position(|&m| m == mark)?;
+    if marks[first + 1..].contains(&mark) {
+        return None;
     }
-    found
+    Some(first)
 }
 
 // Byte n of code word c of the LDC block, or of the BIS block; 0 where its place is outside the cluster.
@@ -125,10 +109,10 @@ fn byte_in(work: [u8; 76880], bis: bool, n: usize, c: usize) -> u8
 }
 
 // The place of the byte that a cell has in four clusters, each drawn by the hash of those before.
-pub fn found(bis: bool, n: usize, c: usize) -> usize {
+pub fn found(bis: bool, n: usize, c: usize) -> Option<usize> {
     let mut marks = [0u64; 66256];
     let mut mark = 0;
-    for k in 0..4usize {
+    for _ in 0..4 {
         add_inputs(&mut marks, mark);
         mark = hash::more(mark, byte_in(drawn(mark), bis, n, c));
     }

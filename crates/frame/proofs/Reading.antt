@@ -9,6 +9,7 @@ use borrow.Author.Tests.{eq-eqb, eqb-true}
 use lib.Dec.{eqb}
 use lib.ListN.{length, take, drop, length-drop, drop_of_length-le}
 use lib.Seq.{take_all, take_at, drop_at, length-take-le}
+use Rattle.std.specs.Prelude.{Option, Some, None}
 use Rattle.laws.specs.Bytes.{Bytes}
 use Rattle.modulation.specs.Modulation.{Two, last_bit, Modulated, modulate}
 use Rattle.modulation.specs.Bits.{pairs, data_bits, groups, bits, Gives}
@@ -24,8 +25,6 @@ use Rattle.modulation.proofs.Statements.{comes_back, injective}
 use Rattle.frame_bits.specs.FrameBits.{frame_bits, row_from, dc_from}
 use Rattle.frame.specs.Frame.{frame_pairs, next_hash}
 use Rattle.laws.specs.Same.{same}
-use Rattle.frame.specs.declared.FrameRead.{FrameRead}
-use Rattle.frame.specs.declared.FrameRead.TheVariants.{Found, NoFrame}
 use Rattle.frame.specs.Reading.{BitsGive, RowGives, StrictlyRead, bits_read, readable, frame_read, row_left}
 use Rattle.frame.specs.steps.Taken.{Taken}
 use Rattle.laws.proofs.Same.{same_true, same_refl}
@@ -136,14 +135,20 @@ readable-iff n m hash = (λ e. (bits_read n m hash, readable-gives n m hash e), 
 
 -- ---- the reader's answer
 
-module _ {n : FS} {m : List ℕ} {hash : Bool} {before after : List ℕ} {answer : FrameRead} (r : StrictlyRead n m hash before answer after) where
+pub some-is : {x y : ℕ} → Some x ≡ Some y → x ≡ y
+some-is e = cc
+
+pub no_some : {x : ℕ} → Some x ≡ None → ⊥
+no_some e = cc
+
+module _ {n : FS} {m : List ℕ} {hash : Bool} {before after : List ℕ} {answer : Option ℕ} (r : StrictlyRead n m hash before answer after) where
   -- a row and a dc word that give m and # are what is answered
-  pub read-row : {row : List ℕ} {dc : ℕ} → RowGives n row dc m hash → (answer ≡ Found dc) × (after ≡ row)
+  pub read-row : {row : List ℕ} {dc : ℕ} → RowGives n row dc m hash → (answer ≡ Some dc) × (after ≡ row)
   read-row {row} {dc} g = go answer refl
     where
-      go : (a : FrameRead) → answer ≡ a → (answer ≡ Found dc) × (after ≡ row)
-      go (Found x) e = let u = row-unique (r.found x e) g in (e ∙ ap Found u.1, u.0)
-      go NoFrame e = absurd ((r.none e).1 (frame_bits row dc) (row-bits g))
+      go : (a : Option ℕ) → answer ≡ a → (answer ≡ Some dc) × (after ≡ row)
+      go (Some x) e = let u = row-unique (r.found x e) g in (e ∙ ap Some u.1, u.0)
+      go None e = absurd ((r.none e).1 (frame_bits row dc) (row-bits g))
 
   -- answer and row are those of the definition
   pub read_is : (answer ≡ frame_read n m hash) × (after ≡ row_left n m hash before)
@@ -153,73 +158,53 @@ module _ {n : FS} {m : List ℕ} {hash : Bool} {before after : List ℕ} {answer
       b : List ℕ
       b = bits_read n m hash
 
-      none : readable n m hash ≡ false → (a : FrameRead) → answer ≡ a → answer ≡ NoFrame
-      none f (Found x) e = absurd (true≢false (sym (gives-readable n m hash (row-bits (r.found x e))) ∙ f))
-      none f NoFrame e = e
+      none : readable n m hash ≡ false → (a : Option ℕ) → answer ≡ a → answer ≡ None
+      none f (Some x) e = absurd (true≢false (sym (gives-readable n m hash (row-bits (r.found x e))) ∙ f))
+      none f None e = e
 
-      go : (t : Bool) → readable n m hash ≡ t → (answer ≡ cond (readable n m hash) (Found (dc_from b)) NoFrame) × (after ≡ cond (readable n m hash) (row_from b) before)
+      go : (t : Bool) → readable n m hash ≡ t → (answer ≡ cond (readable n m hash) (Some (dc_from b)) None) × (after ≡ cond (readable n m hash) (row_from b) before)
       go true t = let u = read-row (bits-row (readable-gives n m hash t)) in rw t (u.0, u.1)
       go false t = let e = none t answer refl in rw t (e, (r.none e).0)
 
 -- ---- what the automaton answers
 
-pub found-is : (x y : ℕ) → ◌≡◌ {A = FrameRead} (Found x) (Found y) → x ≡ y
-found-is x y e = cc
-
-pub no_found : {dc : ℕ} → Found dc ≡ NoFrame → ⊥
-no_found e = let z : ◌≡◌ {A = ℕ} 0 1 = cc in omega arith
-
--- the frame taken out of the words that were read; b is the sync's last bit
-pub reads : (n : FS) {b hash x : Bool} {m ws before after : List ℕ} {answer : FrameRead} → b ≡ last_bit false (sync_id n) → WordsRead b m hash x ws
-    → Taken ws x before answer after → StrictlyRead n m hash before answer after
-reads n {b} {hash} {x} {m} {ws} {before} {after} {answer} eb d t = by x refl
+-- the frame taken out of the words that were read, if any; b is the sync's last bit
+pub reads : (n : FS) {b hash : Bool} {m before after : List ℕ} {words : Option (List ℕ)} {answer : Option ℕ} → b ≡ last_bit false (sync_id n) → WordsRead b m hash words
+    → Taken words before answer after → StrictlyRead n m hash before answer after
+reads n {b} {hash} {m} {before} {after} {words = Some ws} eb d t =
+    record {
+      found = λ v f. let same : v ≡ dc_from (bits_in ws) = some-is (sym f ∙ t.there.0) in rw (t.there.1, same) (bits-row words-give);
+      none = λ f. absurd (no_some (sym t.there.0 ∙ f));
+    }
   where
-    words-give : x ≡ true → BitsGive n (bits_in ws) m hash
-    words-give e =
+    words-give : BitsGive n (bits_in ws) m hash
+    words-give =
         record {
           size = length-words-bits ws;
           are-bits = words-bits-bits ws;
-          gives = subst (λ (y : Bool). Gives y (pairs (bits_in ws)) m hash) eb (d.found e);
+          gives = subst (λ (y : Bool). Gives y (pairs (bits_in ws)) m hash) eb d.found;
         }
-
-    by : (y : Bool) → x ≡ y → StrictlyRead n m hash before answer after
-    by true e =
-        let is = t.there e in
-        record {
-          found = λ v f. let same : v ≡ dc_from (bits_in ws) = found-is v (dc_from (bits_in ws)) (sym f ∙ is.0) in rw (is.1, same) (bits-row (words-give e));
-          none = λ f. absurd (no_found (sym is.0 ∙ f));
-        }
-    by false e =
-        let is = t.none e in
-        record {
-          found = λ dc f. absurd (no_found (sym f ∙ is.0));
-          none = λ _. (is.1, λ c g. d.none e (pairs c) (subst (λ (y : Bool). Gives y (pairs c) m hash) (sym eb) g.gives));
-        }
-
-pub taken-there : {ws before after : List ℕ} {x : Bool} {dc : ℕ} → x ≡ true → after ≡ row_from (bits_in ws) → dc ≡ dc_from (bits_in ws) → Taken ws x before (Found dc) after
-taken-there e er ed = record { there = λ _. (ap Found ed, er); none = λ f. absurd (true≢false (sym e ∙ f)) }
-
-pub taken_none : {ws before : List ℕ} {x : Bool} → x ≡ false → Taken ws x before NoFrame before
-taken_none e = record { there = λ t. absurd (true≢false (sym t ∙ e)); none = λ _. (refl, refl) }
+reads n {b} {hash} {m} {before} {after} {words = None} eb d t =
+    record {
+      found = λ dc f. absurd (no_some (sym f ∙ t.none.0));
+      none = λ _. (t.none.1, λ c g. d.none (pairs c) (subst (λ (y : Bool). Gives y (pairs c) m hash) (sym eb) g.gives));
+    }
 
 -- ---- two rows in one slice
 
 -- a row has 155 bytes, taken or not
-taken-size : {ws before after : List ℕ} {x : Bool} {answer : FrameRead} → Taken ws x before answer after → length before ≡ 155 → length after ≡ 155
-taken-size {ws} {before} {after} {x} t size = by x refl
-  where
-    by : (y : Bool) → x ≡ y → length after ≡ 155
-    by true e = ap length (t.there e).1 ∙ length-row (bits_in ws) (words-bits-bits ws)
-    by false e = ap length (t.none e).1 ∙ size
+taken-size : {words : Option (List ℕ)} {before after : List ℕ} {answer : Option ℕ} → Taken words before answer after → length before ≡ 155 → length after ≡ 155
+taken-size {words = Some ws} t size = ap length t.there.1 ∙ length-row (bits_in ws) (words-bits-bits ws)
+taken-size {words = None} t size = ap length t.none.1 ∙ size
 
 -- p is left in the first half of rows, and then q in the second half
-pub two-taken : (rows p q : List ℕ) {ws vs : List ℕ} {x y : Bool} {first second : FrameRead} → length rows ≡ 310
-    → Taken ws x (take 155 rows) first p → Taken vs y (take 155 (drop 155 (p ++ drop 155 rows))) second q
-    → Taken ws x (take 155 rows) first (take 155 (take 155 (p ++ drop 155 rows) ++ (q ++ drop 155 (drop 155 (p ++ drop 155 rows)))))
-    × Taken vs y (drop 155 rows) second (drop 155 (take 155 (p ++ drop 155 rows) ++ (q ++ drop 155 (drop 155 (p ++ drop 155 rows)))))
-two-taken rows p q {ws} {vs} {x} {y} {first} {second} size t u = (
-  subst (λ (l : List ℕ). Taken ws x (take 155 rows) first l) (sym (take_at kept (q ++ drop 155 (drop 155 both)) 155 kept-size ∙ is-p)) t,
-  subst (λ (l : List ℕ). Taken vs y (drop 155 rows) second l) (sym is-q) (subst (λ (l : List ℕ). Taken vs y l second q) is-half u),
+pub two-taken : (rows p q : List ℕ) {words more : Option (List ℕ)} {first second : Option ℕ} → length rows ≡ 310
+    → Taken words (take 155 rows) first p → Taken more (take 155 (drop 155 (p ++ drop 155 rows))) second q
+    → Taken words (take 155 rows) first (take 155 (take 155 (p ++ drop 155 rows) ++ (q ++ drop 155 (drop 155 (p ++ drop 155 rows)))))
+    × Taken more (drop 155 rows) second (drop 155 (take 155 (p ++ drop 155 rows) ++ (q ++ drop 155 (drop 155 (p ++ drop 155 rows)))))
+two-taken rows p q {words} {more} {first} {second} size t u = (
+  subst (λ (l : List ℕ). Taken words (take 155 rows) first l) (sym (take_at kept (q ++ drop 155 (drop 155 both)) 155 kept-size ∙ is-p)) t,
+  subst (λ (l : List ℕ). Taken more (drop 155 rows) second l) (sym is-q) (subst (λ (l : List ℕ). Taken more l second q) is-half u),
 )
   where
     both : List ℕ

@@ -1,5 +1,5 @@
 -- A frame read strictly: the row and the dc word, if any, that give the 1,902 modulation bits behind its sync and # of the next sync.
-use Rattle.std.specs.Prelude.{Bool, false, ◌&&◌, cond, List, ◌≡◌, ℕ, ◌^◌, ◌<◌, eqb, length}
+use Rattle.std.specs.Prelude.{Bool, false, ◌&&◌, cond, List, ◌≡◌, ℕ, ◌^◌, ◌<◌, eqb, length, Option, Some, None}
 use Rattle.std.specs.Bool.{beq}
 use Rattle.laws.specs.Bytes.{Bytes}
 use Rattle.bits.specs.Bits.{Bits}
@@ -11,8 +11,6 @@ use Rattle.modulation.specs.Demodulator.{demodulate}
 use Rattle.laws.specs.Same.{same}
 use Rattle.frame_bits.specs.FrameBits.{row_from, dc_from}
 use Rattle.frame.specs.Frame.{frame_pairs, next_hash}
-use Rattle.frame.specs.declared.FrameRead.{FrameRead}
-use Rattle.frame.specs.declared.FrameRead.TheVariants.{Found, NoFrame}
 use Rattle.sizes.specs.Sizes.{row_size}
 
 -- the 1,268 bits b give the modulation bits m behind sync n, and # of the next sync
@@ -31,9 +29,9 @@ pub record RowGives (n : FS) (row : List ℕ) (dc : ℕ) (m : List ℕ) (hash : 
 
 -- what is found in m and # of the next sync: a dc word, with its row in the slice, or that no 1,268 bits give them, with the slice as it was;
 -- the reader then answers 11
-pub record StrictlyRead (n : FS) (m : List ℕ) (hash : Bool) (before : List ℕ) (answer : FrameRead) (after : List ℕ) : Type 0 where
-  pub found : (dc : ℕ) → answer ≡ Found dc → RowGives n after dc m hash
-  pub none : answer ≡ NoFrame → (after ≡ before) × ((b : List ℕ) → BitsGive n b m hash → ⊥)
+pub record StrictlyRead (n : FS) (m : List ℕ) (hash : Bool) (before : List ℕ) (answer : Option ℕ) (after : List ℕ) : Type 0 where
+  pub found : (dc : ℕ) → answer ≡ Some dc → RowGives n after dc m hash
+  pub none : answer ≡ None → (after ≡ before) × ((b : List ℕ) → BitsGive n b m hash → ⊥)
 
 -- ---- the same, computed
 
@@ -48,8 +46,8 @@ readable n m hash =
     eqb (length m) 1902 && (same (bits f.groups) m && beq f.terminated hash)
 
 -- the reader's answer, and the row's slice behind it
-unfoldable pub frame_read : FS → List ℕ → Bool → FrameRead
-frame_read n m hash = cond (readable n m hash) (Found (dc_from (bits_read n m hash))) NoFrame
+unfoldable pub frame_read : FS → List ℕ → Bool → Option ℕ
+frame_read n m hash = cond (readable n m hash) (Some (dc_from (bits_read n m hash))) None
 
 unfoldable pub row_left : FS → List ℕ → Bool → List ℕ → List ℕ
 row_left n m hash before = cond (readable n m hash) (row_from (bits_read n m hash)) before

@@ -1,5 +1,4 @@
 // What weaving and unweaving share.
-ghost use Rattle.std.specs.Prelude.{◌≡◌, ◌<◌};
 ghost use Rattle.modulation.specs.steps.Words.{Words};
 
 // 29 words, all 0.
@@ -7,10 +6,4 @@ pub fn no_words() -> [u64; 29]
     ensures { Words result }
 {
     [0u64; 29]
-}
-
-pub fn wide(byte: u8) -> u64
-    ensures { (result ≡ byte) × (result < 256) }
-{
-    byte as u64
 }

@@ -8,6 +8,7 @@ use borrow.Author.Tests.{eq-eqb, ne_eqb, lt-ltb, le-ltb}
 use lib.Dec.{eqb, ltb}
 use lib.ListN.{length, get_or, take, drop, length-drop}
 use lib.Seq.{take_all}
+use Rattle.std.specs.Prelude.{Option, Some, None, IsSomeAnd}
 use Rattle.laws.specs.Bytes.{Bytes}
 use Rattle.laws.specs.HowMany.{how_many}
 use Rattle.laws.proofs.Booleans.{and-false}
@@ -17,13 +18,12 @@ use Rattle.big_endian.proofs.Words.{word_back, bytes-four}
 use Rattle.frame_sync.specs.Sync.{fs}
 use Rattle.frame.specs.Frame.{frame}
 use Rattle.frame.proofs.Frame.{length-frame}
-use Rattle.gaps.specs.declared.Tally.{Tally}
 use Rattle.gaps.specs.Gaps.{gap_counts, gap_at}
-use Rattle.frame_gaps.specs.Tally.{tally_dc, is_tally_input, refusal, tally_frame, tallied, input_of}
+use Rattle.frame_gaps.specs.Tally.{tally_dc, is_tally_input, tally_frame, tallied, input_of}
 use Rattle.frame_gaps.proofs.FrameCounted.{bits-frame}
 use Rattle.gaps.proofs.Neighbours.{counts-often}
 
-module _ (input : List ℕ) {a : Tally} (r : a ≡ refusal) where
+module _ (input : List ℕ) {a : Option (List ℕ)} (r : a ≡ None) where
   refused : is_tally_input input ≡ false → a ≡ tallied input
   unfolding tallied
   refused e = r ∙ rw e
@@ -46,7 +46,7 @@ module _ (input : List ℕ) {a : Tally} (r : a ≡ refusal) where
 -- the row is lent as the part of the input from 6 on
 pub tallied-counts : (input : List ℕ) {dc : ℕ} {c : List ℕ} → length input ≡ 161 → get_or input 0 0 ≤ 1 → get_or input 1 0 ≤ 6 → dc ≡ tally_dc input → dc ≤ 268435455
     → c ≡ gap_counts (frame (eqb (get_or input 0 0) 1) (fs (get_or input 1 0)) (take (length input - 6) (drop 6 input)) dc)
-    → record { accepted = true; counts = c } ≡ tallied input
+    → Some c ≡ tallied input
 unfolding tallied
 tallied-counts input {dc} {c} size hash number e small counts =
     rw (
@@ -62,12 +62,13 @@ tallied-counts input {dc} {c} size hash number e small counts =
 -- ---- what is tallied
 
 -- of an accepted input: of each length from 1 to 8, how many places of the frame's 1,932 bits begin such a gap
-pub tallied-often : (input : List ℕ) → is_tally_input input ≡ true → (k : ℕ) → k < 8 → get_or (tallied input).counts k 0 ≡ how_many 1932 (gap_at (tally_frame input) (suc k))
+pub tallied-often : (input : List ℕ) → is_tally_input input ≡ true → (k : ℕ) → k < 8
+    → IsSomeAnd (tallied input) (λ counts. get_or counts k 0 ≡ how_many 1932 (gap_at (tally_frame input) (suc k)))
 unfolding tallied
 tallied-often input e k h =
-    ap (λ (t : Bool). get_or (cond t (record { accepted = true; counts = gap_counts (tally_frame input) }) refusal).counts k 0) e
-    ∙ counts-often (tally_frame input) (bits-frame _ _ _ _) k h
-    ∙ ap (λ (m : ℕ). how_many m (gap_at (tally_frame input) (suc k))) (length-frame _ _ _ _)
+    rw e
+    (counts-often (tally_frame input) (bits-frame _ _ _ _) k h
+    ∙ ap (λ (m : ℕ). how_many m (gap_at (tally_frame input) (suc k))) (length-frame _ _ _ _))
 
 -- of the bytes that give a frame: its gap counts
 module _ (hash : Bool) (number : ℕ) (row : List ℕ) (dc : ℕ) (size : length row ≡ 155) (few : number < 7) (small : dc < 2 ^ 28) where
@@ -87,11 +88,11 @@ module _ (hash : Bool) (number : ℕ) (row : List ℕ) (dc : ℕ) (size : length
         lt-ltb (tally_dc (input_of hash number row dc)) (2 ^ 28) (omega (arith, same-dc)),
       )
 
-  pub frame-tallied : tallied (input_of hash number row dc) ≡ record { accepted = true; counts = gap_counts (frame hash (fs number) row dc) }
+  pub frame-tallied : tallied (input_of hash number row dc) ≡ Some (gap_counts (frame hash (fs number) row dc))
   unfolding tallied
   frame-tallied =
-      ap (λ (t : Bool). cond t (record { accepted = true; counts = gap_counts (tally_frame (input_of hash number row dc)) }) refusal) given
-      ∙ ap₂ (λ (h : Bool) (d : ℕ). record { accepted = true; counts = gap_counts (frame h (fs number) row d) }) (same-hash hash).0 same-dc
+      ap (λ (t : Bool). cond t (Some (gap_counts (tally_frame (input_of hash number row dc)))) None) given
+      ∙ ap₂ (λ (h : Bool) (d : ℕ). Some (gap_counts (frame h (fs number) row d))) (same-hash hash).0 same-dc
 
   -- and they are bytes
   pub bytes-input : Bytes row → Bytes (input_of hash number row dc)

@@ -5,12 +5,11 @@ ghost use Rattle.std.specs.Prelude.{◌≡◌, ◌<◌, length};
 ghost use Rattle.gaps.specs.Gaps.{gap_counts};
 ghost use Rattle.frame_sync.specs.Sync.{fs};
 ghost use Rattle.frame.specs.Frame.{frame};
-ghost use Rattle.frame_gaps.specs.Tally.{refusal, tallied};
+ghost use Rattle.frame_gaps.specs.Tally.{tallied};
 ghost use Rattle.sizes.specs.Sizes.{row_size};
 
 use big_endian::steps::word_at;
 use frame::State;
-use gaps::Tally;
 
 // The counts of the frame of a row and a dc word.
 fn frame_counts(row: &[u8], dc: u32, number: usize, hash: bool) -> [u32; 8]
@@ -24,36 +23,25 @@ fn frame_counts(row: &[u8], dc: u32, number: usize, hash: bool) -> [u32; 8]
     gaps::steps::gap_counts(&image, sizes::FRAME)
 }
 
-fn refused() -> Tally
-    ensures { result ≡ refusal }
-{
-    Tally {
-        accepted: false,
-        counts: [0u32; 8],
-    }
-}
-
-// The tally's answer to its input: # (0 or 1), sync number, dc word in four bytes, 155 frame bytes.
-pub fn tally_of(input: &[u8]) -> Tally
+// The tally's answer to its input, # (0 or 1), sync number, dc word in four bytes, 155 frame bytes: the counts of the gap lengths 1 to 8. Other
+// input is refused.
+pub fn tally_of(input: &[u8]) -> Option<[u32; 8]>
     ensures { result ≡ tallied input.now }
 {
     if input.len() != 161 {
-        return refused();
+        return None;
     }
     let hash = input[0];
     if 1 < hash {
-        return refused();
+        return None;
     }
     let number = input[1];
     if 6 < number {
-        return refused();
+        return None;
     }
     let dc = word_at(input, 2);
     if 0x0fff_ffff < dc {
-        return refused();
+        return None;
     }
-    Tally {
-        accepted: true,
-        counts: frame_counts(&input[6..], dc, number as usize, hash == 1),
-    }
+    Some(frame_counts(&input[6..], dc, number as usize, hash == 1))
 }

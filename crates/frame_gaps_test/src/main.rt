@@ -1,23 +1,21 @@
 // The tally's answers to inputs of a known cluster. Standard input holds seven records of 161 bytes: #, sync number, dc word, row.
 #![tactic(auto)]
 
-use gaps::Tally;
 use test_support::{compare, lines};
 
 fn print_counts(counts: [u32; 8]) {
-    for k in 0..8usize {
-        lines::number(b" ", counts[k] as u64);
+    for &count in counts.iter() {
+        lines::number(b" ", count as u64);
     }
 }
 
 fn tally_line(text: &[u8], input: &[u8]) {
     io::write_all(1, text);
-    let answer: Tally = frame_gaps::tally_of(input);
-    if answer.accepted {
-        let counts = answer.counts;
-        print_counts(counts);
-    } else {
-        io::write_all(1, b" refused");
+    match frame_gaps::tally_of(input) {
+        Some(counts) => print_counts(counts),
+        None => {
+            io::write_all(1, b" refused");
+        }
     }
     lines::end_line();
 }

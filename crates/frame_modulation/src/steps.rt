@@ -26,8 +26,7 @@ fn modulate_words(
     let mut state = held_bits::steps::odd(first);
     let mut held = first;
     let mut place = 20;
-    let mut k = 0;
-    while k < 79 {
+    for k in 0..79 {
         let sixteen = weaving::steps::sixteen_at(words, place);
         let one = held_bits::steps::byte_at(table, state, sixteen / 256);
         let two = held_bits::steps::byte_at(
@@ -40,7 +39,6 @@ fn modulate_words(
         held = held_bits::steps::low(all, lag);
         state = modulator_table::steps::state(two);
         place = weaving::steps::sixteen_on(place);
-        k += 1;
     }
     let end = held_bits::steps::last_at(table, state, weaving::steps::last_two(words));
     let all = held_bits::steps::ended(held, end);

@@ -51,10 +51,8 @@ pub fn write_sync(hash: bool, number: usize, image: &mut [u8], at: usize)
     ensures { SyncWritten (fs number) hash image.old at image.new }
 {
     let word = sync_word(hash, number);
-    let mut j = 0;
-    while j < 10 {
+    for j in 0..10 {
         bit_writer::write_three(image, at + 3 * j, group_of(word, j));
-        j += 1;
     }
 }
 
@@ -65,13 +63,11 @@ pub fn sync_right(image: &[u8], at: usize, number: usize) -> bool
 {
     let hash = hash_at(image, at);
     let wanted = sync_word(hash, number);
-    let mut j = 0;
-    while j < 10 {
+    for j in 0..10 {
         let step = bit_reader::step_from(image, at + 3 * j);
         if step.value != group_of(wanted, j) {
             return false;
         }
-        j += 1;
     }
     true
 }

@@ -6,7 +6,7 @@ ghost use Rattle.std.specs.Prelude.{◌≡◌, ◌<◌};
 ghost use Rattle.automaton.specs.steps.Table.{table};
 
 use automaton::Table;
-use frame::{FrameRead, State};
+use frame::State;
 use test_support::{compare, lines};
 
 fn flag(set: bool) -> u64 {
@@ -52,12 +52,12 @@ fn read(steps: &Table, image: [u8; 245], row: [u8; 155], place: Place) -> Seen
     match frame_reader::steps::read_frame(
         steps, &image, place.at, place.sync, place.next, &mut found,
     ) {
-        FrameRead::Found(dc) => Seen {
+        Some(dc) => Seen {
             none: 0,
             dcs: dc as u64,
             bytes: compare::differing(&found, &row),
         },
-        FrameRead::NoFrame => Seen {
+        None => Seen {
             none: 1,
             dcs: 0,
             bytes: 0,
@@ -210,7 +210,7 @@ fn records(steps: &Table)
 
 fn main() {
     sync_numbers();
-    let mut steps = demodulator_table::steps::no_table();
+    let mut steps = [0; 10368];
     demodulator_table::steps::fill_table(&mut steps);
     records(&steps);
 }

@@ -38,7 +38,7 @@ fn write_whole(
             &mut image[from..to],
         );
     }
-    let first = frame_bits::steps::wide(image[from]) / 16 * 1073741824 + sync;
+    let first = u64::from(image[from]) / 16 * 1073741824 + sync;
     frame_modulation::steps::modulate(table, row, dc, first, 34, 0, &mut image[from..to])
 }
 
@@ -54,10 +54,8 @@ fn copy_bits(bytes: &[u8], image: &mut [u8], at: usize)
     requires { (length bytes.now ≡ 242) × (at + frame_size < 18446744073709551616) }
     ensures { bits_of image.new ≡ sets (bits_of image.old) at (take frame_size (bits_of bytes.now)) }
 {
-    let mut k = 0;
-    while k < sizes::FRAME {
+    for k in 0..sizes::FRAME {
         bit_writer::write_bit(image, at + k, bits::read_bit(bytes, k));
-        k += 1;
     }
 }
 

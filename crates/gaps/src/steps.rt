@@ -29,10 +29,8 @@ pub fn gap_counts(bytes: &[u8], n: usize) -> [u32; 8]
 {
     let mut counts = [0u32; 8];
     let mut zeros = 9;
-    let mut i = 0;
-    while i < n {
+    for i in 0..n {
         zeros = count_bit(&mut counts, zeros, bits::read_bit(bytes, i));
-        i += 1;
     }
     counts
 }

@@ -6,6 +6,7 @@ use Prim.Native.Nat.{ℕ, suc, ◌*◌, ◌^◌, ◌<◌}
 use native.Mathlib.Omega.{arith}
 use lib.ListN.{length, get_or, take, drop, length-drop}
 use lib.Seq.{take-append-le, drop-append-le}
+use Rattle.std.specs.Prelude.{Some, IsSomeAnd}
 use Rattle.laws.specs.Bytes.{Bytes}
 use Rattle.laws.specs.HowMany.{how_many}
 use Rattle.laws.specs.Tabulate.{tabulate}
@@ -20,7 +21,6 @@ use Rattle.frame_sync.specs.Sync.{fs_number}
 use Rattle.frame.specs.Frame.{frame}
 use Rattle.frame.proofs.Frame.{length-frame}
 use Rattle.frame_sync.proofs.SyncTables.{fs-number, number_at}
-use Rattle.gaps.specs.declared.Tally.{Tally}
 use Rattle.gaps.specs.Gaps.{gap_counts, gap_at}
 use Rattle.frame_gaps.specs.Tally.{tallied, input_of}
 use Rattle.frame_gaps.proofs.FrameCounted.{bits-frame}
@@ -119,17 +119,17 @@ module _ (input : Input) (n : ℕ) (h : n < 496) where
         (bytes-row (cluster input) (bytes-cluster input.user input.psn input.side is.user is.psn is.side) n)
 
     -- the tally of frame n: the gap counts of these bits
-    pub image-tallied : tallied (frame_input input n) ≡ record { accepted = true; counts = gap_counts (frame_bits_of input n) }
+    pub image-tallied : tallied (frame_input input n) ≡ Some (gap_counts (frame_bits_of input n))
     image-tallied =
         frame-tallied (own_hash input n) (own_number n) (own_row input n) (own_dc input n) row-size number_small dc-small
-        ∙ ap (λ (l : List ℕ). record { accepted = true; counts = gap_counts l }) (ap (λ (s : FS). frame (own_hash input n) s (own_row input n) (own_dc input n)) (fs-number (sync_number n)) ∙ sym image-frame)
+        ∙ ap (λ (l : List ℕ). Some (gap_counts l)) (ap (λ (s : FS). frame (own_hash input n) s (own_row input n) (own_dc input n)) (fs-number (sync_number n)) ∙ sym image-frame)
 
     -- of each length from 1 to 8, how many of these bits begin such a gap
-    pub image-often : (k : ℕ) → k < 8 → get_or (tallied (frame_input input n)).counts k 0 ≡ how_many 1932 (gap_at (frame_bits_of input n) (suc k))
+    pub image-often : (k : ℕ) → k < 8 → IsSomeAnd (tallied (frame_input input n)) (λ counts. get_or counts k 0 ≡ how_many 1932 (gap_at (frame_bits_of input n) (suc k)))
     image-often k hk =
-        ap (λ (t : Tally). get_or t.counts k 0) image-tallied
-        ∙ counts-often (frame_bits_of input n) all k hk
-        ∙ ap (λ (m : ℕ). how_many m (gap_at (frame_bits_of input n) (suc k))) (ap length image-frame ∙ length-frame _ _ _ _)
+        rw image-tallied
+        (counts-often (frame_bits_of input n) all k hk
+        ∙ ap (λ (m : ℕ). how_many m (gap_at (frame_bits_of input n) (suc k))) (ap length image-frame ∙ length-frame _ _ _ _))
       where
         all : Bits (frame_bits_of input n)
         all = rw image-frame (bits-frame _ _ _ _)

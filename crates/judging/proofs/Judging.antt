@@ -1,15 +1,17 @@
 -- The tests as the code has them. Assumes nothing.
+use Rattle.std.specs.Prelude.{Some, None}
 use mathlib.Core.Path.{◌≡◌, refl, sym, ap, ap₂, ◌∙◌}
 use mathlib.Core.Bool.{Bool, ◌&&◌, cond}
 use mathlib.Core.List.{List}
-use Prim.Native.Nat.{ℕ}
+use Prim.Native.Nat.{ℕ, ◌<◌}
+use native.Mathlib.Omega.{arith}
 use borrow.Author.Tests.{eq-eqb, ne_eqb}
 use lib.Dec.{eqb}
 use lib.ListN.{get_or}
 use Rattle.answer.specs.declared.Answer.{Answer}
 use Rattle.answer.specs.declared.Answer.TheVariants.{Done, LastBits, Frame, NoPsn}
 use Rattle.answer.specs.Answer.{lowest}
-use Rattle.answer.proofs.Tests.{lowest-done}
+use Rattle.answer.proofs.Tests.{lowest-here, lowest-none}
 use Rattle.address.specs.declared.Psn.{Psn}
 use Rattle.bis.specs.declared.PsnFound.{PsnFound}
 use Rattle.bis.specs.declared.PsnFound.TheVariants.{Found, NotFound}
@@ -35,22 +37,26 @@ module _ (b : List ℕ) (x : ℕ) (e : x ≡ get_or b 958302 0) where
     pub both_zero : y ≡ 0 → Done ≡ last_bits_answer b
     both_zero h = by_bits _ _ (eq-eqb (get_or b 958302 0) 0 (sym e ∙ zero)) (eq-eqb (get_or b 958303 0) 0 (sym f ∙ h))
 
--- ---- a test with a place: i is what was found, j what the definition names
+-- ---- a test with a place: i is what the definition names, k what was found below n
 
-pub placed : (refusal : ℕ → Answer) (n i j : ℕ) {r : Answer} → r ≡ lowest (λ _. refusal i) n i → i ≡ j → r ≡ lowest refusal n j
-placed refusal n i j e f = e ∙ ap (lowest refusal n) f
+pub placed : (refusal : ℕ → Answer) {n i k : ℕ} → (i < n) × (k ≡ i) → refusal k ≡ lowest refusal n i
+placed refusal found = ap refusal found.1 ∙ sym (lowest-here refusal found.0)
+
+pub unplaced : (refusal : ℕ → Answer) {n i : ℕ} → (i < n → ⊥) → Done ≡ lowest refusal n i
+unplaced refusal none = sym (lowest-none refusal (omega (arith, none)))
 
 -- ---- 11
 
-pub frames-left : {b : List ℕ} {n : ℕ} {dc work : List ℕ} {r : Answer} → FramesRead b n dc work → r ≡ lowest (λ _. Frame n) 496 n → FramesTested b r dc work
+frame-no-done : (n : ℕ) → Frame n ≡ Done → ⊥
+frame-no-done n e = cc
+
+pub frame-refused : {b : List ℕ} {n : ℕ} {dc work : List ℕ} → FramesRead b (Some n) dc work → FramesTested b (Frame n) dc work
 unfolding frames_answer
-frames-left {n = n} read e =
-    record {
-      answer-is = placed Frame 496 n _ e read.first;
-      dc-is = λ d. read.dc-is (lowest-done Frame (λ k. refl) (sym e ∙ d));
-      work-is = λ d. read.work-is (lowest-done Frame (λ k. refl) (sym e ∙ d));
-      size = read.size;
-    }
+frame-refused {n = n} read = record { answer-is = placed Frame read.first; dc-is = λ d. absurd (frame-no-done n d); work-is = λ d. absurd (frame-no-done n d); size = read.size }
+
+pub frames-passed : {b dc work : List ℕ} → FramesRead b None dc work → FramesTested b Done dc work
+unfolding frames_answer
+frames-passed read = record { answer-is = unplaced Frame read.first; dc-is = λ d. read.dc-is; work-is = λ d. read.work-is; size = read.size }
 
 -- ---- 14; p is what was found
 

@@ -13,3 +13,5 @@ pub mod Booleans
 pub mod Same
 pub mod Shifts
 pub mod Zeros
+pub mod FromFn
+pub mod Found

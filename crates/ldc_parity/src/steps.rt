@@ -10,15 +10,8 @@ fn join(information: &[u8], parity: &[u8; 32], word: &mut [u8])
     requires { (length information.now ≡ 216) × ((length parity.now ≡ 32) × (length word.old ≡ 248)) }
     ensures { word.new ≡ information.now ++ parity.now }
 {
-    let mut k = 0;
-    while k < 216 {
-        word[k] = information[k];
-        k += 1;
-    }
-    while k < 248 {
-        word[k] = parity[k - 216];
-        k += 1;
-    }
+    word[..216].copy_from_slice(information);
+    word[216..].copy_from_slice(parity);
 }
 
 // A code word of 216 information bytes.
@@ -26,7 +19,7 @@ fn complete(table: &Remainders, information: &[u8], word: &mut [u8])
     requires { AreRemainders table.now × ((length information.now ≡ 216) × (length word.old ≡ 248)) }
     ensures { word.new ≡ completed information.now }
 {
-    let mut parity = parity::steps::no_parity();
+    let mut parity = [0u8; 32];
     code_word::steps::parity_32_by(table, information, &mut parity);
     join(information, &parity, word);
 }
@@ -36,13 +29,11 @@ pub fn complete_words(table: &Remainders, frames: &[u8], words: &mut [u8])
     requires { AreRemainders table.now × ((length frames.now ≡ 8208) × (length words.old ≡ 9424)) }
     ensures { words.new ≡ completed_words frames.now }
 {
-    let mut j = 0;
-    while j < 38 {
+    for j in 0..38 {
         let from = 216 * j;
         let end = from + 216;
         let to = 248 * j;
         let past = to + 248;
         complete(table, &frames[from..end], &mut words[to..past]);
-        j += 1;
     }
 }

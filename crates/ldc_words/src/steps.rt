@@ -36,7 +36,7 @@ fn run_of(e: usize, n: usize) -> Run
     let left = 38 - place.column % 38;
     let next = (place.column + left) % 152;
     Run {
-        left: left,
+        left,
         first: 310 * n + place.column + place.column / 38,
         second: 310 * n + next + next / 38,
     }
@@ -59,12 +59,10 @@ fn take_bytes(work: &[u8], e: usize, n: usize, words: &mut [u8])
     ensures { BytesTaken work.now e n words.old words.new }
 {
     let run = run_of(e, n);
-    let mut i = 0;
-    while i < 19 {
+    for i in 0..19 {
         let at = run_index(run, i);
         words[496 * i + n] = work[at];
         words[496 * i + 248 + n] = work[at + sizes::ROW];
-        i += 1;
     }
 }
 
@@ -73,10 +71,8 @@ pub fn take_words(work: &[u8], e: usize, count: usize, words: &mut [u8])
     requires { ((length work.now ≡ work_size) × (length words.old ≡ 9424)) × ((e < 8) × (count ≤ 248)) }
     ensures { WordsTaken work.now e count words.new }
 {
-    let mut n = 0;
-    while n < count {
+    for n in 0..count {
         take_bytes(work, e, n, words);
-        n += 1;
     }
 }
 
@@ -86,12 +82,10 @@ fn put_bytes(words: &[u8], e: usize, n: usize, work: &mut [u8])
     ensures { BytesPut words.now e n work.old work.new }
 {
     let run = run_of(e, n);
-    let mut i = 0;
-    while i < 19 {
+    for i in 0..19 {
         let at = run_index(run, i);
         work[at] = words[496 * i + n];
         work[at + sizes::ROW] = words[496 * i + 248 + n];
-        i += 1;
     }
 }
 
@@ -100,10 +94,8 @@ pub fn put_words(words: &[u8], e: usize, work: &mut [u8])
     requires { ((length words.now ≡ 9424) × (length work.old ≡ work_size)) × (e < 8) }
     ensures { WordsPut words.now e 248 work.old work.new }
 {
-    let mut n = 0;
-    while n < 248 {
+    for n in 0..248 {
         put_bytes(words, e, n, work);
-        n += 1;
     }
 }
 
@@ -112,13 +104,11 @@ pub fn take_information(words: &[u8], frames: &mut [u8])
     requires { (length words.now ≡ 9424) × (length frames.old ≡ 8208) }
     ensures { frames.new ≡ information_of words.now }
 {
-    let mut j = 0;
-    while j < 38 {
+    for j in 0..38 {
         let from = 248 * j;
         let end = from + 216;
         let to = 216 * j;
         let past = to + 216;
-        slices::steps::copy_bytes(&words[from..end], &mut frames[to..past]);
-        j += 1;
+        frames[to..past].copy_from_slice(&words[from..end]);
     }
 }

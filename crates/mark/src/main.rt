@@ -4,7 +4,6 @@
 
 use address::Psn;
 use console::Complaints;
-use notation::PsnText;
 use std::process::ExitCode;
 use std::rt::{Env, Files};
 
@@ -14,23 +13,20 @@ fn load(
     side: &mut [u8],
     image: &mut [u8],
 ) -> bool {
-    if !console::load(rt, 2, user) {
-        return false;
-    }
-    if !console::load_unless_dash(rt, 3, side) {
-        return false;
-    }
-    console::load(rt, 4, image)
+    console::load(rt, 2, user)
+        && console::load_unless_dash(rt, 3, side)
+        && console::load(rt, 4, image)
 }
 
 fn mark(rt: &(impl Print + Env + Files + Complaints), psn: Psn) -> ExitCode {
-    let mut user = buffers::user_bytes();
-    let mut side = buffers::side_bytes();
-    let mut image = buffers::image_bytes();
+    let mut user: [u8; sizes::USER] = buffers::zeros();
+    let mut side: [u8; sizes::SIDE] = buffers::zeros();
+    let mut image: [u8; sizes::IMAGE] = buffers::zeros();
     if load(rt, &mut user, &mut side, &mut image) {
-        return console::print_last(rt, marking::mark(psn, &user, &side, &image));
+        console::print_last(rt, marking::mark(psn, &user, &side, &image))
+    } else {
+        ExitCode::SUCCESS
     }
-    ExitCode::SUCCESS
 }
 
 fn main(rt: HostRuntime) -> ExitCode {
@@ -39,11 +35,8 @@ fn main(rt: HostRuntime) -> ExitCode {
     }
     let mut text = [0u8; 4096];
     let n = console::argument(&rt, 1, &mut text);
-    let psn = notation::psn_of(&text[..n]);
-    match psn {
-        PsnText::Number(psn) => mark(&rt, psn),
-        PsnText::NoNumber => {
-            console::print_usage(&rt, b"usage: a PSN is eight hexadecimal digits\n")
-        }
+    match notation::psn_of(&text[..n]) {
+        Some(psn) => mark(&rt, psn),
+        None => console::print_usage(&rt, b"usage: a PSN is eight hexadecimal digits\n"),
     }
 }

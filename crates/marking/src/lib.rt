@@ -14,10 +14,10 @@ pub fn mark(psn: Psn, user: &[u8], side: &[u8], image: &[u8]) -> Text
     ensures value { result ≡ text_of (mark_text psn.0 user.now side.now image.now) }
     ensures variant { (result ≡ text_of (the "pass\n")) ↔ IsImageOf psn.0 user.now side.now image.now }
 {
-    let mut bytes = buffers::user_bytes();
-    let mut control = buffers::side_bytes();
+    let mut bytes: [u8; sizes::USER] = buffers::zeros();
+    let mut control: [u8; sizes::SIDE] = buffers::zeros();
     let mut dc = buffers::dc_words();
-    let mut work = buffers::work_bytes();
+    let mut work: [u8; sizes::WORK] = buffers::zeros();
     let verdict = marker::mark(
         psn,
         user,

@@ -27,23 +27,29 @@ use Rattle.modulator.proofs.Holding.{stop-sized}
 
 -- ---- the constants
 
-abbrev pub counts : List ℕ
-counts = 0 ∷ 1 ∷ 2 ∷ 3 ∷ 3 ∷ 1 ∷ 2 ∷ 3 ∷ 4 ∷ 5 ∷ []
+abbrev pub waitings : List (ℕ × ℕ)
+waitings =
+    (0, 0) ∷ (1, 0b00) ∷ (2, 0b00_00) ∷ (3, 0b00_00_00) ∷ (3, 0b00_00_10) ∷ (1, 0b11) ∷ (2, 0b11_01) ∷ (3, 0b11_01_11) ∷ (4, 0b11_01_11_00)
+    ∷ (5, 0b11_01_11_00_00) ∷ []
 
-pub count-is : (s : ℕ) → s < 20 → (get_or counts (s / 2) 0 ≡ waits s) × (get_or counts (s / 2) 0 < 6)
+-- how many wait in state s, and their number
+abbrev count_at : ℕ → ℕ
+count_at s = (get_or waitings (s / 2) (0, 0)).0
+
+abbrev number_at : ℕ → ℕ
+number_at s = (get_or waitings (s / 2) (0, 0)).1
+
+pub count-is : (s : ℕ) → s < 20 → (count_at s ≡ waits s) × (count_at s < 6)
 unfolding all waits
-count-is s h = (equal-below 20 (λ s. get_or counts (s / 2) 0) waits tt s h, bounded-below 20 6 (λ s. get_or counts (s / 2) 0) tt s h)
+count-is s h = (equal-below 20 count_at waits tt s h, bounded-below 20 6 count_at tt s h)
 
-abbrev pub waitings : List ℕ
-waitings = 0 ∷ 0b00 ∷ 0b00_00 ∷ 0b00_00_00 ∷ 0b00_00_10 ∷ 0b11 ∷ 0b11_01 ∷ 0b11_01_11 ∷ 0b11_01_11_00 ∷ 0b11_01_11_00_00 ∷ []
-
-pub waiting-is : (s : ℕ) → s < 20 → WaitingNumber s (get_or waitings (s / 2) 0)
+pub waiting-is : (s : ℕ) → s < 20 → WaitingNumber s (number_at s)
 unfolding all waits number
 waiting-is s h =
     record {
-      is = equal-below 20 (λ s. get_or waitings (s / 2) 0) (λ s. number (data_bits (waiting (wait_of s)))) tt s h;
-      small = ltb→lt (get_or waitings (s / 2) 0) (2 ^ (2 * waits s)) (all-at 20 (λ s. ltb (get_or waitings (s / 2) 0) (2 ^ (2 * waits s))) tt s h);
-      fits = bounded-below 20 1024 (λ s. get_or waitings (s / 2) 0) tt s h;
+      is = equal-below 20 number_at (λ s. number (data_bits (waiting (wait_of s)))) tt s h;
+      small = ltb→lt (number_at s) (2 ^ (2 * waits s)) (all-at 20 (λ s. ltb (number_at s) (2 ^ (2 * waits s))) tt s h);
+      fits = bounded-below 20 1024 number_at tt s h;
     }
 
 abbrev pub nexts : List (List ℕ)

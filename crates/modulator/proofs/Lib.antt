@@ -5,3 +5,4 @@ pub mod Tables
 pub mod Put
 pub mod Turning
 pub mod Entries
+pub mod Made

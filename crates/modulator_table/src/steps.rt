@@ -1,49 +1,22 @@
 // The table, step by step: a pair, two, four, and the end of a frame.
 ghost use Rattle.std.specs.Prelude.{◌≡◌, ◌+◌, ◌*◌, ◌/◌, ◌%◌, ◌<◌, length};
-ghost use Rattle.conversion.specs.steps.Rows.{packed_rows};
 ghost use Rattle.modulator.specs.steps.Table.{step_table, stop_table, nibble_table, lent_table, joined, step_entry, stop_entry, nibble_entry, byte_entry, last_entry, entry_at};
 
-use conversion::PackedRows;
 use modulator::Table;
-
-fn no_steps() -> [u32; 80]
-    ensures { length result ≡ 80 }
-{
-    [0u32; 80]
-}
+use std::array;
 
 // Entry 4 s + d.
-fn make_steps(rows: &PackedRows) -> [u32; 80]
-    requires { rows.now ≡ packed_rows }
+fn make_steps() -> [u32; 80]
     ensures { result ≡ step_table }
 {
-    let mut steps = no_steps();
-    let mut k = 0;
-    while k < 80 {
-        steps[k] = modulator_states::steps::step_entry(rows, k / 4, k % 4);
-        k += 1;
-    }
-    steps
-}
-
-fn no_stops() -> [u32; 20]
-    ensures { length result ≡ 20 }
-{
-    [0u32; 20]
+    array::from_fn(|k| modulator_states::steps::step_entry(k / 4, k % 4))
 }
 
 // Entry s.
-fn make_stops(rows: &PackedRows) -> [u32; 20]
-    requires { rows.now ≡ packed_rows }
+fn make_stops() -> [u32; 20]
     ensures { result ≡ stop_table }
 {
-    let mut stops = no_stops();
-    let mut k = 0;
-    while k < 20 {
-        stops[k] = modulator_states::steps::stop_entry(rows, k);
-        k += 1;
-    }
-    stops
+    array::from_fn(|s| modulator_states::steps::stop_entry(s))
 }
 
 // The state that an entry leads to.
@@ -77,25 +50,12 @@ fn nibble_entry(steps: &[u32; 80], s: usize, x: usize) -> u32
     joined(a, b, 8)
 }
 
-fn no_nibbles() -> [u32; 320]
-    ensures { length result ≡ 320 }
-{
-    [0u32; 320]
-}
-
 // Two pairs more: entry 20 x + s.
-fn make_nibbles(rows: &PackedRows) -> [u32; 320]
-    requires { rows.now ≡ packed_rows }
+fn make_nibbles() -> [u32; 320]
     ensures { result ≡ nibble_table }
 {
-    let steps = make_steps(rows);
-    let mut nibbles = no_nibbles();
-    let mut k = 0;
-    while k < 320 {
-        nibbles[k] = nibble_entry(&steps, k % 20, k / 20);
-        k += 1;
-    }
-    nibbles
+    let steps = make_steps();
+    array::from_fn(|k| nibble_entry(&steps, k % 20, k / 20))
 }
 
 fn nibble_in(nibbles: &[u32; 320], s: usize, x: usize) -> u32
@@ -151,12 +111,9 @@ pub fn fill_table(table: &mut Table)
     requires { length table.old ≡ 5440 }
     ensures { table.new ≡ lent_table }
 {
-    let rows = conversion_rows::steps::packed_rows();
-    let nibbles = make_nibbles(&rows);
-    let stops = make_stops(&rows);
-    let mut k = 0;
-    while k < 5440 {
-        table[k] = entry(&nibbles, &stops, k % 20, k / 20);
-        k += 1;
+    let nibbles = make_nibbles();
+    let stops = make_stops();
+    for (k, place) in table.iter_mut().enumerate() {
+        *place = entry(&nibbles, &stops, k % 20, k / 20);
     }
 }

@@ -11,6 +11,3 @@ part_ending = 46 ∷ 112 ∷ 97 ∷ 114 ∷ 116 ∷ []
 -- the ending behind the first n bytes of a buffer, which stays as it was where there is no room
 unfoldable pub part_added : List ℕ → ℕ → List ℕ
 part_added buffer n = cond (leb (n + 5) (length buffer)) (take n buffer ++ part_ending ++ drop (n + 5) buffer) buffer
-
-unfoldable pub part_length : List ℕ → ℕ → ℕ
-part_length buffer n = cond (leb (n + 5) (length buffer)) (n + 5) 0

@@ -2,61 +2,31 @@
 use mathlib.Core.Path.{◌≡◌}
 use mathlib.Core.Bool.{true, false}
 use mathlib.Core.List.{List}
-use Prim.Native.Nat.{ℕ, zero, suc, ◌+◌, ◌*◌, ◌-◌, ◌^◌, ◌<◌, ◌≤◌}
+use Prim.Native.Nat.{ℕ, zero, suc, ◌+◌, ◌*◌, ◌^◌, ◌<◌}
 use native.Mathlib.Numerals.{add-one}
 use native.Mathlib.Omega.{arith}
 use borrow.Author.Tests.{eq-eqb, ne_eqb, lt-ltb, le-leb, lt-leb, leb-false}
 use lib.ListN.{length, get_or}
 use Rattle.laws.proofs.First.{Passed, first-at, first-none}
 use Rattle.laws.proofs.Finite.{all, bounded-below}
-use Rattle.notation.specs.declared.PsnText.TheVariants.{Number, NoNumber}
+use Rattle.std.specs.Prelude.{Some, None}
 use Rattle.notation.specs.Psn.{digit_of, value_to, no_digit, psn_of}
 
--- ---- a byte
+-- ---- a text; d is the digit at k
 
-module _ (b : ℕ) where
-  pub digit-09 : 48 ≤ b → b ≤ 57 → b - 48 ≡ digit_of b
-  unfolding digit_of
-  digit-09 l h = rw (le-leb 48 b l, le-leb b 57 h)
-
-  pub digit-AF : 65 ≤ b → b ≤ 70 → b - 55 ≡ digit_of b
-  unfolding digit_of
-  digit-AF l h = rw (le-leb 48 b (omega arith), lt-leb b 57 (omega arith), le-leb 65 b l, le-leb b 70 h)
-
-  pub digit-af : 97 ≤ b → b ≤ 102 → b - 87 ≡ digit_of b
-  unfolding digit_of
-  digit-af l h = rw (le-leb 48 b (omega arith), lt-leb b 57 (omega arith), le-leb 65 b (omega arith), lt-leb b 70 (omega arith), le-leb 97 b l, le-leb b 102 h)
-
-  pub below-0 : b < 48 → 16 ≡ digit_of b
-  unfolding digit_of
-  below-0 h = rw (lt-leb 48 b h)
-
-  pub below-A : 57 < b → b < 65 → 16 ≡ digit_of b
-  unfolding digit_of
-  below-A l h = rw (le-leb 48 b (omega arith), lt-leb b 57 l, lt-leb 65 b h)
-
-  pub below-a : 70 < b → b < 97 → 16 ≡ digit_of b
-  unfolding digit_of
-  below-a l h = rw (le-leb 48 b (omega arith), lt-leb b 57 (omega arith), le-leb 65 b (omega arith), lt-leb b 70 l, lt-leb 97 b h)
-
-  pub above-f : 102 < b → 16 ≡ digit_of b
-  unfolding digit_of
-  above-f l = rw (le-leb 48 b (omega arith), lt-leb b 57 (omega arith), le-leb 65 b (omega arith), lt-leb b 70 (omega arith), le-leb 97 b (omega arith), lt-leb b 102 l)
-
--- ---- a text; d is what was read at k
-
-module _ (text : List ℕ) (k d : ℕ) (hd : d ≡ digit_of (get_or text k 0)) where
-  pub no-digit : 16 ≤ d → no_digit text k ≡ true
+module _ (text : List ℕ) (k : ℕ) where
+  pub no-digit : (digit_of (get_or text k 0) < 16 → ⊥) → no_digit text k ≡ true
   unfolding no_digit
-  no-digit h = le-leb 16 (digit_of (get_or text k 0)) (omega arith)
+  no-digit h = le-leb 16 (digit_of (get_or text k 0)) (omega (arith, h))
 
-  pub a-digit : d < 16 → no_digit text k ≡ false
-  unfolding no_digit
-  a-digit h = lt-leb 16 (digit_of (get_or text k 0)) (omega arith)
+  module _ (d : ℕ) (hd : d ≡ digit_of (get_or text k 0)) where
+    pub a-digit : d < 16 → no_digit text k ≡ false
+    unfolding no_digit
+    a-digit h = lt-leb 16 (digit_of (get_or text k 0)) (omega arith)
 
-  pub value-more : (value : ℕ) → value ≡ value_to text k → value * 16 + d ≡ value_to text (k + 1)
-  unfolding value_to
-  value-more value e = rw (add-one k, hd, e)
+    pub value-more : (value : ℕ) → value ≡ value_to text k → value * 16 + d ≡ value_to text (k + 1)
+    unfolding value_to
+    value-more value e = rw (add-one k, hd, e)
 
 value-bound : (text : List ℕ) (k : ℕ) → Passed (no_digit text) k → value_to text k < 16 ^ k
 unfolding value_to no_digit
@@ -77,15 +47,15 @@ value-small text k value passed e h =
 -- ---- the whole text
 
 module _ (text : List ℕ) where
-  pub another-length : (length text ≡ 8 → ⊥) → NoNumber ≡ psn_of text
+  pub another-length : (length text ≡ 8 → ⊥) → None ≡ psn_of text
   unfolding psn_of
   another-length h = rw (ne_eqb (length text) 8 h)
 
-  pub another-byte : (k : ℕ) → length text ≡ 8 → k < 8 → Passed (no_digit text) k → no_digit text k ≡ true → NoNumber ≡ psn_of text
+  pub another-byte : (k : ℕ) → length text ≡ 8 → k < 8 → Passed (no_digit text) k → no_digit text k ≡ true → None ≡ psn_of text
   unfolding psn_of
   another-byte k s h passed e = rw (eq-eqb (length text) 8 s, first-at 8 (no_digit text) k h passed e, lt-ltb k 8 h)
 
-  pub eight-digits : (value k : ℕ) → length text ≡ 8 → k ≡ 8 → Passed (no_digit text) k → value ≡ value_to text k → Number (record { 0 = value }) ≡ psn_of text
+  pub eight-digits : (value k : ℕ) → length text ≡ 8 → k ≡ 8 → Passed (no_digit text) k → value ≡ value_to text k → Some (record { 0 = value }) ≡ psn_of text
   unfolding psn_of
   eight-digits value k s all passed e =
       let eight : Passed (no_digit text) 8 = rw all at passed in

@@ -13,7 +13,7 @@ use Rattle.laws.proofs.Finite.{all, equal-below}
 use Rattle.laws.proofs.First.{Passed, passed_none, passed-more}
 use Rattle.io.specs.Digits.{hex_digit_ascii, last_digits}
 use Rattle.laws.proofs.Tabulate.{is-tabulate, get_d_tabulate}
-use Rattle.notation.specs.declared.PsnText.TheVariants.{Number, NoNumber}
+use Rattle.std.specs.Prelude.{Some, None}
 use Rattle.notation.specs.Psn.{digit_of, value_to, no_digit, psn_of}
 use Rattle.notation.proofs.Digits.{a-digit, eight-digits}
 use Rattle.big_endian.specs.Words.{word_at, four_bytes}
@@ -103,16 +103,16 @@ all_digits (suc k) n =
     rw add-one at more
 
 -- a PSN as the programs print it, eight digits, is read as that PSN
-pub printed-back : (n : ℕ) → n < 4294967296 → psn_of (last_digits 16 8 n) ≡ Number (record { 0 = n })
+pub printed-back : (n : ℕ) → n < 4294967296 → psn_of (last_digits 16 8 n) ≡ Some (record { 0 = n })
 printed-back n h = sym (eight-digits (last_digits 16 8 n) n 8 (length_digits 8 n) refl (all_digits 8 n) (sym (digits_value 8 n (omega arith))))
 
 -- ---- PSNs: `00100000`, `03EFFFE0` and `03effFe0`; a sign, a short text
 
 pub examples :
-    (psn_of (48 ∷ 48 ∷ 49 ∷ 48 ∷ 48 ∷ 48 ∷ 48 ∷ 48 ∷ []) ≡ Number (record { 0 = 0x0010_0000 }))
-    × (psn_of (48 ∷ 51 ∷ 69 ∷ 70 ∷ 70 ∷ 70 ∷ 69 ∷ 48 ∷ []) ≡ Number (record { 0 = 0x03EF_FFE0 }))
-    × (psn_of (48 ∷ 51 ∷ 101 ∷ 102 ∷ 102 ∷ 70 ∷ 101 ∷ 48 ∷ []) ≡ Number (record { 0 = 0x03EF_FFE0 }))
-    × (psn_of (45 ∷ 48 ∷ 49 ∷ 48 ∷ 48 ∷ 48 ∷ 48 ∷ 48 ∷ []) ≡ NoNumber)
-    × (psn_of (49 ∷ 48 ∷ 48 ∷ 48 ∷ 48 ∷ 48 ∷ []) ≡ NoNumber)
+    (psn_of (48 ∷ 48 ∷ 49 ∷ 48 ∷ 48 ∷ 48 ∷ 48 ∷ 48 ∷ []) ≡ Some (record { 0 = 0x0010_0000 }))
+    × (psn_of (48 ∷ 51 ∷ 69 ∷ 70 ∷ 70 ∷ 70 ∷ 69 ∷ 48 ∷ []) ≡ Some (record { 0 = 0x03EF_FFE0 }))
+    × (psn_of (48 ∷ 51 ∷ 101 ∷ 102 ∷ 102 ∷ 70 ∷ 101 ∷ 48 ∷ []) ≡ Some (record { 0 = 0x03EF_FFE0 }))
+    × (psn_of (45 ∷ 48 ∷ 49 ∷ 48 ∷ 48 ∷ 48 ∷ 48 ∷ 48 ∷ []) ≡ None)
+    × (psn_of (49 ∷ 48 ∷ 48 ∷ 48 ∷ 48 ∷ 48 ∷ []) ≡ None)
 unfolding psn_of value_to digit_of no_digit first
 examples = (refl, refl, refl, refl, refl)

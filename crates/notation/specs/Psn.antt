@@ -1,8 +1,7 @@
 -- A PSN as an argument has it: eight hexadecimal digits, the highest first.
-use Rattle.std.specs.Prelude.{Bool, cond, List, ℕ, zero, suc, ◌+◌, ◌*◌, ◌-◌, eqb, ltb, leb, length, get_or}
+use Rattle.std.specs.Prelude.{Bool, cond, List, ℕ, zero, suc, ◌+◌, ◌*◌, ◌-◌, eqb, ltb, leb, length, get_or, Option, Some, None}
 use Rattle.laws.specs.First.{first}
-use Rattle.notation.specs.declared.PsnText.{PsnText}
-use Rattle.notation.specs.declared.PsnText.TheVariants.{Number, NoNumber}
+use Rattle.address.specs.declared.Psn.{Psn}
 
 -- a digit's value: 0 to 9, A to F, a to f; 16 for any other byte
 unfoldable pub digit_of : ℕ → ℕ
@@ -17,5 +16,5 @@ value_to text (suc k) = value_to text k * 16 + digit_of (get_or text k 0)
 unfoldable pub no_digit : List ℕ → ℕ → Bool
 no_digit text k = leb 16 (digit_of (get_or text k 0))
 
-unfoldable pub psn_of : List ℕ → PsnText
-psn_of text = cond (eqb (length text) 8) (cond (ltb (first 8 (no_digit text)) 8) NoNumber (Number (record { 0 = value_to text 8 }))) NoNumber
+unfoldable pub psn_of : List ℕ → Option Psn
+psn_of text = cond (eqb (length text) 8) (cond (ltb (first 8 (no_digit text)) 8) None (Some (record { 0 = value_to text 8 }))) None

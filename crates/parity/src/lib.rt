@@ -16,10 +16,8 @@ fn divide(generator: &[u8], message: &[u8], register: &mut [u8])
     let powers = field_tables::powers();
     let logs = field_tables::logs();
     slices::clear(register);
-    let mut i = 0;
-    while i < message.len() {
-        steps::push(&powers, &logs, generator, register, message[i]);
-        i += 1;
+    for &byte in message {
+        steps::push(&powers, &logs, generator, register, byte);
     }
 }
 

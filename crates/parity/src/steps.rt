@@ -1,7 +1,6 @@
 // The generators, and a byte into the register. A constant is copied where it is read, so that a loop takes it once.
 ghost use Rattle.std.specs.Prelude.{◌≡◌, length, drop, ◌<◌};
 ghost use Rattle.column.specs.Column.{generator, pushed};
-ghost use Rattle.laws.specs.Tabulate.{tabulate};
 ghost use Rattle.galois.specs.Tables.{AreTables};
 
 use field::Gf;
@@ -26,18 +25,10 @@ pub fn push(powers: &[u8; 256], logs: &[u8; 256], generator: &[u8], register: &m
 {
     let f = Gf(byte).sum(Gf(register[0]));
     let last = register.len() - 1;
-    let mut j = 0;
-    while j < last {
+    for j in 0..last {
         let next = Gf(register[j + 1]).sum(f.product_by(Gf(generator[j]), powers, logs));
         register[j] = next.0;
-        j += 1;
     }
-    let end = f.product_by(Gf(generator[j]), powers, logs);
-    register[j] = end.0;
-}
-
-pub fn no_parity() -> [u8; 32]
-    ensures { (length result ≡ 32) × (result ≡ tabulate 32 (λ _. 0)) }
-{
-    [0u8; 32]
+    let end = f.product_by(Gf(generator[last]), powers, logs);
+    register[last] = end.0;
 }

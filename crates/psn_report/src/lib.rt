@@ -16,7 +16,8 @@ pub fn read_text(psn: Psn, first: bool) -> Text
 {
     let named = steps::psn_behind(b"", psn);
     if first {
-        return put(named, b"first # 1\n");
+        put(named, b"first # 1\n")
+    } else {
+        put(named, b"first # 0\n")
     }
-    put(named, b"first # 0\n")
 }

@@ -18,13 +18,10 @@ struct ReadPart {
 fn answer(rt: &impl Print, read: RecordsRead, bytes: &[u8]) -> ReadPart {
     let got = bytes.len();
     let mut now = read;
-    let mut i = 0;
-    while i < bytes.len() {
-        let step = queue_lines::steps::step(now, bytes[i]);
-        let next = step.read;
-        let text = step.text;
-        now = next;
-        let printed = console::try_print(rt, text);
+    for &byte in bytes {
+        let step = queue_lines::steps::step(now, byte);
+        now = step.read;
+        let printed = console::try_print(rt, step.text);
         if printed.is_err() {
             return ReadPart {
                 read: now,
@@ -32,7 +29,6 @@ fn answer(rt: &impl Print, read: RecordsRead, bytes: &[u8]) -> ReadPart {
                 printed,
             };
         }
-        i += 1;
     }
     ReadPart {
         read: now,
@@ -52,14 +48,10 @@ fn read_all(rt: &impl Print, from: &mut impl Read) -> io::Result<ReadPart> {
     let mut read = queue_lines::steps::start();
     for _ in 0..0x8000_0000_0000_0000u64 {
         let part = read_once(rt, from, read)?;
-        if part.got == 0 {
+        if part.got == 0 || part.printed.is_err() {
             return Ok(part);
         }
-        if part.printed.is_err() {
-            return Ok(part);
-        }
-        let next = part.read;
-        read = next;
+        read = part.read;
     }
     Ok(ReadPart {
         read,
@@ -70,9 +62,8 @@ fn read_all(rt: &impl Print, from: &mut impl Read) -> io::Result<ReadPart> {
 
 // A last line without a line feed is answered, too.
 fn finish(rt: &impl Print, last: ReadPart) -> io::Result<()> {
-    let read = last.read;
     last.printed?;
-    console::try_print(rt, queue_lines::steps::finish(read))
+    console::try_print(rt, queue_lines::steps::finish(last.read))
 }
 
 fn main(rt: HostRuntime) -> ExitCode {

@@ -1,12 +1,12 @@
 -- The record on a line: its bytes, pair by pair, and that other text and longer lines get 26. Assumes nothing.
-use mathlib.Core.Path.{◌≡◌, refl, sym, ap, ap₂, subst, ◌∙◌}
+use mathlib.Core.Path.{◌≡◌, refl, sym, ap, ap₂, ◌∙◌}
 use mathlib.Core.Bool.{Bool, true, false, cond, ◌&&◌, false≢true}
 use mathlib.Core.List.{List, [], ◌∷◌, ◌++◌, append-nil, append_assoc}
 use Prim.Native.Nat.{ℕ, suc, ◌+◌, ◌*◌, ◌/◌, ◌%◌, ◌<◌, ◌≤◌}
 use native.Mathlib.Numerals.{add-one}
 use native.Mathlib.Decide.{dec_lt}
 use native.Mathlib.Omega.{arith}
-use borrow.Author.Tests.{lt-ltb, le-ltb, ltb-true, le-leb, lt-leb}
+use borrow.Author.Tests.{ltb-true, le-leb, lt-leb}
 use lib.ListN.{length, get_or, take, drop, set, length-set, drop_of_length-le}
 use lib.Seq.{drop-cons, get_or-take, length-take-le, take-suc-set}
 use Rattle.laws.proofs.Booleans.{and_left, and_right, and-false}
@@ -17,28 +17,10 @@ use Rattle.order_queue.specs.declared.Handled.{Handled}
 use Rattle.order_queue.specs.Queue.{quiet, answered_to, handled}
 use Rattle.order_queue.proofs.Records.{other-size}
 use Rattle.queue_lines.specs.declared.RecordLine.{RecordLine}
-use Rattle.queue_lines.specs.declared.steps.LineRecord.{LineRecord}
 use Rattle.queue_lines.specs.Lines.{is_digit, is_record_text, pair_bytes, record_on}
 use Rattle.queue_lines.specs.steps.Reading.{pair_of, shown_record, HoldsRecordLine, HoldsRecord}
 
--- ---- two digits; h and l are what was read of them
-
-module _ (high low h l : ℕ) (hh : h ≡ digit_of high) (hl : l ≡ digit_of low) where
-  both : {t u : Bool} → is_digit high ≡ t → is_digit low ≡ u → cond (t && u) (digit_of high * 16 + digit_of low) 256 ≡ pair_of high low
-  both e f = sym (ap₂ (λ (t u : Bool). cond (t && u) (digit_of high * 16 + digit_of low) 256) e f)
-
-  pub pair-digits : h < 16 → l < 16 → h * 16 + l ≡ pair_of high low
-  pair-digits p q =
-      ap₂ (λ (m n : ℕ). m * 16 + n) hh hl
-      ∙ both (lt-ltb (digit_of high) 16 (omega (arith, p, hh))) (lt-ltb (digit_of low) 16 (omega (arith, q, hl)))
-
-  pub pair-not-high : 16 ≤ h → 256 ≡ pair_of high low
-  pair-not-high p = both {u = is_digit low} (le-ltb (digit_of high) 16 (omega (arith, p, hh))) refl
-
-  pub pair-not-low : h < 16 → 16 ≤ l → 256 ≡ pair_of high low
-  pair-not-low p q = both (lt-ltb (digit_of high) 16 (omega (arith, p, hh))) (le-ltb (digit_of low) 16 (omega (arith, q, hl)))
-
--- ---- a text of them
+-- ---- a text of digits
 
 module _ (line : List ℕ) where
   text-record : is_record_text line ≡ true → record_on line ≡ pair_bytes line
@@ -67,20 +49,15 @@ module _ (text : List ℕ) (size : ℕ) where
   unfolding shown_record
   shown-short h = ap (λ (t : Bool). cond t (record_on (take size text)) []) (le-leb size 12 h)
 
-  shown-long : 12 < size → shown_record text size ≡ []
+  pub shown-long : 12 < size → shown_record text size ≡ []
   unfolding shown_record
   shown-long h = ap (λ (t : Bool). cond t (record_on (take size text)) []) (lt-leb size 12 h)
 
-  -- none is a record without bytes
-  module _ {none : LineRecord} (empty : HoldsRecord [] none) where
-    pub held-long : 12 < size → HoldsRecord (shown_record text size) none
-    held-long h = subst (λ (l : List ℕ). HoldsRecord l none) (sym (shown-long h)) empty
+  held-other : size ≤ 12 → is_record_text (take size text) ≡ false → shown_record text size ≡ []
+  held-other h e = shown-short h ∙ other-record (take size text) e
 
-    held-other : size ≤ 12 → is_record_text (take size text) ≡ false → HoldsRecord (shown_record text size) none
-    held-other h e = subst (λ (l : List ℕ). HoldsRecord l none) (sym (shown-short h ∙ other-record (take size text) e)) empty
-
-    pub held-odd : length text ≡ 12 → size ≤ 12 → (size % 2 ≡ 0 → ⊥) → HoldsRecord (shown_record text size) none
-    held-odd room h odd = held-other h (odd-text (take size text) (omega (arith, length-take-le size text (omega (arith, room, h)), odd)))
+  pub held-odd : length text ≡ 12 → size ≤ 12 → (size % 2 ≡ 0 → ⊥) → shown_record text size ≡ []
+  held-odd room h odd = held-other h (odd-text (take size text) (omega (arith, length-take-le size text (omega (arith, room, h)), odd)))
 
 -- in a loop: k bytes are read, and the rest of the line decides
 pub record PairsRead (text : List ℕ) (size k : ℕ) (bytes : List ℕ) : Type 0 where
@@ -166,22 +143,24 @@ module _ {text : List ℕ} {size k : ℕ} {bytes : List ℕ} (p : PairsRead text
         by false both e = refl
 
     -- a byte that is no digit
-    pub pairs-other : {none : LineRecord} → 256 ≤ byte → HoldsRecord [] none → HoldsRecord (shown_record text size) none
+    pub pairs-other : 256 ≤ byte → shown_record text size ≡ []
     unfolding is_record_text
-    pairs-other large empty =
-        held-other text size empty p.short
+    pairs-other large =
+        held-other text size p.short
         (sym p.right ∙ ap is_record_text next ∙ not-all (is_digit high) (is_digit low) (is_record_text rest) (not-both large))
 
-  pub pairs-all : size / 2 ≤ k → HoldsRecord (shown_record text size) (record { bytes = bytes; count = k })
+  pub pairs-all : size / 2 ≤ k → HoldsRecord (shown_record text size) (record { bytes = bytes; count = size / 2 })
   unfolding is_record_text pair_bytes
   pairs-all h =
+      let all : size / 2 ≡ k = omega (arith, h, p.within) in
       let none : drop (2 * k) line ≡ [] = drop_of_length-le line {i = 2 * k} (omega (arith, line-size, h, p.even)) in
       let right : is_record_text line ≡ true = sym p.right ∙ ap is_record_text none in
       record {
         room = p.room;
-        within = omega (arith, p.within, p.short);
+        within = omega (arith, all, p.within, p.short);
         first-ones =
-            sym (append-nil (take k bytes))
+            ap (λ (n : ℕ). take n bytes) all
+            ∙ sym (append-nil (take k bytes))
             ∙ sym (ap (λ (l : List ℕ). take k bytes ++ pair_bytes l) none)
             ∙ p.read
             ∙ sym (shown-short text size p.short ∙ text-record line right);
@@ -221,12 +200,12 @@ module _ (queue : Queue) (line : List ℕ) where
       by true e = text-26 e (λ z. omega (arith, h, z)) (λ z. omega (arith, h, z))
       by false e = other-26 e
 
--- what is held of a line, found, is handled as the line is
-pub line-handled : (queue : Queue) {begun : List ℕ} {line : RecordLine} {found : LineRecord} {h : Handled} → h ≡ handled queue (take found.count found.bytes)
-    → HoldsRecord (shown_record line.text line.size) found → HoldsRecordLine begun line → h ≡ handled queue (record_on begun)
-line-handled queue {begun} {line} hh record_is holds =
+-- what is held of a line is handled as the line is
+pub line-handled : (queue : Queue) {begun bytes : List ℕ} {line : RecordLine} {h : Handled} → h ≡ handled queue bytes
+    → bytes ≡ shown_record line.text line.size → HoldsRecordLine begun line → h ≡ handled queue (record_on begun)
+line-handled queue {begun} {line = line} hh held holds =
     hh
-    ∙ ap (handled queue) record_is.first-ones
+    ∙ ap (handled queue) held
     ∙ elim (dec_lt 12 (length begun)) [
       | yes long ↦ ap (handled queue) (shown-long line.text line.size (omega (arith, long, holds.size))) ∙ no_bytes queue ∙ sym (long-26 queue begun long)
       | no short ↦

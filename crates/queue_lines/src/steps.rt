@@ -1,5 +1,5 @@
 // The steps: a line, its record, a text.
-ghost use Rattle.std.specs.Prelude.{◌≡◌, List, [], ◌∷◌, ◌++◌, ℕ};
+ghost use Rattle.std.specs.Prelude.{◌≡◌, ◌<◌, List, [], ◌∷◌, ◌++◌, ℕ, MatchOption, SomeIff};
 ghost use Rattle.order_queue.specs.Queue.{handled};
 ghost use Rattle.queue_lines.specs.Lines.{record_on, text_said};
 ghost use Rattle.queue_lines.specs.steps.Reading.{pair_of, shown_record, shown_bytes, HoldsRecordLine, HoldsRecord, HasRead};
@@ -24,8 +24,7 @@ fn no_line() -> RecordLine
 fn add_byte(line: RecordLine, byte: u8) -> RecordLine
     ensures { (begun : List ℕ) → HoldsRecordLine begun line → HoldsRecordLine (begun ++ (byte ∷ [])) result }
 {
-    let mut text = line.text;
-    let size = line.size;
+    let RecordLine { mut text, size } = line;
     if 12 <= size {
         return RecordLine { text, size: 13 };
     }
@@ -45,61 +44,44 @@ struct LineRecord {
     count: usize,
 }
 
-fn no_record() -> LineRecord
-    ensures { HoldsRecord [] result }
+// The byte of two digits.
+fn pair(high: u8, low: u8) -> Option<u8>
+    ensures { SomeIff result (pair_of high low < 256) (pair_of high low) }
 {
-    LineRecord {
-        bytes: [0u8; 6],
-        count: 0,
-    }
+    let h = digit(high)?;
+    let l = digit(low)?;
+    Some((h * 16 + l) as u8)
 }
 
-// The byte of two digits, 256 for any other two.
-fn pair(high: u8, low: u8) -> u32
-    ensures { result ≡ pair_of high low }
+// The record on a line of this size, if it is one.
+fn record_on(text: [u8; 12], size: usize) -> Option<LineRecord>
+    ensures { MatchOption result (shown_record text size ≡ []) (HoldsRecord (shown_record text size)) }
 {
-    let h = digit(high);
-    let l = digit(low);
-    if 16 <= h {
-        return 256;
+    if 12 < size || size % 2 != 0 {
+        return None;
     }
-    if 16 <= l {
-        return 256;
+    let mut bytes = [0; 6];
+    for k in 0..size / 2 {
+        bytes[k] = pair(text[2 * k], text[2 * k + 1])?;
     }
-    h * 16 + l
+    Some(LineRecord {
+        bytes,
+        count: size / 2,
+    })
 }
 
-// The record on a line of this size.
-fn record_on(text: [u8; 12], size: usize) -> LineRecord
-    ensures { HoldsRecord (shown_record text size) result }
-{
-    if 12 < size {
-        return no_record();
-    }
-    if size % 2 != 0 {
-        return no_record();
-    }
-    let mut bytes = [0u8; 6];
-    let mut k = 0;
-    while k < size / 2 {
-        let byte = pair(text[2 * k], text[2 * k + 1]);
-        if 256 <= byte {
-            return no_record();
-        }
-        bytes[k] = byte as u8;
-        k += 1;
-    }
-    LineRecord { bytes, count: k }
-}
-
+// Another text is handled as the record without bytes.
 fn handle_line(queue: Queue, line: RecordLine) -> Handled
     ensures { (begun : List ℕ) → HoldsRecordLine begun line → result ≡ handled queue (record_on begun) }
 {
-    let text = line.text;
-    let found = record_on(text, line.size);
-    let bytes = found.bytes;
-    let count = found.count;
-    order_queue::handle(queue, &bytes[..count])
+    let RecordLine { text, size } = line;
+    match record_on(text, size) {
+        Some(found) => {
+            let bytes = found.bytes;
+            order_queue::handle(queue, &bytes[..found.count])
+        }
+        None => order_queue::handle(queue, b""),
+    }
 }
 
 // ---- a text
@@ -118,25 +100,24 @@ pub fn start() -> RecordsRead
 pub fn step(read: RecordsRead, byte: u8) -> RecordsStep
     ensures { (bytes printed : List ℕ) → HasRead bytes printed read → HasRead (bytes ++ (byte ∷ [])) (printed ++ shown_bytes result.text) result.read }
 {
-    let line = read.line;
-    let queue = read.queue;
+    let RecordsRead { line, queue } = read;
     if byte == b'\n' {
         let done = handle_line(queue, line);
-        let next = done.queue;
-        return RecordsStep {
+        RecordsStep {
             read: RecordsRead {
                 line: no_line(),
-                queue: next,
+                queue: done.queue,
             },
             text: handled_text(done),
-        };
-    }
-    RecordsStep {
-        read: RecordsRead {
-            line: add_byte(line, byte),
-            queue,
-        },
-        text: blank(),
+        }
+    } else {
+        RecordsStep {
+            read: RecordsRead {
+                line: add_byte(line, byte),
+                queue,
+            },
+            text: blank(),
+        }
     }
 }
 
@@ -144,10 +125,10 @@ pub fn step(read: RecordsRead, byte: u8) -> RecordsStep
 pub fn finish(read: RecordsRead) -> Text
     ensures { (bytes printed : List ℕ) → HasRead bytes printed read → text_said bytes ≡ printed ++ shown_bytes result }
 {
-    let line = read.line;
-    let queue = read.queue;
+    let RecordsRead { line, queue } = read;
     if line.size == 0 {
-        return blank();
+        blank()
+    } else {
+        handled_text(handle_line(queue, line))
     }
-    handled_text(handle_line(queue, line))
 }

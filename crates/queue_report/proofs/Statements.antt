@@ -12,8 +12,8 @@ use Rattle.answer.specs.declared.Answer.{Answer}
 use Rattle.answer.specs.declared.Answer.TheVariants.{Done, WrongUser, WrongSide, WrongDc, WrongImage, WrongWork, NoMultiple, NoZone, DcWord, LastBits, Sync, Frame, BisColumn, AddressUnit, NoPsn, LdcColumn, Sector, WrongRow, WrongColumn, WrongCount, Repeated, WrongRecord, NoBench, BenchWaiting}
 use Rattle.answer.specs.Answer.{number_of, place_of}
 use Rattle.io.specs.Digits.{hex_digit_ascii, last_digits}
-use Rattle.notation.specs.declared.PsnText.{PsnText}
-use Rattle.notation.specs.declared.PsnText.TheVariants.{Number, NoNumber}
+use Rattle.std.specs.Prelude.{Option, Some, None}
+use Rattle.address.specs.declared.Psn.{Psn}
 use Rattle.notation.specs.Psn.{psn_of}
 use Rattle.notation.proofs.Statements.{printed-back}
 use Rattle.texts.specs.Text.{the}
@@ -47,9 +47,9 @@ hexadecimal-same : (n m : ℕ) → n < 2 ^ 32 → m < 2 ^ 32 → hexadecimal n �
 unfolding hexadecimal
 hexadecimal-same n m hn hm e = ap number (sym (printed-back n (omega arith)) ∙ ap psn_of e ∙ printed-back m (omega arith))
   where
-    number : PsnText → ℕ
-    number (Number psn) = psn.0
-    number NoNumber = 0
+    number : Option Psn → ℕ
+    number (Some psn) = psn.0
+    number None = 0
 
 eight-first : (h : Handled) → take 8 (from_psn h) ≡ hexadecimal h.psn.0
 eight-first h = take_at (hexadecimal h.psn.0) (handled_words h.answer) 8 (length-hexadecimal h.psn.0)

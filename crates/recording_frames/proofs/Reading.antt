@@ -7,17 +7,16 @@ use native.Mathlib.Decide.{dec_lt}
 use native.Mathlib.Omega.{arith}
 use lib.ListN.{length, get_or, set, take, drop, length-append, take-append-drop, get_or-append}
 use lib.Seq.{get_or-append-add}
+use Rattle.std.specs.Prelude.{Option, Some, None}
 use Rattle.laws.proofs.First.{Passed, passed_none, passed-more, first-here, first_past}
 use Rattle.laws.proofs.Fill.{Upto, upto-none, upto-more, upto-part, upto_all}
 use Rattle.modulation.specs.Sync.{FS, sync_number}
 use Rattle.frame_bits.specs.FrameBits.{row_from}
 use Rattle.frame_sync.specs.Sync.{fs, fs_number, hash_at}
-use Rattle.frame.specs.declared.FrameRead.{FrameRead}
-use Rattle.frame.specs.declared.FrameRead.TheVariants.{Found, NoFrame}
 use Rattle.frame.specs.Reading.{StrictlyRead, readable, frame_read, row_left}
 use Rattle.frame_sync.proofs.SyncTables.{fs-number}
 use Rattle.frame_bits.proofs.FrameBits.{length-row}
-use Rattle.frame.proofs.Reading.{readable-gives, read_is, found-is, no_found}
+use Rattle.frame.proofs.Reading.{readable-gives, read_is, some-is, no_some}
 use Rattle.recording.specs.Reading.{modulated_at, hash_behind, no_frame, first_no_frame, frame_bits_in, cluster_byte, cluster_in, dc_word_in, dc_in}
 use Rattle.recording_frames.specs.steps.Read.{FrameAnswer, TwoFrames, FramesRead}
 use Rattle.recording.proofs.Accepting.{readable-is}
@@ -31,7 +30,7 @@ module _ (b : List ℕ) (n : ℕ) where
   length-row-in e = length-row (frame_bits_in b n) (readable-gives (sync_number n) (modulated_at b n) (hash_behind b n) (readable-is b n e)).are-bits
 
 -- a frame as it is read with the number of its sync, from bit q on, in bits l where the recording starts at bit `at`
-module _ (l : List ℕ) (at n number q s : ℕ) {before p : List ℕ} {hash : Bool} {r : FrameRead} (en : number ≡ fs_number (sync_number n)) (eh : hash ≡ hash_at l s)
+module _ (l : List ℕ) (at n number q s : ℕ) {before p : List ℕ} {hash : Bool} {r : Option ℕ} (en : number ≡ fs_number (sync_number n)) (eh : hash ≡ hash_at l s)
     (es : s ≡ at + 1932 * (n + 1)) (eq : q ≡ at + (1932 * n + 30)) (read : StrictlyRead (fs number) (take 1902 (drop q l)) hash before r p) where
   abbrev b : List ℕ
   b = drop at l
@@ -53,11 +52,11 @@ module _ (l : List ℕ) (at n number q s : ℕ) {before p : List ℕ} {hash : Bo
     where
       by : (t : Bool) → readable (sync_number n) (modulated_at b n) (hash_behind b n) ≡ t → FrameAnswer b n r
       by true e =
-          let answered : r ≡ Found (dc_word_in b n) = (read_is strictly).0 ∙ rw e in
-          record { found = λ dc f. (ap not e, found-is dc (dc_word_in b n) (sym f ∙ answered)); none = λ f. absurd (no_found (sym answered ∙ f)) }
+          let answered : r ≡ Some (dc_word_in b n) = (read_is strictly).0 ∙ rw e in
+          record { found = λ dc f. (ap not e, some-is (sym f ∙ answered)); none = λ f. absurd (no_some (sym answered ∙ f)) }
       by false e =
-          let answered : r ≡ NoFrame = (read_is strictly).0 ∙ rw e in
-          record { found = λ dc f. absurd (no_found (sym f ∙ answered)); none = λ f. ap not e }
+          let answered : r ≡ None = (read_is strictly).0 ∙ rw e in
+          record { found = λ dc f. absurd (no_some (sym f ∙ answered)); none = λ f. ap not e }
 
   pub row_is : no_frame b n ≡ false → p ≡ row_from (frame_bits_in b n)
   unfolding row_left
@@ -73,34 +72,34 @@ two-rows b work p n m em row next =
 
 -- ---- the loop
 
--- the frames below n are read, two by two
+-- the frames below n are read
 pub record Below (b : List ℕ) (n : ℕ) (dc work : List ℕ) : Type 0 where
-  pub within : n ≤ 496
-  pub even : n % 2 ≡ 0
   pub given : Passed (no_frame b) n
   pub words : Upto 0 (dc_word_in b) 496 n dc
   pub rows : Upto 0 (cluster_byte b) 76880 (155 * n) work
 
 pub below_none : {b dc work : List ℕ} → length dc ≡ 496 → length work ≡ 76880 → Below b 0 dc work
-below_none d w = record { within = omega arith; even = refl; given = passed_none; words = upto-none d; rows = upto-none w }
+below_none d w = record { given = passed_none; words = upto-none d; rows = upto-none w }
 
-module _ {b dc work after : List ℕ} {n : ℕ} {first second : FrameRead} (u : Below b n dc work) (h : n < 496) (two : TwoFrames b n work first second after) where
+module _ {b dc work after : List ℕ} {pair : ℕ} {first second : Option ℕ} (u : Below b (2 * pair) dc work) (h : pair < 248)
+    (two : TwoFrames b (2 * pair) work first second after) where
+  abbrev n : ℕ
+  n = 2 * pair
+
   -- two frames more
-  pub below_more : {word next : ℕ} → first ≡ Found word → second ≡ Found next → Below b (n + 2) (set (set dc n word) (n + 1) next) after
+  pub below_more : {word next : ℕ} → first ≡ Some word → second ≡ Some next → Below b (2 * (pair + 1)) (set (set dc (2 * pair) word) (2 * pair + 1) next) after
   below_more {word} {next} e f =
       let found = two.one.found word e in
       let other = two.two.found next f in
-      let further : n + 1 + 1 ≡ n + 2 = omega arith in
+      let further : 2 * pair + 1 + 1 ≡ 2 * (pair + 1) = omega arith in
       record {
-        within = omega (arith, u.even);
-        even = omega (arith, u.even);
         given = subst (Passed (no_frame b)) further (passed-more (passed-more u.given found.0) other.0);
         words =
-            subst (λ (k : ℕ). Upto 0 (dc_word_in b) 496 k (set (set dc n word) (n + 1) next)) further
-            (upto-more (omega (arith, u.even)) other.1 (upto-more h found.1 u.words));
+            subst (λ (k : ℕ). Upto 0 (dc_word_in b) 496 k (set (set dc (2 * pair) word) (2 * pair + 1) next)) further
+            (upto-more (omega arith) other.1 (upto-more (omega arith) found.1 u.words));
         rows =
-            subst (Upto 0 (cluster_byte b) 76880 (155 * (n + 2))) (sym (two.rows found.0 other.0))
-            (upto-part 310 (row n ++ row (n + 1)) (omega arith) (omega (arith, u.even)) (long found.0 other.0) (byte found.0) u.rows);
+            subst (Upto 0 (cluster_byte b) 76880 (155 * (2 * (pair + 1)))) (sym (two.rows found.0 other.0))
+            (upto-part 310 (row (2 * pair) ++ row (2 * pair + 1)) (omega arith) (omega arith) (long found.0 other.0) (byte found.0) u.rows);
       }
     where
       row : ℕ → List ℕ
@@ -126,30 +125,25 @@ module _ {b dc work after : List ℕ} {n : ℕ} {first second : FrameRead} (u : 
                 ∙ sym (ap₂ (λ (i j : ℕ). get_or (row i) j 0) here column)
           ]
 
-  stop : (k : ℕ) → k < 496 → Passed (no_frame b) k → no_frame b k ≡ true → FramesRead b k dc after
+  stop : (k : ℕ) → k < 496 → Passed (no_frame b) k → no_frame b k ≡ true → FramesRead b (Some k) dc after
   unfolding first_no_frame
   stop k l passed none =
-      record {
-        first = first-here l passed none;
-        dc-is = λ past. absurd (omega arith);
-        work-is = λ past. absurd (omega arith);
-        size = two.size ∙ u.rows.size;
-      }
+      let is : k ≡ first_no_frame b = first-here l passed none in
+      record { first = (omega (arith, is), is); dc-is = tt; work-is = tt; size = two.size ∙ u.rows.size }
 
   -- the first of them, or the second, is one that no bits give
-  pub below-stop : first ≡ NoFrame → FramesRead b n dc after
-  below-stop e = stop n h u.given (two.one.none e)
+  pub below-stop : first ≡ None → FramesRead b (Some (2 * pair)) dc after
+  below-stop e = stop n (omega arith) u.given (two.one.none e)
 
-  pub below-stop-next : {word : ℕ} → first ≡ Found word → second ≡ NoFrame → FramesRead b (n + 1) dc after
-  below-stop-next {word} e f = stop (n + 1) (omega (arith, u.even)) (passed-more u.given (two.one.found word e).0) (two.two.none f)
+  pub below-stop-next : {word : ℕ} → first ≡ Some word → second ≡ None → FramesRead b (Some (2 * pair + 1)) dc after
+  below-stop-next {word} e f = stop (n + 1) (omega arith) (passed-more u.given (two.one.found word e).0) (two.two.none f)
 
-pub below_all : {b dc work : List ℕ} {n : ℕ} → 496 ≤ n → Below b n dc work → FramesRead b n dc work
+pub below_all : {b dc work : List ℕ} {n : ℕ} → 496 ≤ n → Below b n dc work → FramesRead b None dc work
 unfolding first_no_frame cluster_in dc_in
 below_all {b} {dc} {work} {n} l u =
-    let all : n ≡ 496 = omega (arith, u.within) in
     record {
-      first = all ∙ first_past l u.given;
-      dc-is = λ _. upto_all l u.words;
-      work-is = λ _. upto_all (omega arith) u.rows;
+      first = λ some. omega (arith, some, first_past l u.given);
+      dc-is = upto_all l u.words;
+      work-is = upto_all (omega arith) u.rows;
       size = u.rows.size;
     }

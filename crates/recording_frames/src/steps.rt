@@ -7,7 +7,7 @@ ghost use Rattle.recording_frames.specs.steps.Read.{TwoFrames, FramesRead};
 ghost use Rattle.sizes.specs.Sizes.{work_size, frame_count};
 
 use automaton::Table;
-use frame::{FrameRead, TwoRead};
+use frame::TwoRead;
 
 // Frames n and n + 1, their rows into their places of the cluster.
 fn read_two(steps: &Table, image: &[u8], at: usize, n: usize, work: &mut [u8]) -> TwoRead
@@ -32,27 +32,24 @@ fn read_two(steps: &Table, image: &[u8], at: usize, n: usize, work: &mut [u8]) -
     )
 }
 
-// Test 11: the lowest frame that no 1,268 bits give, or 496; then all rows stand in the cluster and the dc words in dc.
-pub fn read_frames(image: &[u8], at: usize, dc: &mut [u32], work: &mut [u8]) -> usize
+// Test 11: the lowest frame that no 1,268 bits give, if any; where there is none, all rows stand in the cluster and the dc words in dc.
+pub fn read_frames(image: &[u8], at: usize, dc: &mut [u32], work: &mut [u8]) -> Option<usize>
     requires { Within image.now at × ((length dc.old ≡ frame_count) × (length work.old ≡ work_size)) }
     ensures { FramesRead (drop at (bits_of image.now)) result dc.new work.new }
 {
-    let mut steps = demodulator_table::steps::no_table();
+    let mut steps = [0; 10368];
     demodulator_table::steps::fill_table(&mut steps);
-    let mut n = 0;
-    while n < sizes::FRAMES {
+    for pair in 0..sizes::FRAMES / 2 {
+        let n = 2 * pair;
         let two = read_two(&steps, image, at, n, work);
-        let first = two.first;
-        let FrameRead::Found(word) = first else {
-            return n;
+        let Some(word) = two.first else {
+            return Some(n);
         };
-        let second = two.second;
-        let FrameRead::Found(next) = second else {
-            return n + 1;
+        let Some(next) = two.second else {
+            return Some(n + 1);
         };
         dc[n] = word;
         dc[n + 1] = next;
-        n += 2;
     }
-    n
+    None
 }

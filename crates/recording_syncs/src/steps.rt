@@ -1,5 +1,5 @@
 // The syncs of a recording from bit `at` on.
-ghost use Rattle.std.specs.Prelude.{◌≡◌, ◌&&◌, drop};
+ghost use Rattle.std.specs.Prelude.{◌≡◌, ◌<◌, ◌&&◌, drop, SomeIff};
 ghost use Rattle.bits.specs.Bits.{bits_of};
 ghost use Rattle.answer.specs.Answer.{is_done};
 ghost use Rattle.recording.specs.Reading.{first_wrong_sync, first_hash};
@@ -7,20 +7,18 @@ ghost use Rattle.recording.specs.steps.Within.{Within};
 
 use answer::Answer;
 
-// Test 10: the lowest frame whose sync is wrong, or 497; # is not judged.
-pub fn first_wrong_sync(image: &[u8], at: usize) -> usize
+// Test 10: the lowest frame whose sync is wrong, if any; # is not judged.
+pub fn first_wrong_sync(image: &[u8], at: usize) -> Option<usize>
     requires { Within image.now at }
-    ensures { result ≡ first_wrong_sync (drop at (bits_of image.now)) }
+    ensures { SomeIff result (first_wrong_sync (drop at (bits_of image.now)) < 497) (first_wrong_sync (drop at (bits_of image.now))) }
 {
-    let mut sync = 0;
-    while sync < 497 {
+    for sync in 0..497usize {
         let number = frame_sync::sync_number(sync);
         if !frame_sync::steps::sync_right(image, at + sizes::FRAME * sync, number) {
-            return sync;
+            return Some(sync);
         }
-        sync += 1;
     }
-    sync
+    None
 }
 
 // # of the sync of frame 0; false where an answer refuses.

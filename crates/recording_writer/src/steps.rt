@@ -44,11 +44,8 @@ pub fn put_frames(work: &[u8], dc: &[u32], first: State, image: &mut [u8], at: u
     let mut table = modulator_table::steps::no_table();
     modulator_table::steps::fill_table(&mut table);
     let mut state = first;
-    let mut n = 0;
-    while n < sizes::FRAMES {
-        let next = put_frame(&table, work, dc, n, state, image, at);
-        state = next;
-        n += 1;
+    for n in 0..sizes::FRAMES {
+        state = put_frame(&table, work, dc, n, state, image, at);
     }
     state
 }

@@ -1,5 +1,5 @@
 // One byte into the register, by the rows with no zeros behind a byte.
-ghost use Rattle.std.specs.Prelude.{◌≡◌, [], ◌∷◌, ◌+◌, ◌*◌, ◌<◌, take};
+ghost use Rattle.std.specs.Prelude.{◌≡◌, [], ◌∷◌, ◌+◌, ◌*◌, take};
 ghost use Rattle.laws.specs.Tabulate.{tabulate};
 ghost use Rattle.galois.specs.Field.{sum};
 ghost use Rattle.column.specs.Column.{remainder};
@@ -21,23 +21,15 @@ pub fn plus(a: u8, b: u8) -> u8
     s.0
 }
 
-pub fn wide(a: u8) -> usize
-    ensures { (result ≡ a) × (result < 256) }
-{
-    a as usize
-}
-
 // The register behind one byte more: the rows with no zeros behind the byte do.
 pub fn pushed_byte(table: &Remainders, was: Register, byte: u8) -> Register
     requires { FirstTable table.now × Padded was }
     ensures { Padded result × (take 32 result ≡ remainder divisor (take 32 was) (byte ∷ [])) }
 {
-    let out = wide(plus(byte, was[0]));
+    let out = usize::from(plus(byte, was[0]));
     let mut next = zeros();
-    let mut j = 0;
-    while j < 32 {
+    for j in 0..32 {
         next[j] = plus(was[j + 1], table[32 * out + j]);
-        j += 1;
     }
     next
 }

@@ -12,10 +12,8 @@ pub fn put_row(table: &mut Remainders, at: usize, row: &[u8])
     requires { FilledTo at table.old × ((at + 32 ≤ 65536) × EntriesFrom at row.now) }
     ensures { FilledTo (at + 32) table.new }
 {
-    let mut j = 0;
-    while j < 32 {
+    for j in 0..32 {
         table[at + j] = row[j];
-        j += 1;
     }
 }
 
@@ -24,7 +22,7 @@ pub fn first_row(powers: &[u8; 256], logs: &[u8; 256], generator: &[u8; 32], b: 
     requires { AreTables powers.now logs.now × (generator.now ≡ divisor) }
     ensures { (length result ≡ 32) × EntriesFrom (32 * b) result }
 {
-    let mut row = parity::steps::no_parity();
+    let mut row = [0u8; 32];
     parity::steps::push(powers, logs, generator, &mut row, b);
     row
 }
@@ -42,10 +40,8 @@ fn row_at(table: &Remainders, at: usize) -> Register
     ensures { Padded result × EntriesFrom at result }
 {
     let mut row = zeros();
-    let mut j = 0;
-    while j < 32 {
+    for j in 0..32 {
         row[j] = table[at + j];
-        j += 1;
     }
     row
 }

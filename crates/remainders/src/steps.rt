@@ -14,11 +14,9 @@ fn fill_first(table: &mut Remainders)
     let powers = field_tables::powers();
     let logs = field_tables::logs();
     let generator = parity::steps::generator_32();
-    let mut b = 0;
-    while b < 256 {
+    for b in 0..256 {
         let row = first_row(&powers, &logs, &generator, byte(b));
         put_row(table, 32 * b, &row);
-        b += 1;
     }
 }
 
@@ -27,11 +25,9 @@ fn fill_next(table: &mut Remainders, k: usize)
     requires { FilledTo (8192 * k + 8192) table.old × (k < 7) }
     ensures { FilledTo (8192 * k + 16384) table.new }
 {
-    let mut b = 0;
-    while b < 256 {
+    for b in 0..256 {
         let row = next_row(table, k, b);
         put_row(table, 8192 * k + 32 * b + 8192, &row);
-        b += 1;
     }
 }
 
@@ -41,10 +37,8 @@ pub fn fill_remainders(table: &mut Remainders)
     ensures { AreRemainders table.new }
 {
     fill_first(table);
-    let mut k = 0;
-    while k < 7 {
+    for k in 0..7 {
         fill_next(table, k);
-        k += 1;
     }
 }
 

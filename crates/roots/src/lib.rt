@@ -13,10 +13,8 @@ fn value_at(powers: &[u8; 256], logs: &[u8; 256], column: &[u8], x: Gf) -> Gf
     ensures { result.0 ≡ value column.now x.0 }
 {
     let mut v = Gf::ZERO;
-    let mut i = 0;
-    while i < column.len() {
-        v = v.product_by(x, powers, logs).sum(Gf(column[i]));
-        i += 1;
+    for &byte in column {
+        v = v.product_by(x, powers, logs).sum(Gf(byte));
     }
     v
 }
@@ -28,13 +26,11 @@ pub fn has_roots(column: &[u8], count: u8) -> bool
 {
     let powers = field_tables::powers();
     let logs = field_tables::logs();
-    let mut i = 0u8;
-    while i < count {
-        let v = value_at(&powers, &logs, column, Gf::ALPHA.power(i as usize));
+    for i in 0..count {
+        let v = value_at(&powers, &logs, column, Gf::ALPHA.power(usize::from(i)));
         if v.0 != 0 {
             return false;
         }
-        i += 1;
     }
     true
 }

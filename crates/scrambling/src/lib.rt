@@ -3,7 +3,7 @@
 
 pub mod steps;
 
-ghost use Rattle.std.specs.Prelude.{◌≡◌, length};
+ghost use Rattle.std.specs.Prelude.{◌≡◌};
 ghost use Rattle.scrambling.specs.Scrambling.{shifts, scrambling_of};
 
 use address::Psn;
@@ -17,20 +17,14 @@ fn shifted_by_eight(s: u16) -> u16
     (s << 8) ^ (early ^ (early >> 4))
 }
 
-fn zeros() -> [u8; 2052]
-    ensures { length result ≡ 2052 }
-{
-    [0u8; 2052]
-}
-
 // The scrambling bytes, the same for each data frame of a cluster.
 pub fn scrambling(psn: Psn) -> [u8; 2052]
     ensures { result ≡ scrambling_of psn.0 }
 {
-    let mut stream = zeros();
+    let mut stream = [0u8; 2052];
     let mut s = 0x8000 + (psn.0 / 32 % 0x8000) as u16;
-    for k in 0..2052usize {
-        stream[k] = (s % 256) as u8;
+    for byte in stream.iter_mut() {
+        *byte = (s % 256) as u8;
         s = shifted_by_eight(s);
     }
     stream

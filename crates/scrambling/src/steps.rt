@@ -7,9 +7,7 @@ pub fn scramble(from: &[u8], stream: &[u8], to: &mut [u8])
     requires { (length from.now ≡ length to.old) × (length from.now ≤ length stream.now) }
     ensures { to.new ≡ scrambled stream.now from.now }
 {
-    let mut k = 0;
-    while k < to.len() {
+    for k in 0..to.len() {
         to[k] = from[k] ^ stream[k];
-        k += 1;
     }
 }

@@ -8,7 +8,6 @@ ghost use Rattle.sector.specs.DataFrame.{edc_right, framed, framed_of};
 use big_endian::steps::word_at;
 use big_endian::word_bytes;
 use sector_pass::steps as pass;
-use slices::steps::copy_bytes;
 
 // The scrambled data frame of a sector's 2,048 user bytes, in a frame of 2,052; false, and the frame as it was, at other lengths.
 pub fn data_frame(user: &[u8], stream: &[u8], frame: &mut [u8]) -> bool
@@ -21,7 +20,7 @@ pub fn data_frame(user: &[u8], stream: &[u8], frame: &mut [u8]) -> bool
         return false;
     }
     let code = pass::write(user, stream, frame) ^ pass::code_stream(stream);
-    copy_bytes(&word_bytes(code), &mut frame[2048..2052]);
+    frame[2048..2052].copy_from_slice(&word_bytes(code));
     true
 }
 

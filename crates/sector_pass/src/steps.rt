@@ -6,26 +6,19 @@ ghost use Rattle.sector_pass.specs.Pass.{PassWriting, PassReading};
 use big_endian::steps::double_word_at;
 use big_endian::{double_word_bytes, word};
 use edc::steps::{FIRST, byte_more, eight_more};
-use slices::steps::copy_bytes;
 
 // How many whole eights of a sector have bytes of the stream beside them.
 fn eights(stream: &[u8]) -> usize
     ensures { result ≡ min 2048 (length stream.now) / 8 }
 {
-    if stream.len() < 2048 {
-        return stream.len() / 8;
-    }
-    256
+    stream.len().min(2048) / 8
 }
 
 // Byte k of the stream; behind its end 0.
 fn stream_byte(stream: &[u8], k: usize) -> u8
     ensures { result ≡ get_or stream.now k 0 }
 {
-    if k < stream.len() {
-        return stream[k];
-    }
-    0
+    stream.get(k).copied().unwrap_or(0)
 }
 
 // The four scrambling bytes of the error-detection code, as a word.
@@ -52,7 +45,7 @@ pub fn write(user: &[u8], stream: &[u8], frame: &mut [u8]) -> u32
         let past = at + 8;
         let eight = double_word_at(user, at);
         let scrambled = eight ^ double_word_at(stream, at);
-        copy_bytes(&double_word_bytes(scrambled), &mut frame[at..past]);
+        frame[at..past].copy_from_slice(&double_word_bytes(scrambled));
         register = eight_more(register, eight);
     }
     for k in 8 * whole..2048 {

@@ -1,5 +1,5 @@
 // Data frames, four at a time, and the test of their EDC: one pass over each sector.
-ghost use Rattle.std.specs.Prelude.{◌≡◌, ◌<◌, length};
+ghost use Rattle.std.specs.Prelude.{◌≡◌, ◌<◌, length, SomeIff};
 ghost use Rattle.laws.specs.First.{first};
 ghost use Rattle.ldc.specs.Places.{frame_in};
 ghost use Rattle.cluster.specs.Multiplex.{ldc_in};
@@ -17,38 +17,32 @@ pub fn take_frames(work: &[u8], e: usize, frames: &mut [u8])
     ldc_words::steps::take_information(&words, frames);
 }
 
-// The lowest of four sectors whose EDC is wrong, or 4.
-fn first_wrong_frame(frames: &[u8], stream: &[u8]) -> usize
+// The lowest of four sectors whose EDC is wrong.
+fn first_wrong_frame(frames: &[u8], stream: &[u8]) -> Option<usize>
     requires { length frames.now ≡ 8208 }
-    ensures { result ≡ first 4 (wrong_frame stream.now frames.now) }
+    ensures { SomeIff result (first 4 (wrong_frame stream.now frames.now) < 4) (first 4 (wrong_frame stream.now frames.now)) }
 {
-    let mut f = 0;
-    while f < 4 {
+    for f in 0..4 {
         let from = 2052 * f;
         let end = from + 2052;
-        if sector::edc_right(&frames[from..end], stream) {
-            f += 1;
-        } else {
-            return f;
+        if !sector::edc_right(&frames[from..end], stream) {
+            return Some(f);
         }
     }
-    f
+    None
 }
 
-// The lowest sector whose EDC is wrong, or 32.
-pub fn first_wrong_sector(work: &[u8], stream: &[u8]) -> usize
+// The lowest sector whose EDC is wrong.
+pub fn first_wrong_sector(work: &[u8], stream: &[u8]) -> Option<usize>
     requires { length work.now ≡ work_size }
-    ensures { result ≡ first_wrong_sector stream.now work.now }
+    ensures { SomeIff result (first_wrong_sector stream.now work.now < 32) (first_wrong_sector stream.now work.now) }
 {
     let mut frames = ldc_words::steps::no_frames();
-    let mut e = 0;
-    while e < 8 {
+    for e in 0..8 {
         take_frames(work, e, &mut frames);
-        let f = first_wrong_frame(&frames, stream);
-        if f < 4 {
-            return 4 * e + f;
+        if let Some(f) = first_wrong_frame(&frames, stream) {
+            return Some(4 * e + f);
         }
-        e += 1;
     }
-    32
+    None
 }

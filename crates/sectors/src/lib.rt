@@ -16,7 +16,7 @@ pub extern "C" fn sectors_stream(psn: u32, stream: &mut [u8])
         return;
     }
     let made = scrambling::scrambling(Psn(psn));
-    slices::steps::copy_bytes(&made, stream);
+    stream.copy_from_slice(&made);
 }
 
 // The data frames of all sectors, one behind the other.

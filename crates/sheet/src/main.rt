@@ -30,8 +30,7 @@ fn read_all(from: &mut impl Read) -> io::Result<SheetFile> {
         if turn.got == 0 {
             return Ok(turn.file);
         }
-        let next = turn.file;
-        file = next;
+        file = turn.file;
     }
     Ok(file)
 }
@@ -49,13 +48,13 @@ fn no_psn(rt: &impl Complaints, path: &[u8], line: usize) {
 }
 
 fn say(rt: &(impl Print + Complaints), path: &[u8], file: SheetFile) -> ExitCode {
-    let said = sheet_report::steps::said(file);
-    let text = said.text;
-    if said.wrong != 0 {
-        no_psn(rt, path, said.wrong);
-        return ExitCode::SUCCESS;
+    match sheet_report::steps::said(file) {
+        Ok(text) => console::print_last(rt, text),
+        Err(line) => {
+            no_psn(rt, path, line);
+            ExitCode::SUCCESS
+        }
     }
-    console::print_last(rt, text)
 }
 
 fn judge(rt: &(impl Print + Files + Complaints), path: &[u8]) -> ExitCode {
@@ -73,9 +72,8 @@ fn main(rt: HostRuntime) -> ExitCode {
         return console::print_usage(&rt, b"usage: sheet FILE\n");
     }
     let mut name = [0u8; 4096];
-    let n = console::file_name(&rt, 1, &mut name);
-    if n != 0 {
-        return judge(&rt, &name[..n]);
+    match console::file_name(&rt, 1, &mut name) {
+        Some(n) => judge(&rt, &name[..n]),
+        None => ExitCode::SUCCESS,
     }
-    ExitCode::SUCCESS
 }

@@ -4,10 +4,11 @@ use mathlib.Core.Bool.{Bool, true, false, cond}
 use mathlib.Core.List.{List, [], ◌∷◌, ◌++◌}
 use Prim.Native.Nat.{ℕ, suc, ◌+◌, ◌<◌, ◌≤◌}
 use native.Mathlib.Omega.{arith}
-use borrow.Author.Tests.{eq-eqb, ne_eqb}
 use lib.ListN.{length, get_or, set, length-set, length-append, get_or-append}
 use lib.Seq.{get_or-append-add}
 use Rattle.laws.proofs.Fill.{upto-more}
+use Rattle.std.specs.Prelude.{Option, Some, None}
+use Rattle.std.specs.Option.{unwrap_or}
 use Rattle.address.specs.declared.Psn.{Psn}
 use Rattle.notation.specs.Psn.{psn_of}
 use Rattle.sheet_file.specs.declared.SheetEntries.{SheetEntries}
@@ -16,28 +17,23 @@ use Rattle.sheet_file.specs.steps.Reading.{wrong_after, HoldsEntries, IsEntry}
 
 -- ---- the first line that is no PSN
 
-module _ (wrong line : ℕ) (right : Bool) where
-  pub wrong-kept : (wrong ≡ 0 → ⊥) → wrong ≡ wrong_after wrong line right
-  wrong-kept h = rw (ne_eqb wrong 0 h)
-
-  pub wrong-none : wrong ≡ 0 → right ≡ true → 0 ≡ wrong_after wrong line right
-  wrong-none e t = rw (eq-eqb wrong 0 e, t)
-
-  pub wrong-here : wrong ≡ 0 → right ≡ false → line ≡ wrong_after wrong line right
-  wrong-here e t = rw (eq-eqb wrong 0 e, t)
-
 -- an entry more
-wrong-more : (list : List Entry) (entry : Entry) → wrong_line (list ++ (entry ∷ [])) ≡ wrong_after (wrong_line list) (line_of entry) (is_number (psn_of entry.text))
+wrong-more : (list : List Entry) (entry : Entry) → wrong_line (list ++ (entry ∷ [])) ≡ wrong_after (wrong_line list) (line_of entry) (psn_of entry.text)
 unfolding wrong_line
 wrong-more [] entry = refl
 wrong-more (e ∷ list) entry = by (is_number (psn_of e.text)) (wrong-more list entry)
   where
-    by : (t : Bool) → wrong_line (list ++ (entry ∷ [])) ≡ wrong_after (wrong_line list) (line_of entry) (is_number (psn_of entry.text))
-        → cond t (wrong_line (list ++ (entry ∷ []))) (line_of e) ≡ wrong_after (cond t (wrong_line list) (line_of e)) (line_of entry) (is_number (psn_of entry.text))
+    by : (t : Bool) → wrong_line (list ++ (entry ∷ [])) ≡ wrong_after (wrong_line list) (line_of entry) (psn_of entry.text)
+        → cond t (wrong_line (list ++ (entry ∷ []))) (Some (line_of e)) ≡ wrong_after (cond t (wrong_line list) (Some (line_of e))) (line_of entry) (psn_of entry.text)
     by true rest = rest
-    by false rest = wrong-kept (line_of e) (line_of entry) (is_number (psn_of entry.text)) (λ z. omega (arith, z))
+    by false rest = refl
 
 -- ---- the entries
+
+-- what is kept of it is its number, or 0
+pub psn-kept : (psn : Option Psn) {p : Psn} → p ≡ unwrap_or psn (record { 0 = 0 }) → p.0 ≡ number_in psn
+psn-kept (Some psn) e = ap (λ (p : Psn). p.0) e
+psn-kept None e = ap (λ (p : Psn). p.0) e
 
 -- an entry of the longer list
 module _ (list : List Entry) (entry : Entry) where
@@ -58,11 +54,11 @@ module _ (list : List Entry) (entry : Entry) where
       (record { within = omega (arith, h); size = room; below = λ k lt. old k (omega (arith, lt, all)) ∙ sym (ap f (old-at k (omega (arith, lt, all)))) })
       ).below i (omega (arith, within, longer, all))
 
-  module _ {held : SheetEntries} {psn line wrong : ℕ} {right : Bool} (holds : HoldsEntries list held) (is : IsEntry entry psn right line) (hw : wrong ≡ wrong_after held.wrong line right) where
+  module _ {held : SheetEntries} {psn : Option Psn} {line : ℕ} {wrong : Option ℕ} (holds : HoldsEntries list held) (is : IsEntry entry psn line) (hw : wrong ≡ wrong_after held.wrong line psn) where
     is-wrong : wrong ≡ wrong_line (list ++ (entry ∷ []))
     is-wrong =
         hw
-        ∙ (λ i. wrong_after (holds.wrong i) (is.own_line i) (is.is-psn i))
+        ∙ (λ i. wrong_after (holds.wrong i) (is.own_line i) (is.own-psn i))
         ∙ sym (wrong-more list entry)
 
     -- there is no room for it
@@ -78,7 +74,7 @@ module _ (list : List Entry) (entry : Entry) where
           wrong = is-wrong;
         }
 
-    pub entry_more : (p : Psn) → p.0 ≡ psn → held.count < 64
+    pub entry_more : (p : Psn) → p.0 ≡ number_in psn → held.count < 64
         → HoldsEntries (list ++ (entry ∷ [])) (record { psns = set held.psns held.count p; lines = set held.lines held.count line; count = held.count + 1; wrong = wrong })
     entry_more p hp h =
         record {
@@ -87,7 +83,7 @@ module _ (list : List Entry) (entry : Entry) where
           count = omega (arith, all, longer, h);
           psns = λ i lt within.
               ap (λ (q : Psn). q.0)
-              (kept-behind (record { 0 = 0 }) (λ e. record { 0 = number_in (psn_of e.text) }) held.psns held.count p all h holds.psns-room (λ j. record { 0 = (hp ∙ is.own-psn) j })
+              (kept-behind (record { 0 = 0 }) (λ e. record { 0 = number_in (psn_of e.text) }) held.psns held.count p all h holds.psns-room (λ j. record { 0 = (hp ∙ ap number_in is.own-psn) j })
               (λ k old j. record { 0 = holds.psns k (omega (arith, old, all, h)) old j }) i within);
           lines = λ i lt within.
               kept-behind 0 line_of held.lines held.count line all h holds.lines-room is.own_line (λ k old. holds.lines k (omega (arith, old, all, h)) old) i within;

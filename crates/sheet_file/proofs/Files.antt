@@ -8,11 +8,12 @@ use native.Mathlib.Omega.{arith}
 use borrow.Author.Tests.{eq-eqb, ne_eqb}
 use lib.ListN.{length, get_or, take, length-append}
 use lib.Seq.{length-take-le, take_all, take-suc}
-use Rattle.notation.specs.declared.PsnText.{PsnText}
+use Rattle.std.specs.Prelude.{Option}
+use Rattle.address.specs.declared.Psn.{Psn}
 use Rattle.sheet_file.specs.declared.Line.{Line}
 use Rattle.sheet_file.specs.declared.SheetEntries.{SheetEntries}
 use Rattle.sheet_file.specs.declared.SheetFile.{SheetFile}
-use Rattle.sheet_file.specs.File.{lines_from, trimmed, Entry, entry_on, entries_from, file_entries, is_number, number_in}
+use Rattle.sheet_file.specs.File.{lines_from, trimmed, Entry, entry_on, entries_from, file_entries}
 use Rattle.sheet_file.specs.steps.Reading.{shown_psn, HoldsLine, HoldsEntries, IsEntry, HasRead}
 use Rattle.sheet_file.proofs.Lines.{line-psn}
 
@@ -36,17 +37,15 @@ ends-blank {held} {line} {before} none list begun h entries holds =
     let nothing = entry-none before (trimmed begun) (omega (arith, none, holds.size)) in
     subst (λ (l : List Entry). HoldsEntries l held) (sym (ap (λ (l : List Entry). list ++ l) nothing ∙ append-nil list)) entries
 
--- shown is what stands on the line, psn and right what it says; number is the line's
-pub ends-entry : {held r : SheetEntries} {line : Line} {before number psn : ℕ} {right : Bool} {shown : PsnText}
-    → (line.size ≡ 0 → ⊥) → shown ≡ shown_psn line.text line.size → (before < 2 ^ 63 → number ≡ before + 1) → psn ≡ number_in shown → right ≡ is_number shown
-    → ((list : List Entry) (entry : Entry) → HoldsEntries list held → IsEntry entry psn right number → HoldsEntries (list ++ (entry ∷ [])) r)
+-- psn is what stands on the line, number is the line's
+pub ends-entry : {held r : SheetEntries} {line : Line} {before number : ℕ} {psn : Option Psn}
+    → (line.size ≡ 0 → ⊥) → psn ≡ shown_psn line.text line.size → (before < 2 ^ 63 → number ≡ before + 1)
+    → ((list : List Entry) (entry : Entry) → HoldsEntries list held → IsEntry entry psn number → HoldsEntries (list ++ (entry ∷ [])) r)
     → Ends held line before r
-ends-entry {held} {r} {line} {before} some hs hn hp hr add list begun h entries holds =
+ends-entry {held} {r} {line} {before} some hp hn add list begun h entries holds =
     let one = entry-one before (trimmed begun) (λ e. some (omega (arith, e, holds.size))) in
-    let text = hs ∙ line-psn holds in
     subst (λ (l : List Entry). HoldsEntries (list ++ l) r) (sym one)
-    (add list (record { before = before; text = trimmed begun }) entries
-    (record { own-psn = hp ∙ ap number_in text; is-psn = hr ∙ ap is_number text; own_line = omega (arith, hn h) }))
+    (add list (record { before = before; text = trimmed begun }) entries (record { own-psn = hp ∙ line-psn holds; own_line = omega (arith, hn h) }))
 
 -- ---- a byte more
 

@@ -11,24 +11,12 @@ use lib.ListN.{length, get_or, set, length-set, length-append, get_or-append}
 use lib.Seq.{get_or-append-add}
 use Rattle.laws.proofs.Fill.{upto-more}
 use Rattle.laws.proofs.Tabulate.{is-tabulate}
-use Rattle.notation.specs.declared.PsnText.TheVariants.{NoNumber}
+use Rattle.std.specs.Prelude.{None}
 use Rattle.notation.specs.Psn.{psn_of}
 use Rattle.notation.proofs.Digits.{another-length}
 use Rattle.sheet_file.specs.declared.Line.{Line}
 use Rattle.sheet_file.specs.File.{is_white, trimmed_to, trimmed}
 use Rattle.sheet_file.specs.steps.Reading.{shown_psn, HoldsLine}
-
--- ---- white bytes
-
-module _ (b : ℕ) where
-  pub white-9 : b ≡ 9 → true ≡ is_white b
-  white-9 e = rw (eq-eqb b 9 e)
-
-  pub white-13 : (b ≡ 9 → ⊥) → b ≡ 13 → true ≡ is_white b
-  white-13 h e = rw (ne_eqb b 9 h, eq-eqb b 13 e)
-
-  pub white-32 : (b ≡ 9 → ⊥) → (b ≡ 13 → ⊥) → eqb b 32 ≡ is_white b
-  white-32 h i = rw (ne_eqb b 9 h, ne_eqb b 13 i)
 
 -- ---- what stands on a line
 
@@ -76,14 +64,6 @@ trimmed-short (b ∷ l) = by (trimmed l) (trimmed-short l)
     by (c ∷ t) h = omega arith
 
 -- ---- a line that is being read
-
--- t is whether the byte is white
-module _ (b size longer : ℕ) {t : Bool} (h : t ≡ is_white b) where
-  pub size-white : t ≡ true → size ≡ cond (is_white b) size longer
-  size-white e = ap (λ (t : Bool). cond t size longer) (sym e ∙ h)
-
-  pub size-other : t ≡ false → longer ≡ cond (is_white b) size longer
-  size-other e = ap (λ (t : Bool). cond t size longer) (sym e ∙ h)
 
 -- the size with a byte more, of which the old size and the whole length are known
 size-more : (begun : List ℕ) (b size longer r : ℕ) → size ≡ min 9 (length (trimmed begun)) → longer ≡ min 9 (suc (length begun)) → r ≡ cond (is_white b) size longer
@@ -146,9 +126,9 @@ line-psn {begun} {line} holds = by (eqb (length (trimmed begun)) 8) refl
     by : (t : Bool) → eqb (length (trimmed begun)) 8 ≡ t → shown_psn line.text line.size ≡ psn_of (trimmed begun)
     by true t =
         let e = eqb-true (length (trimmed begun)) 8 t in
-        ap (λ (u : Bool). cond u (psn_of line.text) NoNumber) (eq-eqb line.size 8 (omega (arith, holds.size, e)))
+        ap (λ (u : Bool). cond u (psn_of line.text) None) (eq-eqb line.size 8 (omega (arith, holds.size, e)))
         ∙ ap psn_of (is-tabulate 0 8 (λ k. get_or (trimmed begun) k 0) line.text holds.room (at e) ∙ sym (is-tabulate 0 8 (λ k. get_or (trimmed begun) k 0) (trimmed begun) e (λ k _. refl)))
     by false t =
         let other = eqb-false (length (trimmed begun)) 8 t in
-        ap (λ (u : Bool). cond u (psn_of line.text) NoNumber) (ne_eqb line.size 8 (λ e. other (omega (arith, holds.size, e))))
+        ap (λ (u : Bool). cond u (psn_of line.text) None) (ne_eqb line.size 8 (λ e. other (omega (arith, holds.size, e))))
         ∙ another-length (trimmed begun) other

@@ -1,9 +1,8 @@
 -- A sheet as a file (document 02, W-211): a PSN a line, eight hexadecimal digits; blank lines are passed over.
-use Rattle.std.specs.Prelude.{Bool, true, false, cond, ◌||◌, List, [], ◌∷◌, ◌++◌, ℕ, suc, eqb, length, get_or}
+use Rattle.std.specs.Prelude.{Bool, true, false, cond, ◌||◌, List, [], ◌∷◌, ◌++◌, ℕ, suc, eqb, length, get_or, Option, Some, None}
 use Rattle.answer.specs.declared.Answer.{Answer}
 use Rattle.address_sheet.specs.Sheet.{sheet_answer}
-use Rattle.notation.specs.declared.PsnText.{PsnText}
-use Rattle.notation.specs.declared.PsnText.TheVariants.{Number, NoNumber}
+use Rattle.address.specs.declared.Psn.{Psn}
 use Rattle.notation.specs.Psn.{psn_of}
 
 -- ---- lines
@@ -49,18 +48,18 @@ file_entries bytes = entries_from 0 (lines_from [] bytes)
 abbrev pub line_of : Entry → ℕ
 line_of entry = suc entry.before
 
-abbrev pub is_number : PsnText → Bool
-is_number (Number psn) = true
-is_number NoNumber = false
+abbrev pub is_number : Option Psn → Bool
+is_number (Some psn) = true
+is_number None = false
 
-abbrev pub number_in : PsnText → ℕ
-number_in (Number psn) = psn.0
-number_in NoNumber = 0
+abbrev pub number_in : Option Psn → ℕ
+number_in (Some psn) = psn.0
+number_in None = 0
 
--- the line of the first entry that is no PSN, 0 where there is none
-unfoldable pub wrong_line : List Entry → ℕ
-wrong_line [] = 0
-wrong_line (entry ∷ rest) = cond (is_number (psn_of entry.text)) (wrong_line rest) (line_of entry)
+-- the line of the first entry that is no PSN
+unfoldable pub wrong_line : List Entry → Option ℕ
+wrong_line [] = None
+wrong_line (entry ∷ rest) = cond (is_number (psn_of entry.text)) (wrong_line rest) (Some (line_of entry))
 
 abbrev pub file_entry : List Entry → ℕ → Entry
 file_entry list i = get_or list i (record { before = 0; text = [] })

@@ -14,13 +14,13 @@ pub struct Line {
     pub size: usize,
 }
 
-// Entries. count is 65 where there are more than 64; wrong is the first line that is no PSN, 0 where there is none.
+// Entries. count is 65 where there are more than 64; wrong is the first line that is no PSN.
 #[derive(Clone, Copy)]
 pub struct SheetEntries {
     pub psns: [Psn; address_sheet::SHEET],
     pub lines: [usize; address_sheet::SHEET],
     pub count: usize,
-    pub wrong: usize,
+    pub wrong: Option<usize>,
 }
 
 // What was read of a file, with the number of lines that ended.

@@ -5,20 +5,13 @@ ghost use Rattle.sheet_file.specs.steps.Reading.{shown_psn, wrong_after, HoldsLi
 
 use crate::{Line, SheetEntries, SheetFile};
 use address::Psn;
-use notation::PsnText;
 
 // ---- a line
 
 fn is_white(byte: u8) -> bool
     ensures { result ≡ is_white byte }
 {
-    if byte == 9 {
-        return true;
-    }
-    if byte == 13 {
-        return true;
-    }
-    byte == 32
+    byte == b'\t' || byte == b'\r' || byte == b' '
 }
 
 fn no_line() -> Line
@@ -34,18 +27,17 @@ fn no_line() -> Line
 fn size_after(byte: u8, size: usize, longer: usize) -> usize
     ensures { result ≡ cond (is_white byte) size longer }
 {
-    if is_white(byte) {
-        return size;
-    }
-    longer
+    if is_white(byte) { size } else { longer }
 }
 
 fn add_byte(line: Line, byte: u8) -> Line
     ensures { (begun : List ℕ) → HoldsLine begun line → HoldsLine (begun ++ (byte ∷ [])) result }
 {
-    let mut text = line.text;
-    let held = line.held;
-    let size = line.size;
+    let Line {
+        mut text,
+        held,
+        size,
+    } = line;
     if 8 <= held {
         return Line {
             text,
@@ -62,13 +54,14 @@ fn add_byte(line: Line, byte: u8) -> Line
 }
 
 // The PSN on a line of this size.
-fn psn_on(text: [u8; 8], size: usize) -> PsnText
+fn psn_on(text: [u8; 8], size: usize) -> Option<Psn>
     ensures { result ≡ shown_psn text size }
 {
-    if size != 8 {
-        return PsnText::NoNumber;
+    if size == 8 {
+        notation::psn_of(&text)
+    } else {
+        None
     }
-    notation::psn_of(&text)
 }
 
 // ---- entries
@@ -78,43 +71,34 @@ fn no_entries() -> SheetEntries
 {
     SheetEntries {
         psns: [Psn(0); address_sheet::SHEET],
-        lines: [0usize; address_sheet::SHEET],
+        lines: [0; address_sheet::SHEET],
         count: 0,
-        wrong: 0,
+        wrong: None,
     }
-}
-
-// One more, where there is room.
-fn one_more(n: usize) -> usize
-    ensures { n < 2 ^ 63 → result ≡ n + 1 }
-{
-    if n < 0x8000_0000_0000_0000 {
-        return n + 1;
-    }
-    n
 }
 
 // The first line that is no PSN, where this one may be.
-fn wrong_after(wrong: usize, right: bool, line: usize) -> usize
-    ensures { result ≡ wrong_after wrong line right }
+fn wrong_after(wrong: Option<usize>, psn: Option<Psn>, line: usize) -> Option<usize>
+    ensures { result ≡ wrong_after wrong line psn }
 {
-    if wrong != 0 {
-        return wrong;
+    if psn.is_some() {
+        wrong
+    } else {
+        wrong.or(Some(line))
     }
-    if right {
-        return 0;
-    }
-    line
 }
 
-// An entry more: its PSN, 0 where it is none, whether it is one, and its line.
-fn add_entry(entries: SheetEntries, psn: Psn, right: bool, line: usize) -> SheetEntries
-    ensures { (list : List Entry) (entry : Entry) → HoldsEntries list entries → IsEntry entry psn.0 right line → HoldsEntries (list ++ (entry ∷ [])) result }
+// An entry more: the PSN on it, and its line.
+fn add_entry(entries: SheetEntries, psn: Option<Psn>, line: usize) -> SheetEntries
+    ensures { (list : List Entry) (entry : Entry) → HoldsEntries list entries → IsEntry entry psn line → HoldsEntries (list ++ (entry ∷ [])) result }
 {
-    let mut psns = entries.psns;
-    let mut lines = entries.lines;
-    let count = entries.count;
-    let wrong = wrong_after(entries.wrong, right, line);
+    let SheetEntries {
+        mut psns,
+        mut lines,
+        count,
+        wrong,
+    } = entries;
+    let wrong = wrong_after(wrong, psn, line);
     if address_sheet::SHEET <= count {
         return SheetEntries {
             psns,
@@ -123,7 +107,7 @@ fn add_entry(entries: SheetEntries, psn: Psn, right: bool, line: usize) -> Sheet
             wrong,
         };
     }
-    psns[count] = psn;
+    psns[count] = psn.unwrap_or(Psn(0));
     lines[count] = line;
     SheetEntries {
         psns,
@@ -138,17 +122,12 @@ fn end_line(entries: SheetEntries, line: Line, before: usize) -> SheetEntries
     ensures { (list : List Entry) (begun : List ℕ) → before < 2 ^ 63 → HoldsEntries list entries → HoldsLine begun line
         → HoldsEntries (list ++ entry_on before (trimmed begun)) result }
 {
-    let size = line.size;
-    let text = line.text;
+    let Line { text, size, .. } = line;
     if size == 0 {
         return entries;
     }
-    let shown = psn_on(text, size);
-    let number = one_more(before);
-    match shown {
-        PsnText::Number(psn) => add_entry(entries, psn, true, number),
-        PsnText::NoNumber => add_entry(entries, Psn(0), false, number),
-    }
+    let number = before.saturating_add(1);
+    add_entry(entries, psn_on(text, size), number)
 }
 
 // ---- a file
@@ -167,20 +146,23 @@ pub fn start() -> SheetFile
 fn step(file: SheetFile, byte: u8) -> SheetFile
     ensures { (bytes : List ℕ) → length bytes < 2 ^ 63 → HasRead bytes file → HasRead (bytes ++ (byte ∷ [])) result }
 {
-    let line = file.line;
-    let before = file.before;
-    let entries = file.entries;
-    if byte == b'\n' {
-        return SheetFile {
-            line: no_line(),
-            before: one_more(before),
-            entries: end_line(entries, line, before),
-        };
-    }
-    SheetFile {
-        line: add_byte(line, byte),
+    let SheetFile {
+        line,
         before,
         entries,
+    } = file;
+    if byte == b'\n' {
+        SheetFile {
+            line: no_line(),
+            before: before.saturating_add(1),
+            entries: end_line(entries, line, before),
+        }
+    } else {
+        SheetFile {
+            line: add_byte(line, byte),
+            before,
+            entries,
+        }
     }
 }
 
@@ -189,11 +171,8 @@ pub fn read(file: SheetFile, bytes: &[u8]) -> SheetFile
     ensures { (front : List ℕ) → length front + length bytes.now ≤ 2 ^ 63 → HasRead front file → HasRead (front ++ bytes.now) result }
 {
     let mut done = file;
-    let mut i = 0;
-    while i < bytes.len() {
-        let next = step(done, bytes[i]);
-        done = next;
-        i += 1;
+    for &byte in bytes {
+        done = step(done, byte);
     }
     done
 }
@@ -202,7 +181,10 @@ pub fn read(file: SheetFile, bytes: &[u8]) -> SheetFile
 pub fn finish(file: SheetFile) -> SheetEntries
     ensures { (bytes : List ℕ) → length bytes < 2 ^ 63 → HasRead bytes file → HoldsEntries (file_entries bytes) result }
 {
-    let line = file.line;
-    let entries = file.entries;
-    end_line(entries, line, file.before)
+    let SheetFile {
+        line,
+        before,
+        entries,
+    } = file;
+    end_line(entries, line, before)
 }

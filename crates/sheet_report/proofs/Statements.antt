@@ -1,26 +1,23 @@
 -- `0 0` is printed for an accepted sheet alone. Assumes nothing.
 use mathlib.Core.Path.{◌≡◌, refl, sym, ap, ◌∙◌}
-use mathlib.Core.Bool.{Bool, true, false, cond}
 use mathlib.Core.List.{List, ◌∷◌, ◌++◌, append_assoc}
 use mathlib.Core.Logic.{◌↔◌}
 use Prim.Native.Nat.{ℕ}
 use native.Mathlib.Omega.{arith}
-use borrow.Author.Tests.{eq-eqb, eqb-true}
-use lib.Dec.{eqb}
 use lib.ListN.{length}
 use Rattle.answer.specs.declared.Answer.{Answer}
 use Rattle.answer.specs.declared.Answer.TheVariants.{Done}
 use Rattle.answer.specs.Answer.{number_of, place_of}
 use Rattle.answer.proofs.Tests.{number-zero}
 use Rattle.address_sheet.proofs.Statements.{sheet-iff}
+use Rattle.std.specs.Prelude.{Option, Some, None, Result, Ok, Err}
 use Rattle.texts.specs.declared.Text.{Text}
-use Rattle.texts.specs.Text.{the, text_of, blank_text}
+use Rattle.texts.specs.Text.{the, text_of}
 use Rattle.texts.specs.Numbers.{decimal_to, decimal}
 use Rattle.texts.proofs.Distinct.{decimal-digits, split, decimal-same, text_same}
 use Rattle.report.specs.Words.{meaning}
 use Rattle.report.proofs.Statements.{number_small}
 use Rattle.sheet_file.specs.File.{file_entries, wrong_line, psn_at, line_at, file_answer}
-use Rattle.sheet_report.specs.declared.SheetSaid.{SheetSaid}
 use Rattle.sheet_report.specs.Said.{line_words, sheet_text, file_said, RightFile}
 
 -- the number stands before the first space
@@ -40,31 +37,32 @@ module _ (bytes : List ℕ) where
   line : ℕ
   line = line_at (file_entries bytes) (place_of (file_answer bytes))
 
-  -- what is printed where t says whether every line is
-  abbrev printed : Bool → Text
-  printed t = cond t (text_of (sheet_text (file_answer bytes) line)) blank_text
+  -- what is said where w is the first line that is no PSN
+  abbrev said : Option ℕ → Result Text ℕ
+  said None = Ok (text_of (sheet_text (file_answer bytes) line))
+  said (Some w) = Err w
 
-  is-printed : (file_said bytes).text ≡ printed (eqb (wrong_line (file_entries bytes)) 0)
+  is-said : file_said bytes ≡ said (wrong_line (file_entries bytes))
   unfolding file_said line
-  is-printed = by (eqb (wrong_line (file_entries bytes)) 0)
+  is-said = by (wrong_line (file_entries bytes))
     where
-      by : (t : Bool) → (cond {A = SheetSaid} t (record { wrong = 0; text = printed true }) (record { wrong = wrong_line (file_entries bytes); text = blank_text })).text ≡ printed t
-      by true = refl
-      by false = refl
+      by : (w : Option ℕ) → elim w [ None ↦ said None | Some l ↦ Err l ] ≡ said w
+      by None = refl
+      by (Some w) = refl
 
-  only : (t : Bool) → eqb (wrong_line (file_entries bytes)) 0 ≡ t → printed t ≡ text_of (the "0 0\n") → RightFile bytes
-  unfolding text_of blank_text
-  only true t e =
-      let done = zero-text (file_answer bytes) line (text_same (sheet_text (file_answer bytes) line) (the "0 0\n") e) in
-      (eqb-true (wrong_line (file_entries bytes)) 0 t, (sheet-iff (length (file_entries bytes)) (psn_at (file_entries bytes))).0 done)
-  only false t e = let none : ◌≡◌ {A = ℕ} 0 4 = ap (λ (x : Text). x.size) e in absurd (omega arith)
+  only : (w : Option ℕ) → wrong_line (file_entries bytes) ≡ w → said w ≡ Ok (text_of (the "0 0\n")) → RightFile bytes
+  only None t e =
+      let same : text_of (sheet_text (file_answer bytes) line) ≡ text_of (the "0 0\n") = cc in
+      let done = zero-text (file_answer bytes) line (text_same (sheet_text (file_answer bytes) line) (the "0 0\n") same) in
+      (t, (sheet-iff (length (file_entries bytes)) (psn_at (file_entries bytes))).0 done)
+  only (Some w) t e = cc
 
   -- `0 0` IS PRINTED FOR AN ACCEPTED SHEET ALONE
-  pub zero-only : ((file_said bytes).text ≡ text_of (the "0 0\n")) ↔ RightFile bytes
+  pub zero-only : (file_said bytes ≡ Ok (text_of (the "0 0\n"))) ↔ RightFile bytes
   zero-only = (
-    λ e. only (eqb (wrong_line (file_entries bytes)) 0) refl (sym is-printed ∙ e),
+    λ e. only (wrong_line (file_entries bytes)) refl (sym is-said ∙ e),
     λ right.
-        is-printed
-        ∙ ap printed (eq-eqb (wrong_line (file_entries bytes)) 0 right.0)
-        ∙ ap text_of (text-zero (file_answer bytes) line ((sheet-iff (length (file_entries bytes)) (psn_at (file_entries bytes))).1 right.1)),
+        is-said
+        ∙ ap said right.0
+        ∙ ap (λ (l : List ℕ). Ok (text_of l)) (text-zero (file_answer bytes) line ((sheet-iff (length (file_entries bytes)) (psn_at (file_entries bytes))).1 right.1)),
   )

@@ -5,8 +5,6 @@ use mathlib.Core.List.{List, [], ◌++◌, append_assoc}
 use Prim.Native.Nat.{ℕ, ◌<◌, ◌≤◌}
 use native.Mathlib.Decide.{dec_lt}
 use native.Mathlib.Omega.{arith}
-use borrow.Author.Tests.{eq-eqb, ne_eqb}
-use lib.Dec.{eqb}
 use lib.ListN.{length, get_or, length-append}
 use Rattle.answer.specs.declared.Answer.{Answer}
 use Rattle.answer.specs.Answer.{number_of, place_of, is_done}
@@ -14,6 +12,7 @@ use Rattle.answer.proofs.Tests.{done-is}
 use Rattle.address_sheet.specs.Sheet.{sheet_answer, entry_psn}
 use Rattle.address_sheet.specs.Promise.{RightCount}
 use Rattle.address_sheet.proofs.Statements.{refused-count, same-sheet, place-within, count-else}
+use Rattle.std.specs.Prelude.{Option, Some, None, Result, Ok, Err}
 use Rattle.texts.specs.declared.Text.{Text}
 use Rattle.texts.specs.Text.{the, text_of, blank_text, added}
 use Rattle.texts.specs.Numbers.{decimal}
@@ -22,22 +21,11 @@ use Rattle.texts.proofs.Numbers.{decimal-short}
 use Rattle.report.specs.Words.{meaning}
 use Rattle.report.proofs.Words.{meaning-short}
 use Rattle.sheet_file.specs.declared.SheetEntries.{SheetEntries}
-use Rattle.sheet_file.specs.File.{Entry, file_entries, wrong_line, psn_at, line_at, file_answer}
+use Rattle.sheet_file.specs.File.{Entry, file_entries, psn_at, line_at, file_answer}
 use Rattle.sheet_file.specs.steps.Reading.{HoldsEntries}
-use Rattle.sheet_report.specs.declared.SheetSaid.{SheetSaid}
 use Rattle.sheet_report.specs.Said.{names_entry, line_words, sheet_text, file_said}
 
--- ---- whether an entry is named; n is the answer's number
-
-module _ (a : Answer) {n : ℕ} (hn : n ≡ number_of a) where
-  pub names-6 : n ≡ 6 → true ≡ names_entry a
-  names-6 e = rw (eq-eqb (number_of a) 6 (sym hn ∙ e))
-
-  pub names-7 : (n ≡ 6 → ⊥) → n ≡ 7 → true ≡ names_entry a
-  names-7 h e = rw (ne_eqb (number_of a) 6 (λ i. h (hn ∙ i)), eq-eqb (number_of a) 7 (sym hn ∙ e))
-
-  pub names-24 : (n ≡ 6 → ⊥) → (n ≡ 7 → ⊥) → eqb n 24 ≡ names_entry a
-  names-24 h i = ap (λ (m : ℕ). eqb m 24) hn ∙ rw (ne_eqb (number_of a) 6 (λ e. h (hn ∙ e)), ne_eqb (number_of a) 7 (λ e. i (hn ∙ e)))
+-- ---- an entry is named
 
 -- t is whether it is
 module _ (a : Answer) (line : ℕ) (text : Text) {t : Bool} (ht : t ≡ names_entry a) where
@@ -118,26 +106,21 @@ module _ {list : List Entry} {held : SheetEntries} (holds : HoldsEntries list he
 -- ---- what is said of a file
 
 module _ (bytes : List ℕ) {held : SheetEntries} (holds : HoldsEntries (file_entries bytes) held) where
-  -- of lines that are all PSNs, and of others
-  abbrev all : SheetSaid
-  all = record { wrong = 0; text = text_of (sheet_text (file_answer bytes) (line_at (file_entries bytes) (place_of (file_answer bytes)))) }
+  abbrev text_now : Text
+  text_now = text_of (sheet_text (file_answer bytes) (line_at (file_entries bytes) (place_of (file_answer bytes))))
 
-  abbrev other : SheetSaid
-  other = record { wrong = wrong_line (file_entries bytes); text = blank_text }
-
-  pub wrong-said : {b : Text} → (held.wrong ≡ 0 → ⊥) → b ≡ blank_text → record { wrong = held.wrong; text = b } ≡ file_said bytes
+  is : {w : Option ℕ} → held.wrong ≡ w → elim w as (λ _. Result Text ℕ) [ None ↦ Ok text_now | Some line ↦ Err line ] ≡ file_said bytes
   unfolding file_said
-  wrong-said {b} h hb =
-      (λ i. record { wrong = holds.wrong i; text = hb i })
-      ∙ sym (ap (λ (t : Bool). cond t all other) (ne_eqb (wrong_line (file_entries bytes)) 0 (λ e. h (holds.wrong ∙ e))))
+  is e = ap (λ (w : Option ℕ). elim w as (λ _. Result Text ℕ) [ None ↦ Ok text_now | Some line ↦ Err line ]) (sym e ∙ holds.wrong)
+
+  pub wrong-said : {line : ℕ} → held.wrong ≡ Some line → Err line ≡ file_said bytes
+  wrong-said e = is e
 
   -- a is what is answered, line that of its place
-  pub right-said : {a : Answer} {place line : ℕ} {text : Text} → held.wrong ≡ 0 → a ≡ sheet_answer held.count (entry_psn held.psns) → place ≡ place_of a
-      → line ≡ get_or held.lines place 0 → text ≡ text_of (sheet_text a line) → record { wrong = held.wrong; text = text } ≡ file_said bytes
-  unfolding file_said
+  pub right-said : {a : Answer} {place line : ℕ} {text : Text} → held.wrong ≡ None → a ≡ sheet_answer held.count (entry_psn held.psns) → place ≡ place_of a
+      → line ≡ get_or held.lines place 0 → text ≡ text_of (sheet_text a line) → Ok text ≡ file_said bytes
   right-said {a} {place} {line} {text} none ha hp hl ht =
-      let is : a ≡ file_answer bytes = ha ∙ kept-answer holds in
-      let at : line ≡ get_or held.lines (place_of (file_answer bytes)) 0 = hl ∙ ap (λ (n : ℕ). get_or held.lines n 0) (hp ∙ ap place_of is) in
-      let same : text ≡ all.text = ht ∙ ap₂ (λ (x : Answer) (n : ℕ). text_of (sheet_text x n)) is at ∙ ap text_of (kept-text holds) in
-      (λ i. record { wrong = none i; text = same i })
-      ∙ sym (ap (λ (t : Bool). cond t all other) (eq-eqb (wrong_line (file_entries bytes)) 0 (sym holds.wrong ∙ none)))
+      let own : a ≡ file_answer bytes = ha ∙ kept-answer holds in
+      let at : line ≡ get_or held.lines (place_of (file_answer bytes)) 0 = hl ∙ ap (λ (n : ℕ). get_or held.lines n 0) (hp ∙ ap place_of own) in
+      let same : text ≡ text_now = ht ∙ ap₂ (λ (x : Answer) (n : ℕ). text_of (sheet_text x n)) own at ∙ ap text_of (kept-text holds) in
+      ap (λ (t : Text). Ok t) same ∙ is none

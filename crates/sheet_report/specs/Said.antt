@@ -1,13 +1,13 @@
--- What is printed for a sheet's file: the answer, with the line of the entry that it names; nothing where a line is no PSN.
-use Rattle.std.specs.Prelude.{◌≡◌, Bool, cond, ◌||◌, List, [], ◌++◌, ℕ, eqb, length}
+-- What is printed for a sheet's file: the answer, with the line of the entry that it names; or the first line that is no PSN.
+use Rattle.std.specs.Prelude.{◌≡◌, Bool, cond, ◌||◌, List, [], ◌++◌, ℕ, eqb, length, Some, None, Result, Ok, Err}
 use Rattle.answer.specs.declared.Answer.{Answer}
 use Rattle.answer.specs.Answer.{number_of, place_of}
 use Rattle.address_sheet.specs.Promise.{RightSheet}
-use Rattle.texts.specs.Text.{the, text_of, blank_text}
+use Rattle.texts.specs.Text.{the, text_of}
 use Rattle.texts.specs.Numbers.{decimal}
 use Rattle.report.specs.Words.{meaning}
 use Rattle.sheet_file.specs.File.{file_entries, wrong_line, psn_at, line_at, file_answer}
-use Rattle.sheet_report.specs.declared.SheetSaid.{SheetSaid}
+use Rattle.texts.specs.declared.Text.{Text}
 
 -- the place is an entry
 abbrev pub names_entry : Answer → Bool
@@ -20,12 +20,15 @@ line_words a line = cond (names_entry a) (the "line " ++ decimal line ++ the ": 
 unfoldable pub sheet_text : Answer → ℕ → List ℕ
 sheet_text a line = decimal (number_of a) ++ the " " ++ decimal (place_of a) ++ the "\n" ++ line_words a line ++ meaning a
 
-unfoldable pub file_said : List ℕ → SheetSaid
+-- what is printed, or the first line that is no PSN
+unfoldable pub file_said : List ℕ → Result Text ℕ
 file_said bytes =
-    let wrong = wrong_line (file_entries bytes) in
     let answer = file_answer bytes in
-    cond (eqb wrong 0) (record { wrong = 0; text = text_of (sheet_text answer (line_at (file_entries bytes) (place_of answer))) }) (record { wrong = wrong; text = blank_text })
+    elim (wrong_line (file_entries bytes)) [
+      | None ↦ Ok (text_of (sheet_text answer (line_at (file_entries bytes) (place_of answer))))
+      | Some line ↦ Err line
+    ]
 
 -- of which `0 0` is said: every line is a PSN or blank, and the sheet is right
 abbrev pub RightFile : List ℕ → Type 0
-RightFile bytes = (wrong_line (file_entries bytes) ≡ 0) × RightSheet (length (file_entries bytes)) (psn_at (file_entries bytes))
+RightFile bytes = (wrong_line (file_entries bytes) ≡ None) × RightSheet (length (file_entries bytes)) (psn_at (file_entries bytes))

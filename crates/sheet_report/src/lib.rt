@@ -2,12 +2,3 @@
 #![tactic(auto)]
 
 pub mod steps;
-
-use texts::Text;
-
-// The first line that is no PSN, or 0 and what is printed.
-#[derive(Clone, Copy)]
-pub struct SheetSaid {
-    pub wrong: usize,
-    pub text: Text,
-}

@@ -4,10 +4,9 @@ ghost use Rattle.texts.specs.Text.{added, text_of};
 ghost use Rattle.sheet_file.specs.steps.Reading.{HasRead};
 ghost use Rattle.sheet_report.specs.Said.{names_entry, line_words, sheet_text, file_said};
 
-use crate::SheetSaid;
 use answer::Answer;
 use answer_report::put_meaning;
-use sheet_file::SheetFile;
+use sheet_file::{SheetEntries, SheetFile};
 use texts::{Text, blank, put_decimal, put_piece};
 
 // Whether an answer's place is an entry.
@@ -15,13 +14,7 @@ fn names_entry(answer: Answer) -> bool
     ensures { result ≡ names_entry answer }
 {
     let number = answer.number();
-    if number == 6 {
-        return true;
-    }
-    if number == 7 {
-        return true;
-    }
-    number == 24
+    number == 6 || number == 7 || number == 24
 }
 
 // The entry's line.
@@ -29,9 +22,10 @@ fn put_line(text: Text, answer: Answer, line: usize) -> Text
     ensures { result ≡ added text (line_words answer line) }
 {
     if names_entry(answer) {
-        return put_piece(text, b"line *: ", 0, line);
+        put_piece(text, b"line *: ", 0, line)
+    } else {
+        text
     }
-    text
 }
 
 fn sheet_text(answer: Answer, line: usize) -> Text
@@ -48,29 +42,26 @@ fn line_at(lines: [usize; address_sheet::SHEET], i: usize) -> usize
     ensures { result ≡ get_or lines i 0 }
 {
     if i < address_sheet::SHEET {
-        return lines[i];
+        lines[i]
+    } else {
+        0
     }
-    0
 }
 
-// What is said of a file that was read to its end.
-pub fn said(file: SheetFile) -> SheetSaid
+// What is printed for a file that was read to its end, or its first line that is no PSN.
+pub fn said(file: SheetFile) -> Result<Text, usize>
     ensures { (bytes : List ℕ) → length bytes < 2 ^ 63 → HasRead bytes file → result ≡ file_said bytes }
 {
-    let entries = sheet_file::steps::finish(file);
-    let psns = entries.psns;
-    let lines = entries.lines;
-    let wrong = entries.wrong;
-    if wrong != 0 {
-        return SheetSaid {
-            wrong,
-            text: blank(),
-        };
-    }
-    let answer = address_sheet::judge(psns, entries.count);
-    let line = line_at(lines, answer.place());
-    SheetSaid {
+    let SheetEntries {
+        psns,
+        lines,
+        count,
         wrong,
-        text: sheet_text(answer, line),
+    } = sheet_file::steps::finish(file);
+    if let Some(wrong) = wrong {
+        return Err(wrong);
     }
+    let answer = address_sheet::judge(psns, count);
+    let line = line_at(lines, answer.place());
+    Ok(sheet_text(answer, line))
 }

@@ -26,9 +26,7 @@ pub fn side_data(block: Block, side: &mut [u8])
     if side.len() != sizes::SIDE {
         return;
     }
-    let mut k: usize = 0;
-    while k < sizes::SIDE {
-        side[k] = side_byte(&block, k);
-        k += 1;
+    for (k, byte) in side.iter_mut().enumerate() {
+        *byte = side_byte(&block, k);
     }
 }

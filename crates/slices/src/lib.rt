@@ -1,7 +1,5 @@
-// Slices of plain numbers: cleared, copied. `steps` is for the crates of this repository.
+// Slices of plain numbers, cleared.
 #![tactic(auto)]
-
-pub mod steps;
 
 ghost use Rattle.std.specs.Prelude.{◌≡◌, length};
 ghost use Rattle.laws.specs.Tabulate.{tabulate};
@@ -10,9 +8,5 @@ ghost use Rattle.laws.specs.Tabulate.{tabulate};
 pub fn clear(bytes: &mut [u8])
     ensures { bytes.new ≡ tabulate (length bytes.old) (λ _. 0) }
 {
-    let mut i = 0;
-    while i < bytes.len() {
-        bytes[i] = 0;
-        i += 1;
-    }
+    bytes.fill(0);
 }

@@ -22,7 +22,7 @@ fn give(
 {
     user_reader::steps::user_bytes(work, stream, user);
     side_reader::side_data(block, side);
-    slices::steps::copy_words(words, dc);
+    dc.copy_from_slice(words);
 }
 
 // Reads the cluster in work, where `before`, the answer of the tests before, is `Done`: fills user, side and dc. A refusal leaves them and clears work.

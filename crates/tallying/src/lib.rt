@@ -6,7 +6,6 @@ ghost use Rattle.texts.specs.Text.{added, text_of};
 ghost use Rattle.frame_gaps.specs.Tally.{tallied};
 ghost use Rattle.tallying.specs.Table.{row, rows_from, tally_text};
 
-use gaps::Tally;
 use texts::{Text, blank, put, put_decimal, put_piece};
 
 // A gap length and its count.
@@ -21,25 +20,20 @@ fn put_rows(text: Text, counts: [u32; 8]) -> Text
     ensures { result ≡ added text (rows_from 1 counts) }
 {
     let mut done = text;
-    let mut k = 0;
-    while k < 8 {
-        let next = put_row(done, k + 1, counts[k]);
-        done = next;
-        k += 1;
+    for (k, &count) in counts.iter().enumerate() {
+        done = put_row(done, k + 1, count);
     }
     done
 }
 
 // The counts of an accepted input, one to a line, or `refused`.
-pub fn tally_text(tally: Tally) -> Text
+pub fn tally_text(tally: Option<[u32; 8]>) -> Text
     ensures { result ≡ text_of (tally_text tally) }
 {
-    let accepted = tally.accepted;
-    let counts = tally.counts;
-    if accepted {
-        return put_rows(put(blank(), b"gap count\n"), counts);
+    match tally {
+        Some(counts) => put_rows(put(blank(), b"gap count\n"), counts),
+        None => put(blank(), b"refused\n"),
     }
-    put(blank(), b"refused\n")
 }
 
 // The whole of it.

@@ -26,15 +26,6 @@ none_left bars n i l e = ap (λ (j : ℕ). piece bars n (drop j l)) e ∙ ap (pi
 
 -- ---- the bars in front of a piece
 
-pub bar-passed : (bars b : ℕ) → b ≡ 124 → bars - 1 ≡ cond (eqb b 124) (bars - 1) bars
-bar-passed bars b e = rw (eq-eqb b 124 e)
-
-pub byte-passed : (bars b : ℕ) → (b ≡ 124 → ⊥) → bars ≡ cond (eqb b 124) (bars - 1) bars
-byte-passed bars b e = rw (ne_eqb b 124 e)
-
-pub bars-all : (l : List ℕ) (k : ℕ) → PieceBehind l k 0 k
-bars-all l k = record { within = omega arith; rest = λ n. refl }
-
 module _ {l : List ℕ} {k i bars : ℕ} (p : PieceBehind l k i bars) where
   pub bars-fewer : {fewer : ℕ} → i < length l → (bars ≡ 0 → ⊥) → fewer ≡ cond (eqb (get_or l i 0) 124) (bars - 1) bars → PieceBehind l k (i + 1) fewer
   unfolding piece
@@ -48,10 +39,10 @@ module _ {l : List ℕ} {k i bars : ℕ} (p : PieceBehind l k i bars) where
   bars-none e = record { within = p.within; rest = λ n. ap (λ (b : ℕ). piece b n (drop i l)) (sym e) ∙ p.rest n }
 
   -- there is no such piece
-  pub bars-end : length l ≤ i → PieceBehind l k i 0
+  pub bars-end : length l ≤ i → PieceBehind l k (length l) 0
   bars-end h =
       let e : i ≡ length l = omega (arith, p.within) in
-      record { within = p.within; rest = λ n. none_left 0 n i l e ∙ sym (none_left bars n i l e) ∙ p.rest n }
+      record { within = omega arith; rest = λ n. none_left 0 n (length l) l refl ∙ sym (none_left bars n i l e) ∙ p.rest n }
 
 -- ---- its bytes
 
@@ -62,35 +53,32 @@ pub shown-byte : (text t : Text) (n b : ℕ) → (b ≡ 42 → ⊥) → t ≡ by
 unfolding added
 shown-byte text t n b e h = h ∙ rw (ne_eqb b 42 e)
 
--- in a loop: the rest of the piece, from i on, is put behind what is done
-pub record Putting (text : Text) (l : List ℕ) (k n : ℕ) (done : Text) (i : ℕ) : Type 0 where
-  pub within : i ≤ length l
-  pub rest : added done (piece 0 n (drop i l)) ≡ added text (piece k n l)
+-- in a loop: of `left`, which begins with the piece, what is left from i on is put behind what is done
+pub record Putting (text : Text) (l : List ℕ) (k n : ℕ) (done : Text) (left : List ℕ) (i : ℕ) : Type 0 where
+  pub within : i ≤ length left
+  pub rest : added done (piece 0 n (drop i left)) ≡ added text (piece k n l)
 
-pub put-none : {text : Text} {l : List ℕ} {k n i : ℕ} → PieceBehind l k i 0 → Putting text l k n text i
-put-none {text} {n = n} p = record { within = p.within; rest = ap (added text) (p.rest n) }
-
-module _ {text : Text} {l : List ℕ} {k n : ℕ} {done : Text} {i : ℕ} (p : Putting text l k n done i) where
-  front : i < length l → piece 0 n (drop i l) ≡ cond (eqb (get_or l i 0) 124) [] (shown n (get_or l i 0) ++ piece 0 n (drop (suc i) l))
+module _ {text : Text} {l : List ℕ} {k n : ℕ} {done : Text} {left : List ℕ} {i : ℕ} (p : Putting text l k n done left i) where
+  front : i < length left → piece 0 n (drop i left) ≡ cond (eqb (get_or left i 0) 124) [] (shown n (get_or left i 0) ++ piece 0 n (drop (suc i) left))
   unfolding piece
-  front h = ap (piece 0 n) (drop-cons l i 0 h)
+  front h = ap (piece 0 n) (drop-cons left i 0 h)
 
-  pub put-more : {next : Text} → i < length l → (get_or l i 0 ≡ 124 → ⊥) → next ≡ added done (shown n (get_or l i 0)) → Putting text l k n next (i + 1)
+  pub put-more : {next : Text} → i < length left → (get_or left i 0 ≡ 124 → ⊥) → next ≡ added done (shown n (get_or left i 0)) → Putting text l k n next left (i + 1)
   put-more {next} h other e = record {
     within = omega arith;
     rest =
-        ap (λ (t : Text). added t (piece 0 n (drop (i + 1) l))) e
-        ∙ added_more done (shown n (get_or l i 0)) (piece 0 n (drop (i + 1) l))
-        ∙ rw add-one (ap (added done) (sym (front h ∙ rw (ne_eqb (get_or l i 0) 124 other))))
+        ap (λ (t : Text). added t (piece 0 n (drop (i + 1) left))) e
+        ∙ added_more done (shown n (get_or left i 0)) (piece 0 n (drop (i + 1) left))
+        ∙ rw add-one (ap (added done) (sym (front h ∙ rw (ne_eqb (get_or left i 0) 124 other))))
         ∙ p.rest;
   }
 
-  pub put-bar : i < length l → get_or l i 0 ≡ 124 → done ≡ added text (piece k n l)
+  pub put-bar : i < length left → get_or left i 0 ≡ 124 → done ≡ added text (piece k n l)
   unfolding added
   put-bar h bar =
-      let ended : piece 0 n (drop i l) ≡ [] = front h ∙ rw (eq-eqb (get_or l i 0) 124 bar) in
+      let ended : piece 0 n (drop i left) ≡ [] = front h ∙ rw (eq-eqb (get_or left i 0) 124 bar) in
       sym (ap (added done) ended) ∙ p.rest
 
-  pub put_all : length l ≤ i → done ≡ added text (piece k n l)
+  pub put_all : length left ≤ i → done ≡ added text (piece k n l)
   unfolding added
-  put_all h = let e : i ≡ length l = omega (arith, p.within) in sym (ap (added done) (none_left 0 n i l e)) ∙ p.rest
+  put_all h = let e : i ≡ length left = omega (arith, p.within) in sym (ap (added done) (none_left 0 n i left e)) ∙ p.rest

@@ -40,9 +40,6 @@ pub record Behind (text : Text) (more : List ℕ) (done : Text) (i : ℕ) : Type
   pub within : i ≤ length more
   pub rest : added done (drop i more) ≡ added text more
 
-pub behind-none : (text : Text) (more : List ℕ) → Behind text more text 0
-behind-none text more = record { within = omega arith; rest = refl }
-
 pub behind_more : {text : Text} {more : List ℕ} {done next : Text} {i : ℕ} → Behind text more done i → i < length more → next ≡ byte_added done (get_or more i 0)
     → Behind text more next (i + 1)
 unfolding added

@@ -42,11 +42,8 @@ pub fn put(text: Text, more: &[u8]) -> Text
     ensures { result ≡ added text more.now }
 {
     let mut done = text;
-    let mut i = 0;
-    while i < more.len() {
-        let next = push(done, more[i]);
-        done = next;
-        i += 1;
+    for &byte in more {
+        done = push(done, byte);
     }
     done
 }
@@ -75,10 +72,7 @@ fn bars_left(bars: usize, byte: u8) -> usize
     requires { 0 < bars }
     ensures { result ≡ cond (eqb byte 124) (bars - 1) bars }
 {
-    if byte == b'|' {
-        return bars - 1;
-    }
-    bars
+    if byte == b'|' { bars - 1 } else { bars }
 }
 
 // Where piece k begins.
@@ -86,24 +80,23 @@ fn piece_at(pieces: &[u8], k: usize) -> usize
     ensures { PieceBehind pieces.now k result 0 }
 {
     let mut bars = k;
-    let mut i = 0;
-    while i < pieces.len() {
+    for (i, &byte) in pieces.iter().enumerate() {
         if bars == 0 {
             return i;
         }
-        bars = bars_left(bars, pieces[i]);
-        i += 1;
+        bars = bars_left(bars, byte);
     }
-    i
+    pieces.len()
 }
 
 fn put_shown(text: Text, byte: u8, n: usize) -> Text
     ensures { result ≡ added text (shown n byte) }
 {
     if byte == b'*' {
-        return put_decimal(text, n as u64);
+        put_decimal(text, n as u64)
+    } else {
+        push(text, byte)
     }
-    push(text, byte)
 }
 
 // Piece k, with the number n.
@@ -111,15 +104,11 @@ pub fn put_piece(text: Text, pieces: &[u8], k: usize, n: usize) -> Text
     ensures { result ≡ added text (piece k n pieces.now) }
 {
     let mut done = text;
-    let mut i = piece_at(pieces, k);
-    while i < pieces.len() {
-        let byte = pieces[i];
+    for &byte in &pieces[piece_at(pieces, k)..] {
         if byte == b'|' {
-            return done;
+            break;
         }
-        let next = put_shown(done, byte, n);
-        done = next;
-        i += 1;
+        done = put_shown(done, byte, n);
     }
     done
 }

@@ -21,15 +21,13 @@ pub fn row_in(words: &[u64; 29], row: &mut [u8])
     requires { Words words.now × (length row.old ≡ row_size) }
     ensures { row.new ≡ row_from (bits_in words.now) }
 {
-    let mut m = 0;
-    while m < 31 {
+    for m in 0..31usize {
         let five = five_in(words, m);
         row[5 * m] = (five / 4294967296 % 256) as u8;
         row[5 * m + 1] = (five / 16777216 % 256) as u8;
         row[5 * m + 2] = (five / 65536 % 256) as u8;
         row[5 * m + 3] = (five / 256 % 256) as u8;
         row[5 * m + 4] = (five % 256) as u8;
-        m += 1;
     }
 }
 
@@ -39,10 +37,8 @@ pub fn dc_in(words: &[u64; 29]) -> u32
     ensures { result ≡ dc_from (bits_in words.now) }
 {
     let mut dc = 0;
-    let mut i = 0;
-    while i < 28 {
-        dc = 2 * dc + (words[i] % 2) as u32;
-        i += 1;
+    for &word in &words[..28] {
+        dc = 2 * dc + (word % 2) as u32;
     }
     dc
 }

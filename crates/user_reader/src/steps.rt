@@ -9,14 +9,12 @@ fn unscramble_users(frames: &[u8], stream: &[u8], user: &mut [u8])
     requires { (length frames.now ≡ 8208) × ((length stream.now ≡ 2052) × (length user.old ≡ 8192)) }
     ensures { user.new ≡ user_of stream.now frames.now }
 {
-    let mut f = 0;
-    while f < 4 {
+    for f in 0..4 {
         let from = 2052 * f;
         let end = from + 2048;
         let to = 2048 * f;
         let past = to + 2048;
         scrambling::steps::scramble(&frames[from..end], stream, &mut user[to..past]);
-        f += 1;
     }
 }
 
@@ -26,12 +24,10 @@ pub fn user_bytes(work: &[u8], stream: &[u8], user: &mut [u8])
     ensures { user.new ≡ user_in stream.now work.now }
 {
     let mut frames = ldc_words::steps::no_frames();
-    let mut e = 0;
-    while e < 8 {
+    for e in 0..8 {
         sector_reader::steps::take_frames(work, e, &mut frames);
         let from = 8192 * e;
         let end = from + 8192;
         unscramble_users(&frames, stream, &mut user[from..end]);
-        e += 1;
     }
 }

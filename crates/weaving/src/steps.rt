@@ -12,10 +12,10 @@ fn four_bytes(row: &[u8], i: usize) -> u64
     requires { i + 3 < length row.now }
     ensures { Word 32 (λ j. get_or (bits_of row.now) j 0) (8 * i) result }
 {
-    frame_bits::steps::wide(row[i]) * 16777216
-        + frame_bits::steps::wide(row[i + 1]) * 65536
-        + frame_bits::steps::wide(row[i + 2]) * 256
-        + frame_bits::steps::wide(row[i + 3])
+    u64::from(row[i]) * 16777216
+        + u64::from(row[i + 1]) * 65536
+        + u64::from(row[i + 2]) * 256
+        + u64::from(row[i + 3])
 }
 
 // Eight.
@@ -52,10 +52,8 @@ pub fn frame_words(row: &[u8], dc: u32, words: &mut [u64; 29])
     requires { (length row.now ≡ row_size) × Words words.old }
     ensures { Words words.new × (bits_in words.new ≡ frame_bits row.now dc) }
 {
-    let mut i = 0;
-    while i < 28 {
+    for i in 0..28 {
         words[i] = group_data(row, i) * 2 + dc_bit(dc, 27 - i);
-        i += 1;
     }
 }
 

@@ -39,8 +39,7 @@ fn told(waits: usize, pair: usize) -> usize
     requires { (waits < 10) × (pair < 4) }
     ensures { result ≡ told_number (told (wait_at waits) (two_of pair)) }
 {
-    let by_pair = TOLD[waits];
-    by_pair[pair]
+    TOLD[waits][pair]
 }
 
 fn size_at_end(waits: usize) -> usize
@@ -65,20 +64,18 @@ fn walk(words: &[u64; 29], p: usize) -> Walked
     ensures { record { needs = result.needs; size = result.size } ≡ walk w 0 (drop p (pairs (bits_in words.now))) }
 {
     let mut waits = 0;
-    let mut n = 0;
-    while p + n < PAIRS {
+    for n in 0..PAIRS - p {
         let next = told(waits, pair_at(words, p + n));
-        n += 1;
         if 10 <= next {
             return Walked {
-                needs: n,
+                needs: n + 1,
                 size: next - 10,
             };
         }
         waits = next;
     }
     Walked {
-        needs: n,
+        needs: PAIRS - p,
         size: size_at_end(waits),
     }
 }
@@ -88,10 +85,7 @@ fn ends_plain(words: &[u64; 29], p: usize) -> bool
     requires { Words words.now × (p < 634) }
     ensures { result ≡ ends_plain (drop p (pairs (bits_in words.now))) }
 {
-    if pair_at(words, p) == 3 {
-        return PAIRS < p + 4;
-    }
-    false
+    pair_at(words, p) == 3 && PAIRS < p + 4
 }
 
 // The word that begins at pair p.

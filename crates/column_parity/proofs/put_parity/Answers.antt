@@ -3,4 +3,4 @@ use mathlib.Core.Path.{◌∙◌}
 use Rattle.column_parity.proofs.put_parity.Goals as goal
 
 pub returns : goal.returns
-returns c = c.copy_bytes.ensures ∙ c.parity_of-made.ensures
+returns c = c.copy_from_slice.ensures.after ∙ c.parity_of-made.ensures

@@ -1,5 +1,5 @@
 -- What the automaton holds between two words of a frame, and the words that it leaves.
-use Rattle.std.specs.Prelude.{Bool, List, ◌≡◌, ℕ, ◌+◌, ◌*◌, ◌/◌, ◌%◌, ◌<◌, eqb}
+use Rattle.std.specs.Prelude.{Bool, List, ◌≡◌, ℕ, ◌+◌, ◌*◌, ◌/◌, ◌%◌, ◌<◌, Option, IfSome, SomeIff}
 use Rattle.modulation.specs.Modulation.{Three}
 use Rattle.automaton.specs.Automaton.{ending, state_after, number_after}
 use Rattle.automaton.specs.steps.Table.{limit}
@@ -17,8 +17,7 @@ pub record NextWord (gs : List Three) (x word held : ℕ) : Type 0 where
   pub below : word < 70368744177664
   pub holds : Held held
 
--- at the frame's end x is a last word, and it is found whether a frame may end so
-pub record LastWord (x : ℕ) (hash : Bool) (word : ℕ) (found : Bool) : Type 0 where
-  pub number : word ≡ x / 32 + ending (x % 32) hash / 2
-  pub answer : found ≡ eqb (ending (x % 32) hash % 2) 0
-  pub below : word < 70368744177664
+-- at the frame's end x is a last word, if a frame may end so
+pub record LastWord (x : ℕ) (hash : Bool) (answer : Option ℕ) : Type 0 where
+  pub word : SomeIff answer (ending (x % 32) hash % 2 ≡ 0) (x / 32 + ending (x % 32) hash / 2)
+  pub below : IfSome answer (λ word. word < 70368744177664)

@@ -1,17 +1,9 @@
--- `psns_of` meets its contract: a PSN a turn (Exported; laws, Fill).
-use mathlib.Core.Path.{ap}
-use Prim.Native.Nat.{ℕ}
-use Rattle.laws.proofs.Fill.{upto-none, upto-more, upto_all}
-use Rattle.export_sheet.specs.Exported.{given_psns}
-use borrow.Author.Rules.{rules}
+-- `psns_of` meets its contract: a PSN for each number (laws, FromFn).
+use Rattle.std.proofs.Common.{rules}
+use Rattle.laws.proofs.FromFn.{made-tabulate}
+use Rattle.export_sheet.specs.Exported.{given_psn, given_psns}
 use Rattle.export_sheet.proofs.psns_of.Goals as goal
-
-pub loop-i-init : goal.loop-i-init
-loop-i-init c = upto-none (search rules)
-
-pub loop-i-preserved : goal.loop-i-preserved
-loop-i-preserved c = upto-more {n = 64} (search rules) (ap (λ (n : ℕ). record { 0 = n }) c.number_at.ensures) c.loop-i.invariant
 
 pub returns : goal.returns
 unfolding given_psns
-returns c = upto_all (search rules) c.loop-i.invariant
+returns c = made-tabulate _ (record { 0 = 0 }) (λ i. record { 0 = given_psn c.args.given.now i }) 64 _ (λ i psn q h called. search rules) c.from_fn.ensures.items

@@ -1,7 +1,6 @@
 -- An eighth of the LDC block: code words 38 e to 38 e + 37, whose information bytes are data frames 4 e to 4 e + 3 (13.5). What the steps
 -- on it leave in the lent slices: `before` at entry, `after` at exit.
 use Rattle.std.specs.Prelude.{◌≡◌, Bool, not, List, ◌++◌, ℕ, ◌+◌, ◌*◌, ◌-◌, ◌/◌, ◌%◌, ◌<◌, ◌≤◌, length, get_or, take, drop}
-use Rattle.laws.specs.First.{first}
 use Rattle.laws.specs.Scatter.{Scattered}
 use Rattle.laws.specs.Tabulate.{tabulate}
 use Rattle.column.specs.Column.{parity, has_roots}

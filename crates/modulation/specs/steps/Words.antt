@@ -1,6 +1,6 @@
 -- A frame's 1,268 data bits in 28 words of 46 bits: of the first word the 20 highest do not count, and the last bit of each word is a
 -- dc-control bit. A word more stands behind them, so that each word has a next.
-use Rattle.std.specs.Prelude.{Bool, true, false, List, ◌≡◌, ℕ, ◌+◌, ◌-◌, ◌/◌, ◌%◌, ◌^◌, ◌<◌, length, get_or}
+use Rattle.std.specs.Prelude.{Bool, List, ◌≡◌, ℕ, ◌+◌, ◌-◌, ◌/◌, ◌%◌, ◌^◌, ◌<◌, length, get_or, Option, IfSome, IfNone}
 use Rattle.laws.specs.Tabulate.{tabulate}
 use Rattle.modulation.specs.Modulation.{Two}
 use Rattle.modulation.specs.Bits.{pairs, Gives}
@@ -13,8 +13,8 @@ pub record Words (ws : List ℕ) : Type 0 where
   pub size : length ws ≡ 29
   pub below : (i : ℕ) → get_or ws i 0 < 70368744177664
 
--- the answer on modulation bits m and # of the next sync: the data bits in the words give them, or no data bits do, however many
-pub record WordsRead (before : Bool) (m : List ℕ) (hash answer : Bool) (ws : List ℕ) : Type 0 where
-  pub words : Words ws
-  pub found : answer ≡ true → Gives before (pairs (bits_in ws)) m hash
-  pub none : answer ≡ false → (ds : List Two) → Gives before ds m hash → ⊥
+-- what is read in modulation bits m and # of the next sync: words whose data bits give them, or that no data bits do, however many
+pub record WordsRead (before : Bool) (m : List ℕ) (hash : Bool) (answer : Option (List ℕ)) : Type 0 where
+  pub words : IfSome answer Words
+  pub found : IfSome answer (λ ws. Gives before (pairs (bits_in ws)) m hash)
+  pub none : IfNone answer ((ds : List Two) → Gives before ds m hash → ⊥)

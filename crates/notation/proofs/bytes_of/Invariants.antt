@@ -1,5 +1,4 @@
 -- `bytes_of` meets its contract: filled from the front (Words).
-use Prim.Native.Nat.{◌-◌}
 use mathlib.Core.Path.{◌≡◌}
 use lib.ListN.{length}
 use Rattle.laws.proofs.Fill.{Upto}
@@ -8,6 +7,3 @@ use Rattle.notation.proofs.bytes_of.Given as goal
 
 abbrev pub invariant-loop-k : goal.invariant-loop-k
 invariant-loop-k l = (length l.words ≡ 496) × Upto 0 (dc_byte l.words) 1984 l.k l.bytes
-
-abbrev pub decreases-loop-k : goal.decreases-loop-k
-decreases-loop-k l = 1984 - l.k

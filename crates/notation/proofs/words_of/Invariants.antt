@@ -1,5 +1,5 @@
 -- `words_of` meets its contract: filled from the front (Words).
-use Prim.Native.Nat.{◌*◌, ◌-◌}
+use Prim.Native.Nat.{◌*◌}
 use mathlib.Core.Path.{◌≡◌}
 use lib.ListN.{length}
 use Rattle.laws.proofs.Fill.{Upto}
@@ -8,6 +8,3 @@ use Rattle.notation.proofs.words_of.Given as goal
 
 abbrev pub invariant-loop-n : goal.invariant-loop-n
 invariant-loop-n l = (length l.bytes ≡ 1984) × Upto 0 (λ n. word_at l.bytes (4 * n)) 496 l.n l.words
-
-abbrev pub decreases-loop-n : goal.decreases-loop-n
-decreases-loop-n l = 496 - l.n

@@ -5,5 +5,5 @@ use Rattle.psn_report.proofs.read_text.Goals as goal
 pub returns-then-first : goal.returns-then-first
 returns-then-first c = search (read-text-is)
 
-pub returns : goal.returns
-returns c = search (read-text-is)
+pub returns-else-first : goal.returns-else-first
+returns-else-first c = search (read-text-is)

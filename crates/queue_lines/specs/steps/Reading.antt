@@ -17,7 +17,7 @@ pub record HoldsRecordLine (begun : List ℕ) (line : RecordLine) : Type 0 where
 abbrev pub pair_of : ℕ → ℕ → ℕ
 pair_of high low = cond (is_digit high && is_digit low) (digit_of high * 16 + digit_of low) 256
 
--- twelve bytes are held; a longer line is handled as the record without bytes
+-- twelve bytes are held; a longer line stands for the record without bytes
 unfoldable pub shown_record : List ℕ → ℕ → List ℕ
 shown_record text size = cond (leb size 12) (record_on (take size text)) []
 

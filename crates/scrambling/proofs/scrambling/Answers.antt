@@ -1,13 +1,12 @@
 -- `scrambling` meets its contract: the bytes passed are those of the stream, and s is the register of the next (Stream).
-use Prim.Native.Nat.{◌-◌}
 use Rattle.scrambling.proofs.Stream.{streamed-none, streamed-more, streamed-all}
 use Rattle.scrambling.proofs.scrambling.Goals as goal
 
-pub loop-k-init : goal.loop-k-init
-loop-k-init c = search (streamed-none)
+pub loop-byte-init : goal.loop-byte-init
+loop-byte-init c = search (streamed-none)
 
-pub loop-k-preserved : goal.loop-k-preserved
-loop-k-preserved c = search (streamed-more)
+pub loop-byte-preserved : goal.loop-byte-preserved
+loop-byte-preserved c = search (streamed-more)
 
 pub returns : goal.returns
 returns c = search (streamed-all)

@@ -12,6 +12,6 @@ returns-then-frame-ne2052 c = search (other-frame)
 pub returns : goal.returns
 returns c = let args = c.args in
     both-lengths args.user.now args.stream.now args.frame.now _ (omega arith) (omega arith)
-    (written-frame args.user.now args.stream.now args.frame.now c.write.new.frame c.word_bytes.result c.copy_bytes.new.to c.write.result
+    (written-frame args.user.now args.stream.now args.frame.now c.write.new.frame c.word_bytes.result c.copy_from_slice.new.self c.write.result
     c.code_stream.result (omega arith) (omega arith) (λ k. (c.type_inv.stream k).fits) c.write.ensures c.code_stream.ensures c.word_bytes.ensures
-    c.copy_bytes.ensures)
+    c.copy_from_slice.ensures.after)

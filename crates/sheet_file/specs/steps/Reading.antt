@@ -1,17 +1,16 @@
 -- What is kept of a file while it is read.
-use Rattle.std.specs.Prelude.{◌≡◌, Bool, cond, List, ◌++◌, ℕ, ◌≤◌, ◌<◌, min, eqb, length, get_or}
+use Rattle.std.specs.Prelude.{◌≡◌, cond, List, ◌++◌, ℕ, ◌≤◌, ◌<◌, min, eqb, length, get_or, Option, Some, None}
 use Rattle.address_sheet.specs.Sheet.{entry_psn}
-use Rattle.notation.specs.declared.PsnText.{PsnText}
-use Rattle.notation.specs.declared.PsnText.TheVariants.{NoNumber}
+use Rattle.address.specs.declared.Psn.{Psn}
 use Rattle.notation.specs.Psn.{psn_of}
 use Rattle.sheet_file.specs.declared.Line.{Line}
 use Rattle.sheet_file.specs.declared.SheetEntries.{SheetEntries}
 use Rattle.sheet_file.specs.declared.SheetFile.{SheetFile}
-use Rattle.sheet_file.specs.File.{lines_from, trimmed, Entry, entries_from, file_entries, line_of, is_number, number_in, wrong_line, psn_at, line_at}
+use Rattle.sheet_file.specs.File.{lines_from, trimmed, Entry, entries_from, file_entries, line_of, is_number, wrong_line, psn_at, line_at}
 
 -- eight bytes are held; a text of another size is no PSN
-abbrev pub shown_psn : List ℕ → ℕ → PsnText
-shown_psn text size = cond (eqb size 8) (psn_of text) NoNumber
+abbrev pub shown_psn : List ℕ → ℕ → Option Psn
+shown_psn text size = cond (eqb size 8) (psn_of text) None
 
 -- the bytes `begun` of a line
 pub record HoldsLine (begun : List ℕ) (line : Line) : Type 0 where
@@ -29,14 +28,14 @@ pub record HoldsEntries (list : List Entry) (held : SheetEntries) : Type 0 where
   pub lines : (i : ℕ) → i < 64 → i < length list → get_or held.lines i 0 ≡ line_at list i
   pub wrong : held.wrong ≡ wrong_line list
 
--- the first line that is no PSN, 0 where there is none, behind one more
-abbrev pub wrong_after : ℕ → ℕ → Bool → ℕ
-wrong_after wrong line right = cond (eqb wrong 0) (cond right 0 line) wrong
+-- the first line that is no PSN, behind one more
+abbrev pub wrong_after : Option ℕ → ℕ → Option Psn → Option ℕ
+wrong_after (Some wrong) line psn = Some wrong
+wrong_after None line psn = cond (is_number psn) None (Some line)
 
--- what is known of an entry: its PSN, 0 where it is none; whether it is one; its line
-pub record IsEntry (entry : Entry) (psn : ℕ) (right : Bool) (line : ℕ) : Type 0 where
-  pub own-psn : psn ≡ number_in (psn_of entry.text)
-  pub is-psn : right ≡ is_number (psn_of entry.text)
+-- what is known of an entry: its PSN, and its line
+pub record IsEntry (entry : Entry) (psn : Option Psn) (line : ℕ) : Type 0 where
+  pub own-psn : psn ≡ psn_of entry.text
   pub own_line : line ≡ line_of entry
 
 -- the first bytes of a file: the entries of the lines that ended, and the line that is begun; whatever follows

@@ -1,7 +1,6 @@
 -- `put_rows` meets its contract: the rows that are left are put behind what is done (Table).
 use Rattle.tallying.proofs.Table.{rows_none, rows_more, rows_all}
 use borrow.Author.Rules.{rules}
-use Prim.Native.Nat.{◌-◌}
 use Rattle.tallying.proofs.put_rows.Goals as goal
 
 pub loop-k-init : goal.loop-k-init

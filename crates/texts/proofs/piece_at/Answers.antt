@@ -1,10 +1,6 @@
 -- `piece_at` meets its contract: bar by bar (Pieces).
-use Prim.Native.Nat.{◌-◌}
-use Rattle.texts.proofs.Pieces.{bars-all, bars-fewer, bars-none, bars-end}
+use Rattle.texts.proofs.Pieces.{bars-fewer, bars-none, bars-end}
 use Rattle.texts.proofs.piece_at.Goals as goal
-
-pub loop-i-init : goal.loop-i-init
-loop-i-init c = bars-all _ _
 
 pub returns-then-bars-eq0 : goal.returns-then-bars-eq0
 returns-then-bars-eq0 c = search (bars-none)

@@ -5,5 +5,5 @@ use Rattle.texts.proofs.put_shown.Goals as goal
 pub returns-then-byte-eq42 : goal.returns-then-byte-eq42
 returns-then-byte-eq42 c = search (shown-number)
 
-pub returns : goal.returns
-returns c = search (shown-byte)
+pub returns-else-byte-eq42 : goal.returns-else-byte-eq42
+returns-else-byte-eq42 c = search (shown-byte)

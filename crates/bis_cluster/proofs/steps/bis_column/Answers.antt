@@ -1,18 +1,13 @@
--- `bis_column` meets its contract: each turn reads the next byte of the column at its index (Loops).
-use native.Mathlib.Omega.{arith}
-use Prim.Native.Nat.{◌-◌}
-use Rattle.laws.proofs.Fill.{upto-none, upto_all}
-use Rattle.cluster.specs.Multiplex.{column_in}
-use Rattle.bis_cluster.proofs.Loops.{column-read}
+-- `bis_column` meets its contract: each byte is read at its index (laws, FromFn).
+use Rattle.std.proofs.Common.{rules}
+use lib.ListN.{get_or}
+use Rattle.laws.proofs.FromFn.{made-tabulate}
+use Rattle.bis.specs.BisCluster.{bis_row, bis_column}
+use Rattle.cluster.specs.Multiplex.{bis_index, column_in}
 use Rattle.bis_cluster.proofs.steps.bis_column.Goals as goal
-
-pub loop-n-init : goal.loop-n-init
-loop-n-init c = upto-none c.zero_column-column.ensures
-
-pub loop-n-preserved : goal.loop-n-preserved
-loop-n-preserved c = let args = c.args in
-    column-read args.work.now args.c c.loop-n.n c.bis_index.result c.loop-n.column (omega arith) c.bis_index.ensures c.loop-n.invariant
 
 pub returns : goal.returns
 unfolding column_in
-returns c = upto_all (omega arith) c.loop-n.invariant
+returns c =
+    made-tabulate _ 0 (λ N. get_or c.args.work.now (bis_index (bis_row N c.args.c) (bis_column N c.args.c)) 0) 62 _ (λ N byte q h called. search rules)
+    c.from_fn.ensures.items

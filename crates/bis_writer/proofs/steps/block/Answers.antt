@@ -1,9 +1,11 @@
--- `block` meets its contract: the loop has made the columns passed (Writing).
-use Prim.Native.Nat.{◌-◌}
+-- `block` meets its contract: the loop has made the columns passed.
+use mathlib.Core.Path.{refl, ap, ◌∙◌}
+use mathlib.Core.List.{List}
+use Prim.Native.Nat.{ℕ}
 use native.Mathlib.Omega.{arith}
-use mathlib.Core.Path.{refl}
-use Rattle.laws.proofs.Fill.{upto-none, upto-more}
-use Rattle.bis_writer.proofs.Writing.{block-all}
+use Rattle.laws.specs.Tabulate.{tabulate}
+use Rattle.laws.proofs.Fill.{upto-none, upto-more, upto_all}
+use Rattle.bis.specs.BisBlock.{code_word, bis_block}
 use Rattle.bis_writer.proofs.steps.block.Goals as goal
 
 pub loop-c-init : goal.loop-c-init
@@ -13,4 +15,6 @@ pub loop-c-preserved : goal.loop-c-preserved
 loop-c-preserved c = search (upto-more, arith)
 
 pub returns : goal.returns
-returns c = search (block-all, arith)
+unfolding bis_block
+returns c =
+    upto_all (omega arith) c.loop-c.invariant ∙ ap (λ (f : List (List ℕ)). tabulate 24 (code_word f c.args.side.now)) c.address_fields-fields.ensures

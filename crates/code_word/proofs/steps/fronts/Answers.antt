@@ -1,5 +1,4 @@
 -- `fronts` meets its contract: a byte a turn. Assumes nothing.
-use Prim.Native.Nat.{◌-◌}
 use mathlib.Core.Path.{◌∙◌}
 use native.Mathlib.Omega.{arith}
 use Rattle.register.proofs.Eight.{fronts-none, fronts-more, fronts-all}
@@ -10,7 +9,7 @@ pub loop-k-init : goal.loop-k-init
 loop-k-init c = fronts-none (search rules)
 
 pub loop-k-preserved : goal.loop-k-preserved
-loop-k-preserved c = fronts-more (search rules) (c.wide.ensures.0 ∙ c.plus.ensures) c.wide.ensures.1 c.loop-k.invariant
+loop-k-preserved c = fronts-more (search rules) (c.from.ensures ∙ c.plus.ensures) (omega arith) c.loop-k.invariant
 
 pub returns : goal.returns
 returns c = fronts-all (omega arith) c.loop-k.invariant

@@ -1,10 +1,6 @@
 -- `fronts` meets its contract: a byte a turn. Assumes nothing.
-use Prim.Native.Nat.{◌-◌}
 use Rattle.register.proofs.Eight.{Fronts}
 use Rattle.code_word.proofs.steps.fronts.Given as goal
 
 abbrev pub invariant-loop-k : goal.invariant-loop-k
 invariant-loop-k l = Fronts l.was l.message l.at l.k l.eight
-
-abbrev pub decreases-loop-k : goal.decreases-loop-k
-decreases-loop-k l = 8 - l.k

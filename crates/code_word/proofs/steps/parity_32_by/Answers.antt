@@ -1,18 +1,14 @@
--- `parity_32_by` meets its contract: the loop copies the register's 32 bytes. Assumes nothing.
-use mathlib.Core.Path.{◌∙◌}
-use Prim.Native.Nat.{◌-◌}
+-- `parity_32_by` meets its contract: the register's 32 bytes are the parity. Assumes nothing.
+use mathlib.Core.Path.{sym, ◌∙◌}
 use native.Mathlib.Omega.{arith}
-use Rattle.laws.proofs.Fill.{upto-none, upto-more, upto_all}
-use Rattle.register.proofs.Eight.{register-bytes}
-use borrow.Author.Rules.{rules}
+use lib.Seq.{length-take-le}
 use Rattle.code_word.proofs.steps.parity_32_by.Goals as goal
 
-pub loop-j-init : goal.loop-j-init
-loop-j-init c = upto-none (search rules)
+pub slice_bounds-copy_from_slice-end-2 : goal.slice_bounds-copy_from_slice-end-2
+slice_bounds-copy_from_slice-end-2 c = sym (length-take-le 32 c.divided-register.result (omega (arith, c.divided-register.ensures.0.size)))
 
-pub loop-j-preserved : goal.loop-j-preserved
-loop-j-preserved c = search (upto-more, arith)
+pub copy_from_slice-requires : goal.copy_from_slice-requires
+copy_from_slice-requires c = omega (arith, length-take-le 32 c.divided-register.result (omega (arith, c.divided-register.ensures.0.size)))
 
 pub returns : goal.returns
-returns c = let divided = c.divided-register.ensures in
-    register-bytes divided.0 (upto_all (omega arith) c.loop-j.invariant) ∙ divided.1
+returns c = c.copy_from_slice.ensures.after ∙ c.divided-register.ensures.1

@@ -1,5 +1,4 @@
 -- `pushed_eight` meets its contract: the loop adds what the eight bytes leave (register, Eight). Assumes nothing.
-use Prim.Native.Nat.{◌-◌}
 use native.Mathlib.Omega.{arith}
 use Rattle.register.proofs.Eight.{filling-none, padded-zeros, filling-more, eight-in}
 use borrow.Author.Rules.{rules}

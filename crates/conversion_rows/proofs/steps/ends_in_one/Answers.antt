@@ -3,4 +3,4 @@ use Rattle.conversion.proofs.CodedRows.{code-last}
 use Rattle.conversion_rows.proofs.steps.ends_in_one.Goals as goal
 
 pub returns : goal.returns
-returns c = code-last c.row_at-r.ensures
+returns c = code-last c.row_at.ensures

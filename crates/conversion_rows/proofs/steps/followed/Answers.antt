@@ -13,7 +13,7 @@ pub overflow_shl-result : goal.overflow_shl-result
 overflow_shl-result c = omega (arith, code-sized c.row_at-r.ensures)
 
 pub overflow_add-result : goal.overflow_add-result
-overflow_add-result c = record { fits = code_fits c.row_at-r.ensures c.args.value c.requires.1.1 }
+overflow_add-result c = record { fits = code_fits c.row_at-r.ensures c.args.value c.requires.1 }
 
 pub returns : goal.returns
-returns c = code-bits c.row_at-r.ensures c.args.value c.requires.1.1
+returns c = code-bits c.row_at-r.ensures c.args.value c.requires.1

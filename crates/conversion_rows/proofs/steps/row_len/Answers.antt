@@ -3,4 +3,4 @@ use Rattle.conversion.proofs.CodedRows.{code-sized}
 use Rattle.conversion_rows.proofs.steps.row_len.Goals as goal
 
 pub returns : goal.returns
-returns c = code-sized c.row_at-r.ensures
+returns c = code-sized c.row_at.ensures

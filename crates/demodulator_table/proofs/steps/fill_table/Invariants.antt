@@ -1,13 +1,9 @@
 -- `fill_table` meets its contract: behind the entries for two groups those for three are made one by one (automaton, Entries). Assumes nothing.
 use mathlib.Core.Path.{◌≡◌}
-use Prim.Native.Nat.{◌-◌, ◌≤◌}
 use Rattle.laws.proofs.Fill.{Upto}
 use Rattle.automaton.specs.Automaton.{transitions}
 use Rattle.automaton.specs.steps.Table.{table_entry}
 use Rattle.demodulator_table.proofs.steps.fill_table.Given as goal
 
 abbrev pub invariant-loop-k : goal.invariant-loop-k
-invariant-loop-k l = (l.ones ≡ transitions) × ((1152 ≤ l.k) × Upto 0 table_entry 10368 l.k l.made)
-
-abbrev pub decreases-loop-k : goal.decreases-loop-k
-decreases-loop-k l = 10368 - l.k
+invariant-loop-k l = (l.ones ≡ transitions) × Upto 0 table_entry 10368 l.k l.made

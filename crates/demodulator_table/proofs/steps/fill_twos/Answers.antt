@@ -1,5 +1,4 @@
 -- `fill_twos` meets its contract: the entries are made one by one (automaton, Entries). Assumes nothing.
-use Prim.Native.Nat.{◌-◌}
 use native.Mathlib.Omega.{arith}
 use Rattle.laws.proofs.Fill.{upto-none, upto-more}
 use Rattle.automaton.proofs.Entries.{twos-all}
@@ -12,4 +11,4 @@ pub loop-k-preserved : goal.loop-k-preserved
 loop-k-preserved c = upto-more (omega arith) c.two_at.ensures c.loop-k.invariant
 
 pub returns : goal.returns
-returns c = twos-all c.loop-k-test.false c.loop-k.invariant
+returns c = twos-all (omega arith) c.loop-k.invariant

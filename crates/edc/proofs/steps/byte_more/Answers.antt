@@ -1,8 +1,7 @@
 -- `byte_more` meets its contract: quotient and remainder (Register).
-use native.Mathlib.Omega.{arith}
 use borrow.Author.Rules.{rules}
-use Rattle.std.proofs.lemmas.Grind.{common_steps}
-use Rattle.edc.proofs.Quotient.{folded, low_of}
+use Rattle.bit_sums.proofs.Folded.{folded}
+use Rattle.edc.proofs.Quotient.{low_of}
 use Rattle.edc.proofs.Register.{byte-taken}
 use Rattle.edc.proofs.steps.byte_more.Goals as goal
 

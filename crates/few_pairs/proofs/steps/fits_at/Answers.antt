@@ -1,4 +1,5 @@
 -- `fits_at` meets its contract: the row's pairs stand first and its condition holds (conversion, Fitting). Assumes nothing.
+use mathlib.Core.Path.{◌∙◌}
 use Rattle.conversion.proofs.Fitting.{fits_not, fits-if, fits-within}
 use Rattle.few_pairs.proofs.steps.fits_at.Goals as goal
 
@@ -12,4 +13,4 @@ returns-then-pairs_stand c = let args = c.args in
 
 pub returns-else-pairs_stand : goal.returns-else-pairs_stand
 returns-else-pairs_stand c = let args = c.args in
-    fits_not args.count args.pairs args.before args.k c.pairs_stand.ensures c.if-pairs_stand.false
+    c.if-pairs_stand.false ∙ fits_not args.count args.pairs args.before args.k c.pairs_stand.ensures c.if-pairs_stand.false

@@ -6,19 +6,19 @@ use Rattle.conversion.proofs.Modulating.{modulating-none, modulating-small, modu
 use Rattle.few_pairs.proofs.steps.modulate.Goals as goal
 
 pub loop-left-init : goal.loop-left-init
-loop-left-init c = modulating-none c.requires.1.1
+loop-left-init c = modulating-none c.requires.1
 
 pub fitting_row-k-requires : goal.fitting_row-k-requires
-fitting_row-k-requires c = (c.requires.0, ((c.loop-left-test.true, omega (arith, c.loop-left.invariant.within, c.requires.1.0)), c.loop-left.invariant.small))
+fitting_row-k-requires c = ((c.loop-left-test.true, omega (arith, c.loop-left.invariant.within, c.requires.0)), c.loop-left.invariant.small)
 
 pub followed-value-requires : goal.followed-value-requires
-followed-value-requires c = (c.requires.0, (c.fitting_row-k.ensures.below, modulating-small c.loop-left.invariant c.requires.1.0))
+followed-value-requires c = (c.fitting_row-k.ensures.below, modulating-small c.loop-left.invariant c.requires.0)
 
 pub overflow_sub-left : goal.overflow_sub-left
 overflow_sub-left c = omega (arith, c.row_len-left.ensures.pairs-are, c.fitting_row-k.ensures.within)
 
 pub last_pairs-rest-requires : goal.last_pairs-rest-requires
-last_pairs-rest-requires c = omega (arith, c.loop-left.invariant.within, c.requires.1.0)
+last_pairs-rest-requires c = omega (arith, c.loop-left.invariant.within, c.requires.0)
 
 pub loop-left-smaller : goal.loop-left-smaller
 loop-left-smaller c = omega (arith, c.row_len-left.ensures.some, c.loop-left-test.true)
@@ -28,4 +28,4 @@ loop-left-preserved c = modulating-more c.loop-left.invariant c.loop-left-test.t
     (ap (λ (x : Bool). c.loop-left.terminated || x) c.is_terminating-terminated.ensures) c.ends_in_one-bit.ensures c.row_len-left.ensures c.last_pairs-rest.ensures
 
 pub returns : goal.returns
-returns c = modulating-all c.loop-left.invariant c.requires.1.0 c.loop-left-test.false
+returns c = modulating-all c.loop-left.invariant c.requires.0 c.loop-left-test.false

@@ -1,17 +1,15 @@
 -- `standing_row` meets its contract: a search through the rows (conversion, Search). Assumes nothing.
-use Prim.Native.Nat.{◌-◌}
-use borrow.Author.Rules.{rules}
-use Rattle.conversion.proofs.Search.{searched-none, searched-more, searched-found, searched-all}
+use mathlib.Core.Bool.{true, false}
+use mathlib.Core.Path.{◌≡◌}
+use Prim.Native.Nat.{ℕ}
+use Rattle.std.proofs.Common.{rules}
+use Rattle.std.proofs.lemmas.Iterator.{first_from_Range}
+use Rattle.modulation.specs.Modulation.{two_number, row_at, starts}
+use Rattle.conversion.specs.steps.Few.{few_pairs}
+use Rattle.conversion.proofs.Search.{first-found}
 use Rattle.few_pairs.proofs.steps.standing_row.Goals as goal
 
-pub loop-k-init : goal.loop-k-init
-loop-k-init c = searched-none
-
-pub returns-then-pairs_stand : goal.returns-then-pairs_stand
-returns-then-pairs_stand c = searched-found c.loop-k.invariant (search rules) c.pairs_stand.ensures c.if-pairs_stand.true
-
-pub loop-k-preserved : goal.loop-k-preserved
-loop-k-preserved c = searched-more c.loop-k.invariant (search rules) c.pairs_stand.ensures c.if-pairs_stand.false
-
 pub returns : goal.returns
-returns c = searched-all c.loop-k.invariant c.loop-k-test.false
+returns c = let p = λ (k : ℕ). starts two_number (row_at k).pairs (few_pairs c.args.count c.args.pairs) in
+    first-found 16 p c.find.result
+    (first_from_Range _ _ _ _ (λ k. p k ≡ true) (λ k. p k ≡ false) c.find.ensures.ran (λ k q called. search rules) (λ k q called. (search rules, search rules)))

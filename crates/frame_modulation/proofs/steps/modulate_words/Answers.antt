@@ -1,5 +1,5 @@
 -- `modulate_words` meets its contract: sixteen bits a turn, at the place that goes with it (frame_bits, Weaving). Assumes nothing.
-use Prim.Native.Nat.{◌-◌, ◌/◌, ◌%◌}
+use Prim.Native.Nat.{◌/◌, ◌%◌}
 use native.Mathlib.Nat.{mod-lt, zero-lt-suc}
 use native.Mathlib.Omega.{arith}
 use borrow.Author.Rules.{rules}

@@ -1,9 +1,6 @@
 -- `sync_right` meets its contract: group by group, up to one that differs (SyncRight). Assumes nothing.
-use Prim.Native.Nat.{◌-◌}
-use native.Mathlib.Omega.{arith}
 use borrow.Author.Rules.{rules}
 use Rattle.frame_sync.proofs.SyncRight.{agrees-none, agrees-more, agrees-not, agrees-all}
-use Rattle.std.proofs.lemmas.Grind.{common_steps}
 use Rattle.frame_sync.proofs.steps.sync_right.Goals as goal
 
 pub loop-j-init : goal.loop-j-init

@@ -1,9 +1,6 @@
 -- `write_sync` meets its contract: group by group (Writing). Assumes nothing.
-use Prim.Native.Nat.{◌-◌}
-use native.Mathlib.Omega.{arith}
 use Rattle.frame_sync.proofs.Writing.{sync-none, sync-more, sync-all, sync-length}
 use borrow.Author.Rules.{rules}
-use Rattle.std.proofs.lemmas.Grind.{common_steps}
 use Rattle.frame_sync.proofs.steps.write_sync.Goals as goal
 
 pub loop-j-init : goal.loop-j-init

@@ -1,5 +1,4 @@
 -- `copy_bits` meets its contract (Copy). Assumes nothing.
-use Prim.Native.Nat.{◌-◌}
 use Rattle.frame_writer.proofs.Copy.{copied_none, copied_more, copied_all, copied-length}
 use Rattle.frame_writer.proofs.steps.copy_bits.Goals as goal
 

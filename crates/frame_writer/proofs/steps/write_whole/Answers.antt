@@ -20,7 +20,7 @@ modulate-requires-2 c = let size = part-size c.args.image.now c.args.at c.requir
   record {
     some = omega arith;
     most = omega arith;
-    front = omega (arith, c.wide.ensures.1, c.sync_word-sync.ensures.1);
+    front = omega (arith, c.from.ensures, c.sync_word-sync.ensures.1);
     back = omega arith;
   },
 )
@@ -29,4 +29,4 @@ pub returns : goal.returns
 returns c = let args = c.args in
     let word = c.sync_word-sync in
     written-odd args.number c.requires.1.0 args.hash args.row.now args.dc args.image.now _ args.at word.result c.modulate-2.result
-    word.ensures.0 c.requires.1.1.1 (omega arith) c.wide.ensures.0 c.wide.ensures.1 refl c.modulate-2.ensures
+    word.ensures.0 c.requires.1.1.1 (omega arith) c.from.ensures (omega (arith, c.from.ensures)) refl c.modulate-2.ensures

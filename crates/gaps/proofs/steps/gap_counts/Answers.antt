@@ -1,6 +1,5 @@
 -- `gap_counts` meets its contract: bit by bit (Counting). Assumes nothing.
 use native.Mathlib.Omega.{arith}
-use Prim.Native.Nat.{◌-◌}
 use Rattle.gaps.proofs.Counting.{counting-none, counting-few, counting_more, counting-all}
 use Rattle.gaps.proofs.steps.gap_counts.Goals as goal
 

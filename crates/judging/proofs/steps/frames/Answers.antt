@@ -1,6 +1,9 @@
--- `frames` meets its contract: the frame that was found, judged, and what was read (Judging).
-use Rattle.judging.proofs.Judging.{frames-left}
+-- `frames` meets its contract: the frame that was found, or none, and what was read (Judging).
+use Rattle.judging.proofs.Judging.{frame-refused, frames-passed}
 use Rattle.judging.proofs.steps.frames.Goals as goal
 
-pub returns : goal.returns
-returns c = frames-left c.read_frames-n.ensures c.lowest.ensures
+pub returns-in-Some : goal.returns-in-Some
+returns-in-Some c = frame-refused c.in-Some.ensures
+
+pub returns-in-None : goal.returns-in-None
+returns-in-None c = frames-passed c.in-None.ensures

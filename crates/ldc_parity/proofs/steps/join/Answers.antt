@@ -1,25 +1,26 @@
--- `join` meets its contract: a fill with the bytes of both.
-use Prim.Native.Nat.{◌-◌}
+-- `join` meets its contract: the two parts are the bytes of both.
+use mathlib.Core.Path.{◌≡◌, sym, ap, ap₂, ◌∙◌}
+use mathlib.Core.List.{List, ◌++◌, append-nil}
+use Prim.Native.Nat.{ℕ, ◌-◌}
 use native.Mathlib.Omega.{arith}
-use lib.ListN.{length-append}
-use Rattle.laws.proofs.Fill.{upto-none, upto-more, upto-same}
-use Rattle.ldc_words.proofs.Eighth.{join_first, join-second}
+use lib.ListN.{length, take, drop, length-drop, drop_of_length-le}
+use lib.Seq.{length-take-le, take_at}
 use Rattle.ldc_parity.proofs.steps.join.Goals as goal
 
-pub loop-k-init : goal.loop-k-init
-loop-k-init c = (omega arith, upto-none (omega arith))
+-- a list of which the first n are a is written with b from n on
+both-parts : (a b was : List ℕ) (n : ℕ) → length a ≡ n
+    → take n (a ++ drop n was) ++ (b ++ drop (length (a ++ drop n was) - n) (drop n (a ++ drop n was))) ≡ a ++ b
+both-parts a b was n size =
+    let whole = a ++ drop n was in
+    ap₂ ◌++◌ (take_at a (drop n was) n size)
+    (ap (◌++◌ b) (drop_of_length-le (drop n whole) {i = length whole - n} (omega (arith, length-drop n whole))) ∙ append-nil b)
 
-pub loop-k-preserved : goal.loop-k-preserved
-loop-k-preserved c = let args = c.args in
-    (omega arith, upto-more (omega arith) (join_first args.information.now args.parity.now c.loop-k.k (omega arith) (omega arith)) c.loop-k.invariant.1)
+pub slice_bounds-copy_from_slice-end-2 : goal.slice_bounds-copy_from_slice-end-2
+slice_bounds-copy_from_slice-end-2 c = sym (length-take-le 216 c.args.word.now (omega arith))
 
-pub loop-k-2-init : goal.loop-k-2-init
-loop-k-2-init c = (omega arith, c.loop-k.invariant.1)
-
-pub loop-k-2-preserved : goal.loop-k-2-preserved
-loop-k-2-preserved c = let args = c.args in
-    (omega arith, upto-more (omega arith) (join-second args.information.now args.parity.now c.loop-k-2.k (omega arith) (omega arith)) c.loop-k-2.invariant.1)
+pub copy_from_slice-requires : goal.copy_from_slice-requires
+copy_from_slice-requires c = omega (arith, length-take-le 216 c.args.word.now (omega arith))
 
 pub returns : goal.returns
-returns c = let args = c.args in
-    upto-same (omega arith) (omega (arith, length-append args.information.now args.parity.now)) c.loop-k-2.invariant.1
+returns c = let first = c.copy_from_slice.ensures.after in
+    both-parts c.copy_from_slice.new.self c.copy_from_slice-2.new.self c.args.word.now 216 (omega (arith, ap length first)) ∙ ap₂ ◌++◌ first c.copy_from_slice-2.ensures.after

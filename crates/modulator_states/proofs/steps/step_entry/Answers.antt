@@ -11,9 +11,9 @@ overflow_add-pairs c = omega (arith, c.waiting.ensures.fits)
 
 pub modulate-all-requires : goal.modulate-all-requires
 modulate-all-requires c = let small =
-    more-small c.args.s c.waits.result c.waiting.result c.waits.ensures.0 c.waiting.ensures c.args.d c.requires.1.0 c.requires.1.1 in
-    (c.requires.0, (omega (arith, c.waits.ensures.1), small))
+    more-small c.args.s c.waits.result c.waiting.result c.waits.ensures.0 c.waiting.ensures c.args.d c.requires.0 c.requires.1 in
+    (omega (arith, c.waits.ensures.1), small)
 
 pub returns : goal.returns
-returns c = step-coded c.args.s c.waits.result c.waiting.result c.waits.ensures.0 c.waiting.ensures c.args.d c.requires.1.0 c.requires.1.1
+returns c = step-coded c.args.s c.waits.result c.waiting.result c.waits.ensures.0 c.waiting.ensures c.args.d c.requires.0 c.requires.1
     c.modulate-all.ensures c.next_state-next.ensures.0 c.waits-k.ensures.0 c.cleared.ensures.0

@@ -1,5 +1,4 @@
 -- `fill_table` meets its contract. Assumes nothing.
-use Prim.Native.Nat.{◌-◌}
 use borrow.Author.Rules.{rules}
 use Rattle.laws.proofs.Fill.{upto-none, upto-more, upto_all}
 use Rattle.modulator.specs.steps.Table.{lent_table}

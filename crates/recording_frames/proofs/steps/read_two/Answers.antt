@@ -8,10 +8,6 @@ use Rattle.recording_frames.proofs.Reading.{frame-answer, row_is, two-rows}
 use borrow.Author.Rules.{rules}
 use Rattle.recording_frames.proofs.steps.read_two.Goals as goal
 
-pub read_two-requires : goal.read_two-requires
-read_two-requires c = let within = c.requires.0.1 in
-    (search rules, (search rules, (search rules, (omega (arith, within.enough, c.requires.1.0), omega (arith, within.positions, c.requires.1.0)))))
-
 pub returns : goal.returns
 returns c = let args = c.args in
     let l = bits_of args.image.now in

@@ -1,5 +1,4 @@
 -- `first_wrong_sync` meets its contract: a search from the front (Judging).
-use Prim.Native.Nat.{◌-◌, ◌≤◌}
 use lib.ListN.{drop}
 use Rattle.bits.specs.Bits.{bits_of}
 use Rattle.laws.proofs.First.{Passed}
@@ -7,7 +6,4 @@ use Rattle.recording.specs.Reading.{wrong_sync}
 use Rattle.recording_syncs.proofs.steps.first_wrong_sync.Given as goal
 
 abbrev pub invariant-loop-sync : goal.invariant-loop-sync
-invariant-loop-sync l = (l.sync ≤ 497) × Passed (wrong_sync (drop l.at (bits_of l.image))) l.sync
-
-abbrev pub decreases-loop-sync : goal.decreases-loop-sync
-decreases-loop-sync l = 497 - l.sync
+invariant-loop-sync l = Passed (wrong_sync (drop l.at (bits_of l.image))) l.sync

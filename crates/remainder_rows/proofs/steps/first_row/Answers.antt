@@ -1,14 +1,16 @@
 -- `first_row` meets its contract: the byte goes into a register of zeros. Assumes nothing.
 use Rattle.remainder_rows.proofs.Rows.{row_first}
-use mathlib.Core.Path.{sym, ap, ◌∙◌}
+use mathlib.Core.Path.{refl, ap, ◌∙◌}
 use native.Mathlib.Omega.{arith}
 use lib.ListN.{length}
+use Rattle.laws.specs.Tabulate.{tabulate}
 use Rattle.register.proofs.Eight.{length-divisor}
 use borrow.Author.Rules.{rules}
 use Rattle.remainder_rows.proofs.steps.first_row.Goals as goal
 
 pub push-requires : goal.push-requires
-push-requires c = record { are_tables = c.requires.0; generator_len = (ap length c.requires.1 ∙ length-divisor ∙ sym c.no_parity-row.ensures.0, omega arith) }
+push-requires c = record { are_tables = c.requires.0; generator_len = (ap length c.requires.1 ∙ length-divisor, omega arith) }
 
 pub returns : goal.returns
-returns c = row_first c.requires.1 c.no_parity-row.ensures.1 (search rules) c.push.ensures
+unfolding tabulate
+returns c = row_first c.requires.1 refl (search rules) c.push.ensures

@@ -1,8 +1,6 @@
 -- `row_at` meets its contract: the loop copies the row. Assumes nothing.
-use mathlib.Core.Path.{refl}
-use Prim.Native.Nat.{◌-◌}
 use native.Mathlib.Omega.{arith}
-use Rattle.register.proofs.Eight.{filling-none, padded-zeros, filling-more}
+use Rattle.register.proofs.Eight.{filling-none, padded-zeros}
 use Rattle.remainder_rows.proofs.Rows.{row_copied}
 use borrow.Author.Rules.{rules}
 use Rattle.remainder_rows.proofs.steps.row_at.Goals as goal

@@ -1,10 +1,7 @@
 -- `fill_next` meets its contract: a row a turn. Assumes nothing.
-use Prim.Native.Nat.{◌+◌, ◌*◌, ◌-◌, ◌≤◌}
+use Prim.Native.Nat.{◌+◌, ◌*◌}
 use Rattle.remainder_rows.specs.steps.Rows.{FilledTo}
 use Rattle.remainders.proofs.steps.fill_next.Given as goal
 
 abbrev pub invariant-loop-b : goal.invariant-loop-b
-invariant-loop-b l = (l.b ≤ 256) × FilledTo (8192 * l.k + 32 * l.b + 8192) l.table
-
-abbrev pub decreases-loop-b : goal.decreases-loop-b
-decreases-loop-b l = 256 - l.b
+invariant-loop-b l = FilledTo (8192 * l.k + 32 * l.b + 8192) l.table

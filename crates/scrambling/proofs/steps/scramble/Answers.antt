@@ -1,6 +1,5 @@
 -- `scramble` meets its contract, byte by byte.
 use mathlib.Core.Path.{refl}
-use Prim.Native.Nat.{◌-◌}
 use native.Mathlib.Omega.{arith}
 use Rattle.laws.proofs.Fill.{upto-none, upto-more, upto_all}
 use Rattle.scrambling.specs.Scrambling.{scrambled}

@@ -1,5 +1,4 @@
 -- `scramble` meets its contract, byte by byte.
-use Prim.Native.Nat.{◌-◌}
 use lib.Bits.{bit_xor}
 use lib.ListN.{length, get_or}
 use Rattle.laws.proofs.Fill.{Upto}
@@ -7,6 +6,3 @@ use Rattle.scrambling.proofs.steps.scramble.Given as goal
 
 abbrev pub invariant-loop-k : goal.invariant-loop-k
 invariant-loop-k l = Upto 0 (λ k. bit_xor (get_or l.from k 0) (get_or l.stream k 0)) (length l.from) l.k l.to
-
-abbrev pub decreases-loop-k : goal.decreases-loop-k
-decreases-loop-k l = length l.from - l.k

@@ -1,5 +1,4 @@
 -- `first_wrong_frame` meets its contract: a search from the front.
-use mathlib.Core.Path.{◌≡◌, ◌∙◌}
 use mathlib.Core.Bool.{true, false}
 use Prim.Native.Nat.{◌+◌, ◌*◌, ◌-◌}
 use native.Mathlib.Omega.{arith}
@@ -8,17 +7,18 @@ use Rattle.ldc_words.proofs.Eighth.{frame-judged}
 use Rattle.sector_reader.proofs.steps.first_wrong_frame.Goals as goal
 
 pub loop-f-init : goal.loop-f-init
-loop-f-init c = (omega arith, passed_none)
+loop-f-init c = passed_none
 
 pub loop-f-preserved : goal.loop-f-preserved
 loop-f-preserved c = let args = c.args in
     let f = c.loop-f.f in
-    (omega arith, passed-more c.loop-f.invariant.1 (frame-judged args.stream.now args.frames.now f (2052 * f + 2052 - 2052 * f) _ true (omega arith) c.edc_right.ensures c.if-edc_right.true))
+    passed-more c.loop-f.invariant (frame-judged args.stream.now args.frames.now f (2052 * f + 2052 - 2052 * f) _ true (omega arith) c.edc_right.ensures c.if-not-edc_right.false)
 
-pub returns-else-edc_right : goal.returns-else-edc_right
-returns-else-edc_right c = let args = c.args in
+pub returns-then-not-edc_right : goal.returns-then-not-edc_right
+returns-then-not-edc_right c = let args = c.args in
     let f = c.loop-f.f in
-    first-here (omega arith) c.loop-f.invariant.1 (frame-judged args.stream.now args.frames.now f (2052 * f + 2052 - 2052 * f) _ false (omega arith) c.edc_right.ensures c.if-edc_right.false)
+    let found = first-here {n = 4} (omega arith) c.loop-f.invariant (frame-judged args.stream.now args.frames.now f (2052 * f + 2052 - 2052 * f) _ false (omega arith) c.edc_right.ensures c.if-not-edc_right.true) in
+    (omega (arith, found), found)
 
 pub returns : goal.returns
-returns c = let all : c.loop-f.f ≡ 4 = omega arith in all ∙ first_past (omega arith) c.loop-f.invariant.1
+returns c = let none = first_past {n = 4} (omega arith) c.loop-f.invariant in λ h. omega (arith, none, h)

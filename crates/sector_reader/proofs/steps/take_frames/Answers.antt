@@ -1,7 +1,5 @@
 -- `take_frames` meets its contract: the information bytes of the code words are the data frames (ldc_words, Eighth).
-use native.Mathlib.Omega.{arith}
 use borrow.Author.Rules.{rules}
-use Rattle.std.proofs.lemmas.Grind.{common_steps}
 use Rattle.ldc_words.proofs.Eighth.{frames-taken}
 use Rattle.sector_reader.proofs.steps.take_frames.Goals as goal
 

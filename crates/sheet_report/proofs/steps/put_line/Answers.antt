@@ -8,6 +8,6 @@ unfolding piece
 returns-then-names_entry c = let args = c.args in
     line-put args.answer args.line args.text c.names_entry.ensures c.if-names_entry.true c.put_piece.ensures
 
-pub returns : goal.returns
-returns c = let args = c.args in
+pub returns-else-names_entry : goal.returns-else-names_entry
+returns-else-names_entry c = let args = c.args in
     line-not args.answer args.line args.text c.names_entry.ensures c.if-names_entry.false

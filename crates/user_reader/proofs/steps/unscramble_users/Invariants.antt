@@ -1,5 +1,5 @@
 -- `unscramble_users` meets its contract: one data frame after the other (ldc_words, Eighth).
-use Prim.Native.Nat.{◌-◌, ◌*◌, ◌/◌, ◌%◌, ◌≤◌}
+use Prim.Native.Nat.{◌*◌, ◌/◌, ◌%◌}
 use lib.ListN.{get_or}
 use Rattle.laws.proofs.Fill.{Upto}
 use Rattle.scrambling.specs.Scrambling.{scrambled}
@@ -7,7 +7,4 @@ use Rattle.ldc_words.specs.steps.Eighth.{eighth_frame}
 use Rattle.user_reader.proofs.steps.unscramble_users.Given as goal
 
 abbrev pub invariant-loop-f : goal.invariant-loop-f
-invariant-loop-f l = (l.f ≤ 4) × Upto 0 (λ k. get_or (scrambled l.stream (eighth_frame l.frames (k / 2048))) (k % 2048) 0) 8192 (2048 * l.f) l.user
-
-abbrev pub decreases-loop-f : goal.decreases-loop-f
-decreases-loop-f l = 4 - l.f
+invariant-loop-f l = Upto 0 (λ k. get_or (scrambled l.stream (eighth_frame l.frames (k / 2048))) (k % 2048) 0) 8192 (2048 * l.f) l.user

@@ -1,9 +1,6 @@
 -- `frame_words` meets its contract: a group and its dc-control bit a turn (frame_bits, Weaving). Assumes nothing.
-use Prim.Native.Nat.{◌-◌}
 use Rattle.frame_bits.proofs.Weaving.{words-none, words_more, words-all}
-use native.Mathlib.Omega.{arith}
 use borrow.Author.Rules.{rules}
-use Rattle.std.proofs.lemmas.Grind.{common_steps}
 use Rattle.weaving.proofs.steps.frame_words.Goals as goal
 
 pub loop-i-init : goal.loop-i-init

@@ -1,6 +1,6 @@
 -- `walk` meets its contract: the walk pair by pair (Walking). Assumes nothing.
-use mathlib.Core.Path.{ap, ◌∙◌}
-use Prim.Native.Nat.{◌+◌, ◌-◌}
+use mathlib.Core.Path.{ap₂, ◌∙◌}
+use Prim.Native.Nat.{◌+◌}
 use native.Mathlib.Omega.{arith}
 use lib.ListN.{get_or}
 use Rattle.modulation.specs.Modulation.{d00}
@@ -15,21 +15,12 @@ use Rattle.word_walk.proofs.steps.walk.Goals as goal
 pub loop-n-init : goal.loop-n-init
 loop-n-init c = walking-none (pairs (bits_in c.args.words.now)) c.args.p c.requires.1
 
-pub overflow_add-p : goal.overflow_add-p
-overflow_add-p c = omega (arith, c.loop-n.invariant.inside)
-
-pub overflow_add-p-in-loop-n : goal.overflow_add-p-in-loop-n
-overflow_add-p-in-loop-n c = omega (arith, c.loop-n.invariant.inside)
-
 pub told-next-requires : goal.told-next-requires
 told-next-requires c = let ws = c.args.words.now in
     let p = c.args.p in (
       waits-below (pairs (bits_in ws)) (pair-count ws) p c.loop-n.waits c.loop-n.n c.loop-n.invariant,
       omega (arith, c.pair_at.ensures, (two-of-back (get_or (pairs (bits_in ws)) (p + c.loop-n.n) d00)).1),
     )
-
-pub overflow_add-n : goal.overflow_add-n
-overflow_add-n c = omega (arith, c.loop-n.invariant.inside)
 
 pub returns-then-next-ge10 : goal.returns-then-next-ge10
 returns-then-next-ge10 c = let ws = c.args.words.now in
@@ -47,5 +38,5 @@ size_at_end-requires c = let ws = c.args.words.now in
 
 pub returns : goal.returns
 returns c = let ws = c.args.words.now in
-    ap (walked c.loop-n.n) c.size_at_end.ensures
+    ap₂ walked (omega (arith, c.loop-n-test.false, c.loop-n.invariant.inside)) c.size_at_end.ensures
     ∙ walking-end (pairs (bits_in ws)) (pair-count ws) c.args.p c.loop-n.waits c.loop-n.n c.loop-n.invariant (search rules)

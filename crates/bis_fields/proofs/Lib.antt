@@ -1,2 +1,0 @@
--- An address field judged.
-pub mod Judging
