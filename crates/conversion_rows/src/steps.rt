@@ -32,12 +32,12 @@ pub fn row_at(k: usize) -> Row
     requires { k < 16 }
     ensures { IsRow k result }
 {
-    let (pairs, data_bits, modulation_bits, when) = ROWS[k];
+    let row = &ROWS[k];
     Row {
-        pairs,
-        data_bits,
-        modulation_bits,
-        when,
+        pairs: row.0,
+        data_bits: row.1,
+        modulation_bits: row.2,
+        when: row.3,
     }
 }
 
