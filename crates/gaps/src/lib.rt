@@ -2,3 +2,10 @@
 #![tactic(auto)]
 
 pub mod steps;
+
+// The answer to the tally's input: refused, or the counts of the gap lengths 1 to 8.
+#[derive(Clone, Copy)]
+pub struct Tally {
+    pub accepted: bool,
+    pub counts: [u32; 8],
+}

@@ -3,6 +3,7 @@
 
 use address::Psn;
 use answer::Answer;
+use gaps::Tally;
 use verdict::Verdict;
 
 fn print_answer(rt: &impl Print, answer: Answer) {
@@ -81,9 +82,18 @@ fn reads(rt: &impl Print) {
 fn tallies(rt: &impl Print) {
     console::print(
         rt,
-        tallying::tally_text(Some([0, 9, 10, 160, 319, 4294967295, 1000000000, 2])),
+        tallying::tally_text(Tally {
+            accepted: true,
+            counts: [0, 9, 10, 160, 319, 4294967295, 1000000000, 2],
+        }),
     );
-    console::print(rt, tallying::tally_text(None));
+    console::print(
+        rt,
+        tallying::tally_text(Tally {
+            accepted: false,
+            counts: [1, 2, 3, 4, 5, 6, 7, 8],
+        }),
+    );
 }
 
 fn main(rt: HostRuntime) {

@@ -1,5 +1,6 @@
 -- The tally's table: how long it is, and how it is put together. Assumes nothing.
 use mathlib.Core.Path.{◌≡◌, refl, sym, ap, ap₂, ◌∙◌}
+use mathlib.Core.Bool.{Bool, true, false, cond}
 use mathlib.Core.List.{List, [], ◌∷◌, ◌++◌, append_assoc}
 use Prim.Native.Nat.{ℕ, suc, ◌+◌, ◌*◌, ◌≤◌, ◌<◌}
 use native.Mathlib.Numerals.{add-one}
@@ -7,13 +8,14 @@ use native.Mathlib.Omega.{arith}
 use borrow.Author.Tests.{lt-ltb}
 use lib.ListN.{length, length-append, get_or, drop}
 use lib.Seq.{drop-cons, drop-length}
-use Rattle.std.specs.Prelude.{Option, Some, None, IfSome}
+use Rattle.std.specs.Prelude.{Option}
 use Rattle.texts.specs.declared.Text.{Text}
 use Rattle.texts.specs.Text.{the, text_of, blank_text, added}
 use Rattle.texts.specs.Numbers.{decimal_to, decimal}
 use Rattle.texts.proofs.Texts.{added-two, from-blank}
 use Rattle.texts.proofs.Numbers.{decimal-short}
-use Rattle.tallying.specs.Table.{row, rows_from, tally_text}
+use Rattle.gaps.specs.declared.Tally.{Tally}
+use Rattle.tallying.specs.Table.{row, rows_from, tally_from, tally_text}
 
 -- ---- it has room
 
@@ -28,10 +30,13 @@ rows_short n (x ∷ counts) h =
     let one : length (decimal n) ≡ 1 = one-digit n (omega arith) in
     simp length-append (omega (arith, decimal-short 20 x, rows_short (suc n) counts (omega arith)))
 
-pub tally-short : (tally : Option (List ℕ)) → IfSome tally (λ counts. length counts ≡ 8) → length (tally_text tally) ≤ 256
+pub tally-short : (tally : Tally) → length tally.counts ≡ 8 → length (tally_text tally) ≤ 256
 unfolding tally_text
-tally-short (Some counts) h = omega (arith, rows_short 1 counts (omega arith))
-tally-short None h = omega arith
+tally-short tally h = by tally.accepted (rows_short 1 tally.counts (omega arith))
+  where
+    by : (t : Bool) → length (rows_from 1 tally.counts) ≤ 23 * length tally.counts → length (cond t (the "gap count\n" ++ rows_from 1 tally.counts) (the "refused\n")) ≤ 256
+    by true s = omega arith
+    by false s = omega arith
 
 -- ---- its rows; b is the blank text that is begun with
 
@@ -65,18 +70,21 @@ rows_all {text} {counts} {done} {k} r h =
     let e : k ≡ length counts = omega (arith, r.size, r.within) in
     sym (ap (λ (l : List ℕ). added done (rows_from (k + 1) l)) (ap (λ (j : ℕ). drop j counts) e ∙ drop-length counts)) ∙ r.rest
 
-pub table_is : {tally : Option (List ℕ)} {counts : List ℕ} {b t u : Text} → tally ≡ Some counts → length counts ≡ 8 → b ≡ blank_text → t ≡ added b (the "gap count\n")
-    → u ≡ added t (rows_from 1 counts) → u ≡ text_of (tally_text tally)
+pub table_is : (tally : Tally) (b t u : Text) → length tally.counts ≡ 8 → tally.accepted ≡ true → b ≡ blank_text → t ≡ added b (the "gap count\n")
+    → u ≡ added t (rows_from 1 tally.counts) → u ≡ text_of (tally_text tally)
 unfolding tally_text
-table_is {tally} {counts} {b} {t} {u} given size hb ht hu =
-    from-blank (tally_text (Some counts)) u (tally-short (Some counts) size)
-    (added-two b (the "gap count\n") (rows_from 1 counts) t u ht hu ∙ ap (λ (x : Text). added x (tally_text (Some counts))) hb)
-    ∙ ap (λ (x : Option (List ℕ)). text_of (tally_text x)) (sym given)
+table_is tally b t u size given hb ht hu =
+    let same : the "gap count\n" ++ rows_from 1 tally.counts ≡ tally_text tally = simp given in
+    from-blank (tally_text tally) u (tally-short tally size) (added-two b (the "gap count\n") (rows_from 1 tally.counts) t u ht hu ∙ ap₂ added hb same)
 
-pub refusal_is : {tally : Option (List ℕ)} {b t : Text} → tally ≡ None → b ≡ blank_text → t ≡ added b (the "refused\n") → t ≡ text_of (tally_text tally)
+pub refusal_is : (tally : Tally) (b t : Text) → tally.accepted ≡ false → b ≡ blank_text → t ≡ added b (the "refused\n") → t ≡ text_of (tally_text tally)
 unfolding tally_text
-refusal_is {tally} {b} {t} given hb ht =
-    from-blank (tally_text None) t (tally-short None tt) (ht ∙ ap (λ (x : Text). added x (tally_text None)) hb) ∙ ap (λ (x : Option (List ℕ)). text_of (tally_text x)) (sym given)
+refusal_is tally b t given hb ht =
+    let same : the "refused\n" ≡ tally_text tally = simp given in
+    from-blank (tally_text tally) t (rw (sym same) (omega arith)) (ht ∙ ap₂ added hb same)
 
-pub tally-is : (a b : Option (List ℕ)) (t : Text) → a ≡ b → t ≡ text_of (tally_text a) → t ≡ text_of (tally_text b)
-tally-is a b t e h = h ∙ ap (λ (x : Option (List ℕ)). text_of (tally_text x)) e
+pub tally-is : (a b : Tally) (t : Text) → a ≡ b → t ≡ text_of (tally_text a) → t ≡ text_of (tally_text b)
+tally-is a b t e h = h ∙ ap (λ (x : Tally). text_of (tally_text x)) e
+
+pub tally-from-is : (a : Tally) (f g : Option (List ℕ)) (t : Text) → a ≡ tally_from f → f ≡ g → t ≡ text_of (tally_text a) → t ≡ text_of (tally_text (tally_from g))
+tally-from-is a f g t ha hf h = tally-is a (tally_from g) t (ha ∙ ap tally_from hf) h

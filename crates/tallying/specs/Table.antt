@@ -1,7 +1,8 @@
 -- What is printed for a tally (document 01): a table of gap lengths and counts, or a refusal.
-use Rattle.std.specs.Prelude.{List, [], ◌∷◌, ◌++◌, ℕ, suc, Option, Some, None}
+use Rattle.std.specs.Prelude.{true, false, cond, List, [], ◌∷◌, ◌++◌, ℕ, suc, replicate, Option, Some, None}
 use Rattle.texts.specs.Text.{the}
 use Rattle.texts.specs.Numbers.{decimal}
+use Rattle.gaps.specs.declared.Tally.{Tally}
 
 unfoldable pub row : ℕ → ℕ → List ℕ
 row gap count = decimal gap ++ the " " ++ decimal count ++ the "\n"
@@ -11,6 +12,10 @@ unfoldable pub rows_from : ℕ → List ℕ → List ℕ
 rows_from n [] = []
 rows_from n (x ∷ counts) = row n x ++ rows_from (suc n) counts
 
-unfoldable pub tally_text : Option (List ℕ) → List ℕ
-tally_text (Some counts) = the "gap count\n" ++ rows_from 1 counts
-tally_text None = the "refused\n"
+unfoldable pub tally_text : Tally → List ℕ
+tally_text tally = cond tally.accepted (the "gap count\n" ++ rows_from 1 tally.counts) (the "refused\n")
+
+-- the tally of an input, from the counts that were found of it
+abbrev pub tally_from : Option (List ℕ) → Tally
+tally_from (Some counts) = record { accepted = true; counts = counts }
+tally_from None = record { accepted = false; counts = replicate 8 0 }

@@ -3,4 +3,4 @@ use Rattle.tallying.proofs.Table.{Rows}
 use Rattle.tallying.proofs.put_rows.Given as goal
 
 abbrev pub invariant-loop-k : goal.invariant-loop-k
-invariant-loop-k l = Rows l.initial.done l.count-items l.done l.k
+invariant-loop-k l = Rows l.initial.done l.counts l.done l.k
