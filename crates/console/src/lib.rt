@@ -368,12 +368,9 @@ pub fn write_part(rt: &(impl Env + Files + Complaints), i: usize, bytes: &[u8]) 
 
 pub fn remove_part(rt: &(impl Env + Files + Complaints), i: usize) {
     let mut name = [0u8; 4096];
-    let Some(n) = file_name(rt, i, &mut name) else {
-        return;
-    };
-    if let Some(m) = names::add_part(&mut name, n) {
-        remove(rt, &name[..m]);
-    }
+    let n = file_name(rt, i, &mut name).unwrap_or(0);
+    let m = names::add_part(&mut name, n).unwrap_or(0);
+    remove(rt, &name[..m]);
 }
 
 fn rename_path(rt: &impl Files, from: &[u8], to: &[u8]) -> io::Result<()> {
@@ -382,9 +379,7 @@ fn rename_path(rt: &impl Files, from: &[u8], to: &[u8]) -> io::Result<()> {
 
 fn rename(rt: &(impl Env + Files + Complaints), part: &[u8], i: usize) -> bool {
     let mut name = [0u8; 4096];
-    let Some(n) = file_name(rt, i, &mut name) else {
-        return false;
-    };
+    let n = file_name(rt, i, &mut name).unwrap_or(0);
     match rename_path(rt, part, &name[..n]) {
         Ok(()) => true,
         Err(error) => {
@@ -398,11 +393,7 @@ fn rename(rt: &(impl Env + Files + Complaints), part: &[u8], i: usize) -> bool {
 // Gives NAME.part its name; where it cannot, it is removed.
 pub fn keep_part(rt: &(impl Env + Files + Complaints), i: usize) -> bool {
     let mut name = [0u8; 4096];
-    let Some(n) = file_name(rt, i, &mut name) else {
-        return false;
-    };
-    match names::add_part(&mut name, n) {
-        Some(m) => rename(rt, &name[..m], i),
-        None => false,
-    }
+    let n = file_name(rt, i, &mut name).unwrap_or(0);
+    let m = names::add_part(&mut name, n).unwrap_or(0);
+    rename(rt, &name[..m], i)
 }
