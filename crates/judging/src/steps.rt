@@ -42,9 +42,10 @@ pub fn frames(image: &[u8], at: usize, dc: &mut [u32], work: &mut [u8]) -> Answe
     requires { Within image.now at × ((length dc.old ≡ frame_count) × (length work.old ≡ work_size)) }
     ensures { FramesTested (drop at (bits_of image.now)) result dc.new work.new }
 {
+    let passed = Answer::Done;
     match recording_frames::steps::read_frames(image, at, dc, work) {
         Some(n) => Answer::Frame(n),
-        None => Answer::Done,
+        None => passed,
     }
 }
 

@@ -8,5 +8,7 @@ ghost use Rattle.laws.specs.Tabulate.{tabulate};
 pub fn clear(bytes: &mut [u8])
     ensures { bytes.new ≡ tabulate (length bytes.old) (λ _. 0) }
 {
-    bytes.fill(0);
+    for i in 0..bytes.len() {
+        bytes[i] = 0;
+    }
 }

@@ -1,13 +1,14 @@
 -- `clear` meets its contract: a fill with zeros. Assumes nothing.
-use mathlib.Core.Path.{◌≡◌, ◌∙◌}
-use Prim.Native.Nat.{ℕ}
-use lib.ListN.{replicate, length-replicate, get_or-replicate}
-use Rattle.laws.specs.Tabulate.{tabulate}
-use Rattle.laws.proofs.Tabulate.{is-tabulate}
+use mathlib.Core.Path.{refl}
+use borrow.Author.Rules.{rules}
+use Rattle.laws.proofs.Fill.{upto-none, upto-more, upto_all}
 use Rattle.slices.proofs.clear.Goals as goal
 
-replicate-zeros : (n : ℕ) → replicate {A = ℕ} n 0 ≡ tabulate n (λ _. 0)
-replicate-zeros n = is-tabulate 0 n (λ _. 0) (replicate n 0) (length-replicate {A = ℕ} n 0) (λ k h. get_or-replicate {A = ℕ} n k 0 0 h)
+pub loop-i-init : goal.loop-i-init
+loop-i-init c = upto-none refl
+
+pub loop-i-preserved : goal.loop-i-preserved
+loop-i-preserved c = upto-more (search rules) refl c.loop-i.invariant
 
 pub returns : goal.returns
-returns c = c.fill.ensures.after (λ y e. e) ∙ replicate-zeros _
+returns c = upto_all (search rules) c.loop-i.invariant
