@@ -5,8 +5,8 @@
  * (not null, even for 0 elements) for that many elements, and a slice that a call writes overlaps no other slice of that call. Every
  * length, number and content gets an answer. Nothing is kept from call to call, so threads may call at the same time.
  *
- * Stack that a call takes, in bytes (measured by bench/stack; 128 KiB are the limit): write 90,080, read 96,336, mark 96,416,
- * a conversion 40, parity 66,240, sheet 568, record 404, ahead 672. No memory is allocated.
+ * Stack that a call takes, in bytes (measured by bench/stack; 128 KiB are the limit): write 89,776, read 96,096, mark 96,176,
+ * a conversion 40, parity 66,240, sheet 568, record 388, ahead 312. No memory is allocated.
  *
  * `number` is 0 where it is done, else it says what was refused; the place is 0 unless one is named; at 6 and 7 of a sheet it is the entry.
  *
